@@ -1,0 +1,99 @@
+//! Bodies. physics.rs is as published; SolverMass with cross and diagonal is cut.
+//! The rest stands in for bodies and slots: resolving hands out the given mass,
+//! applying records the impulse and never fails, every body is Dynamic.
+
+mod physics {
+    include!(concat!(env!("KAPITSA_SRC"), "/crates/kapitsa-core/src/rigid_body/physics.rs"));
+
+    pub(super) const DYNAMIC: BodyPhysics = BodyPhysics {
+        body_type: BodyType::Dynamic,
+        mass: None,
+    };
+}
+
+pub use physics::{BodyPhysics, BodyType};
+
+use kapitsa_math::Vec3;
+use solver_mass::SolverMass;
+
+#[derive(Clone, Copy, Debug, PartialEq, Eq)]
+pub enum BodyError {
+    ArithmeticOverflow,
+    NonFiniteValue,
+    InvalidInertiaTensor,
+    BodyMustBeDynamic,
+    StaticBodyCannotHaveVelocity,
+}
+
+/// A body at rest: the velocity side then has the target velocity as residual.
+#[derive(Clone, Copy)]
+pub struct BodyState;
+
+impl BodyState {
+    pub fn linear_velocity(&self) -> Vec3 {
+        Vec3::ZERO
+    }
+    pub fn angular_velocity(&self) -> Vec3 {
+        Vec3::ZERO
+    }
+}
+
+/// A given mass, and the impulse that was applied last.
+#[derive(Clone, Copy)]
+pub struct RigidBody {
+    mass: SolverMass,
+    pub(crate) applied: Option<(Vec3, Vec3)>,
+}
+
+impl RigidBody {
+    pub(crate) fn of(mass: SolverMass) -> Self {
+        Self { mass, applied: None }
+    }
+    pub(crate) fn physics(&self) -> &'static BodyPhysics {
+        &physics::DYNAMIC
+    }
+    pub(crate) fn apply_constraint_position_impulse_cached(
+        &mut self,
+        linear: Vec3,
+        angular: Vec3,
+        _mass: SolverMass,
+    ) -> Result<(), BodyError> {
+        self.applied = Some((linear, angular));
+        Ok(())
+    }
+    pub(crate) fn apply_constraint_impulse(
+        &mut self,
+        linear: Vec3,
+        angular: Vec3,
+    ) -> Result<(), BodyError> {
+        self.applied = Some((linear, angular));
+        Ok(())
+    }
+}
+
+pub mod solver_mass {
+    use super::RigidBody;
+    use crate::collision::CollisionError;
+    use kapitsa_math::{Mat3, Vec3};
+
+    include!(concat!(env!("ORACLE_CUT"), "/solver_mass_types.rs"));
+    include!(concat!(env!("ORACLE_CUT"), "/solver_mass_methods.rs"));
+
+    impl SolverMass {
+        pub(crate) fn from_body(body: &RigidBody) -> Result<Self, CollisionError> {
+            Ok(body.mass)
+        }
+    }
+
+    #[derive(Clone, Copy, Debug)]
+    pub struct SolverMassSlot;
+
+    impl SolverMassSlot {
+        pub(crate) fn resolve(
+            &mut self,
+            body: &RigidBody,
+        ) -> Result<(SolverMass, SolverMassCacheStatus), CollisionError> {
+            Ok((body.mass, SolverMassCacheStatus::Hit))
+        }
+    }
+}

@@ -1,0 +1,143 @@
+//! A job as lent memory: document 01's tables, its answers, and their numbers.
+
+pub const ROW_NUMBERS: usize = 27;
+pub const ROW_WORDS: usize = 8;
+pub const MASS_NUMBERS: usize = 10;
+pub const IMPULSE_NUMBERS: usize = 6;
+
+/// Places of a row's doubles.
+pub const LINEAR_A: usize = 0;
+pub const ANGULAR_A: usize = 3;
+pub const POSITION_ANGULAR_A: usize = 6;
+pub const LINEAR_B: usize = 9;
+pub const ANGULAR_B: usize = 12;
+pub const ERROR: usize = 15;
+pub const TARGET_VELOCITY: usize = 16;
+pub const FORCE_BIAS: usize = 17;
+pub const COMPLIANCE: usize = 18;
+pub const DAMPING: usize = 19;
+pub const MIN_MULTIPLIER: usize = 20;
+pub const MAX_MULTIPLIER: usize = 21;
+pub const MIN_IMPULSE: usize = 22;
+pub const MAX_IMPULSE: usize = 23;
+pub const MULTIPLIER: usize = 24;
+pub const ACCUMULATED_IMPULSE: usize = 25;
+pub const CACHED_MASS: usize = 26;
+
+/// Places of a row's words.
+pub const KEY: usize = 0;
+pub const DIMENSION: usize = 1;
+pub const BODY_A: usize = 2;
+pub const BODY_B: usize = 3;
+pub const FORCE_DRIVEN: usize = 4;
+pub const POSITION_ENABLED: usize = 5;
+pub const OWNER: usize = 6;
+pub const SPARE: usize = 7;
+
+/// Modes of the preconditioner.
+pub const DIAGONAL: u32 = 0;
+pub const INCOMPLETE_CHOLESKY: u32 = 1;
+pub const BLOCK_JACOBI: u32 = 2;
+
+#[derive(Clone, Default)]
+pub struct Job {
+    pub numbers: Vec<f64>,
+    pub words: Vec<u32>,
+    pub masses: Vec<f64>,
+    pub tolerances: [f64; 2],
+    pub rows: u32,
+    pub bodies: u32,
+    pub limit: u32,
+    pub mode: u32,
+}
+
+impl Job {
+    /// A row that only asks for its position: everything not named is 0, bounds are infinite.
+    pub fn push_row(&mut self, body_a: u32, body_b: u32) -> usize {
+        let mut numbers = [0.0; ROW_NUMBERS];
+        (numbers[MIN_MULTIPLIER], numbers[MAX_MULTIPLIER]) = (f64::NEG_INFINITY, f64::INFINITY);
+        (numbers[MIN_IMPULSE], numbers[MAX_IMPULSE]) = (f64::NEG_INFINITY, f64::INFINITY);
+        self.numbers.extend(numbers);
+        self.words.extend([0, 0, body_a, body_b, 0, 1, self.rows, 0]);
+        self.rows += 1;
+        self.rows as usize - 1
+    }
+
+    /// A body whose inertia has this diagonal.
+    pub fn push_mass(&mut self, inverse_mass: f64, inertia: [f64; 3]) {
+        let [x, y, z] = inertia;
+        self.masses.extend([inverse_mass, x, 0.0, 0.0, 0.0, y, 0.0, 0.0, 0.0, z]);
+        self.bodies += 1;
+    }
+
+    pub fn number(&self, row: usize, place: usize) -> f64 {
+        self.numbers[ROW_NUMBERS * row + place]
+    }
+
+    pub fn set(&mut self, row: usize, place: usize, values: &[f64]) {
+        let at = ROW_NUMBERS * row + place;
+        self.numbers[at..at + values.len()].copy_from_slice(values);
+    }
+
+    pub fn word(&self, row: usize, place: usize) -> u32 {
+        self.words[ROW_WORDS * row + place]
+    }
+
+    pub fn set_word(&mut self, row: usize, place: usize, value: u32) {
+        self.words[ROW_WORDS * row + place] = value;
+    }
+
+    pub fn multipliers(&self) -> Vec<f64> {
+        self.numbers.chunks_exact(ROW_NUMBERS).map(|row| row[MULTIPLIER]).collect()
+    }
+}
+
+#[derive(Clone, Copy, Debug, PartialEq)]
+pub enum Answer {
+    Accepted { flag: bool, count: u32, linear: f64, angular: f64 },
+    Refused(u32),
+}
+
+impl Answer {
+    pub fn refusal(&self) -> u32 {
+        match *self {
+            Answer::Refused(number) => number,
+            Answer::Accepted { .. } => 0,
+        }
+    }
+
+    /// As the C functions give it: refusal, count, flag, and the bits of both maxima.
+    pub fn words(&self) -> [u64; 5] {
+        match *self {
+            Answer::Refused(number) => [number.into(), 0, 0, 0, 0],
+            Answer::Accepted { flag, count, linear, angular } => {
+                [0, count.into(), flag.into(), linear.to_bits(), angular.to_bits()]
+            }
+        }
+    }
+}
+
+/// An answer and, where it is accepted, all that is delivered with it.
+#[derive(Clone)]
+pub struct Solved {
+    pub answer: Answer,
+    pub solution: Vec<f64>,
+    pub multipliers: Vec<f64>,
+    pub impulses: Vec<f64>,
+}
+
+impl Solved {
+    pub fn refused(number: u32) -> Self {
+        Self {
+            answer: Answer::Refused(number),
+            solution: Vec::new(),
+            multipliers: Vec::new(),
+            impulses: Vec::new(),
+        }
+    }
+}
+
+pub fn same_bits(left: &[f64], right: &[f64]) -> bool {
+    let bits = |(l, r): (&f64, &f64)| l.to_bits() == r.to_bits();
+    left.len() == right.len() && left.iter().zip(right).all(bits)
+}

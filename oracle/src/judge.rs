@@ -1,0 +1,105 @@
+//! The judge: the reference's outcome, held to the model's refusal number.
+
+use crate::job::{Answer, INCOMPLETE_CHOLESKY, Job, Solved, same_bits};
+use crate::model;
+use reference::collision::CollisionError;
+use reference::{Outcome, Prepared};
+
+/// What the Rust tells of a job that it turns back.
+#[derive(Clone, Copy, Debug, PartialEq)]
+pub enum RustOutcome {
+    NotAvailable,
+    InvalidContact,
+    ArithmeticOverflow,
+}
+
+/// The one table of document 01's "Rust:": every refusal that the Rust knows, and how
+/// it tells it. Refusals that are not listed are added by document 01.
+pub const RUST_OUTCOMES: [(u32, RustOutcome); 11] = [
+    (5, RustOutcome::NotAvailable),
+    (7, RustOutcome::InvalidContact),
+    (8, RustOutcome::ArithmeticOverflow),
+    (9, RustOutcome::NotAvailable),
+    (11, RustOutcome::NotAvailable),
+    (12, RustOutcome::ArithmeticOverflow),
+    (13, RustOutcome::NotAvailable),
+    (14, RustOutcome::NotAvailable),
+    (15, RustOutcome::NotAvailable),
+    (16, RustOutcome::ArithmeticOverflow),
+    (17, RustOutcome::ArithmeticOverflow),
+];
+
+pub fn rust_outcome(refusal: u32) -> Option<RustOutcome> {
+    RUST_OUTCOMES.iter().find(|(number, _)| *number == refusal).map(|(_, told)| *told)
+}
+
+pub struct Judged {
+    pub solved: Solved,
+    /// The job lies in the domain that document 01 compares with the Rust.
+    pub compared: bool,
+    /// Where the reference and the model differ.
+    pub dispute: Option<String>,
+}
+
+/// Answers a job by the model, and holds the answer to the reference where that applies.
+pub fn judge(job: &Job) -> Judged {
+    let solved = model::solve(job);
+    let refusal = solved.answer.refusal();
+    let compared = job.mode <= INCOMPLETE_CHOLESKY
+        && (refusal == 0 || rust_outcome(refusal).is_some());
+    let dispute = if compared { dispute(job, &solved) } else { None };
+    Judged { solved, compared, dispute }
+}
+
+/// Runs the reference on a job whose counts and words are sound.
+pub fn run_reference(job: &Job) -> (Outcome, Prepared) {
+    let mut prepared = Prepared::new(&job.numbers, &job.words, &job.masses);
+    let cholesky = job.mode == INCOMPLETE_CHOLESKY;
+    let outcome = prepared.solve(job.limit as usize, job.tolerances, cholesky);
+    (outcome, prepared)
+}
+
+fn dispute(job: &Job, solved: &Solved) -> Option<String> {
+    let (outcome, prepared) = run_reference(job);
+    let same = match (outcome, solved.answer) {
+        (Outcome::Accepted { count, converged, linear, angular }, Answer::Accepted { .. }) => {
+            let found = Answer::Accepted { flag: converged, count: count as u32, linear, angular };
+            found.words() == solved.answer.words() && same_delivery(&prepared, solved, count)
+        }
+        (Outcome::Accepted { .. }, _) => false,
+        (Outcome::NotAvailable, answer) => told(answer, RustOutcome::NotAvailable),
+        (Outcome::Error(CollisionError::InvalidContact), answer) => {
+            told(answer, RustOutcome::InvalidContact)
+        }
+        (Outcome::Error(CollisionError::ArithmeticOverflow), answer) => {
+            told(answer, RustOutcome::ArithmeticOverflow)
+        }
+        (Outcome::Error(_), _) => false,
+    };
+    // At 17 the Rust may already have written; at every other refusal it has not.
+    let kept = matches!(solved.answer.refusal(), 0 | 17)
+        || same_bits(&prepared.multipliers(), &job.multipliers());
+    (!same || !kept).then(|| format!("reference {outcome:?}, model {:?}", solved.answer))
+}
+
+fn told(answer: Answer, by: RustOutcome) -> bool {
+    rust_outcome(answer.refusal()) == Some(by)
+}
+
+/// Multipliers, solution and impulses; at count 0 the Rust makes neither of the last two.
+fn same_delivery(prepared: &Prepared, solved: &Solved, count: usize) -> bool {
+    if !same_bits(&prepared.multipliers(), &solved.multipliers) {
+        return false;
+    }
+    let applied = prepared.applied();
+    if count == 0 {
+        return applied.iter().all(Option::is_none);
+    }
+    let wanted = solved.impulses.chunks_exact(6);
+    same_bits(prepared.solution(), &solved.solution)
+        && same_bits(&prepared.impulses(), &solved.impulses)
+        && applied.iter().zip(wanted).all(|(found, wanted)| match found {
+            Some(six) => same_bits(six, wanted),
+            None => wanted.iter().all(|value| *value == 0.0),
+        })
+}

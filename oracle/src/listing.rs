@@ -1,0 +1,48 @@
+//! What the job program prints of a job file.
+
+use crate::job::{Answer, Job, Solved};
+use crate::{job_file, model};
+use std::fmt::Write;
+
+pub fn of_file(file: &[u8]) -> String {
+    match job_file::read(file) {
+        Err(refusal) => refused(refusal),
+        Ok(job) => of_job(&job),
+    }
+}
+
+fn refused(number: u32) -> String {
+    format!("solve {number} 0 0\n")
+}
+
+fn of_job(job: &Job) -> String {
+    let solved = model::solve(job);
+    match solved.answer {
+        Answer::Refused(number) => refused(number),
+        Answer::Accepted { flag, count, linear, angular } => {
+            let mut text = format!("solve 0 {count} {}\n", u32::from(flag));
+            writeln!(text, "gap{}", hexadecimal(&[linear, angular])).unwrap();
+            writeln!(text, "close {}", verdict(job, &solved)).unwrap();
+            delivered(&mut text, &solved);
+            text
+        }
+    }
+}
+
+/// 0 open, 1 closed, or the check's refusal: the check is given the solution.
+pub fn verdict(job: &Job, solved: &Solved) -> u32 {
+    model::closing_check(job, &solved.solution).map_or_else(|refusal| refusal, u32::from)
+}
+
+fn delivered(text: &mut String, solved: &Solved) {
+    for (row, multiplier) in solved.multipliers.iter().enumerate() {
+        writeln!(text, "row {row}{}", hexadecimal(&[*multiplier])).unwrap();
+    }
+    for (body, six) in solved.impulses.chunks_exact(6).enumerate() {
+        writeln!(text, "body {body}{}", hexadecimal(six)).unwrap();
+    }
+}
+
+fn hexadecimal(values: &[f64]) -> String {
+    values.iter().map(|value| format!(" {:016x}", value.to_bits())).collect()
+}

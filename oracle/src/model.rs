@@ -1,0 +1,73 @@
+//! The solve and the closing check, worked from document 01 alone: a second
+//! implementation, which also tells the refusal numbers that the Rust keeps to
+//! itself. Finiteness is tested on final values only: a number that is not finite
+//! never becomes finite again under +, -, × and division by a finite number.
+
+mod algebra;
+mod closing;
+mod operator;
+mod preconditioner;
+mod steps;
+mod table;
+
+pub use closing::{closing_check, reaches};
+
+use crate::job::{Answer, Job, Solved};
+use preconditioner::Preconditioner;
+use steps::{Begun, begin, run};
+use table::{Table, opening};
+
+/// A value, or the number of the refusal that turns the job back.
+pub type Judged<T> = Result<T, u32>;
+
+/// Refuses by `number` unless `passes`.
+fn pass(number: u32, passes: bool) -> Judged<()> {
+    if passes { Ok(()) } else { Err(number) }
+}
+
+pub fn solve(job: &Job) -> Solved {
+    attempt(job).unwrap_or_else(Solved::refused)
+}
+
+fn attempt(job: &Job) -> Judged<Solved> {
+    opening(job)?;
+    let table = Table::of(job);
+    let Begun { residual, diagonal } = begin(&table)?;
+    if table.meets(&residual) {
+        return Ok(at_step_zero(job, &table, &residual));
+    }
+    let preconditioner = Preconditioner::build(job.mode, &table, &diagonal)?;
+    let ended = run(&table, &preconditioner, residual, job.limit)?;
+    let impulses = operator::impulses(&table, &ended.solution).concat();
+    pass(17, all_finite(&impulses))?;
+    let gained = job.multipliers().iter().zip(&ended.solution).map(|(old, gain)| old + gain);
+    let multipliers: Vec<f64> = gained.collect();
+    pass(17, all_finite(&multipliers))?;
+    let answer = answer(&table, &ended.residual, ended.count, ended.flag);
+    Ok(Solved { answer, solution: ended.solution, multipliers, impulses })
+}
+
+/// Count 0: multipliers keep their bits, solution and impulses are +0.0.
+fn at_step_zero(job: &Job, table: &Table, residual: &[f64]) -> Solved {
+    Solved {
+        answer: answer(table, residual, 0, true),
+        solution: vec![0.0; table.rows.len()],
+        multipliers: job.multipliers(),
+        impulses: vec![0.0; 6 * table.masses.len()],
+    }
+}
+
+/// Both maxima run over the rows of their dimension, from +0.0 upward.
+fn answer(table: &Table, residual: &[f64], count: u32, flag: bool) -> Answer {
+    let mut maxima = [0.0_f64; 2];
+    for (row, value) in table.rows.iter().zip(residual) {
+        if value.abs() > maxima[row.dimension] {
+            maxima[row.dimension] = value.abs();
+        }
+    }
+    Answer::Accepted { flag, count, linear: maxima[0], angular: maxima[1] }
+}
+
+fn all_finite(values: &[f64]) -> bool {
+    values.iter().all(|value| value.is_finite())
+}

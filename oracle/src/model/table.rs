@@ -1,0 +1,115 @@
+//! What a job is made of, and the refusals that judge it before the first step.
+
+use super::algebra::{Mass, Side, Vector};
+use super::{Judged, all_finite, pass};
+use crate::job::*;
+
+pub struct Row {
+    pub dimension: usize,
+    pub a: Side,
+    pub b: Side,
+    pub error: f64,
+    pub owner: u32,
+    pub valid: bool,
+}
+
+pub struct Table {
+    pub rows: Vec<Row>,
+    pub masses: Vec<Mass>,
+    pub tolerances: [f64; 2],
+}
+
+impl Table {
+    pub fn of(job: &Job) -> Self {
+        let rows = job.numbers.chunks_exact(ROW_NUMBERS).zip(job.words.chunks_exact(ROW_WORDS));
+        Self {
+            rows: rows.map(|(numbers, words)| row(numbers, words, job.bodies)).collect(),
+            masses: job.masses.chunks_exact(MASS_NUMBERS).map(Mass::of).collect(),
+            tolerances: job.tolerances,
+        }
+    }
+
+    pub fn tolerance(&self, row: usize) -> f64 {
+        self.tolerances[self.rows[row].dimension]
+    }
+
+    /// Each |residual| is at most its row's tolerance.
+    pub fn meets(&self, residual: &[f64]) -> bool {
+        let within = |(row, value): (usize, &f64)| value.abs() <= self.tolerance(row);
+        residual.iter().enumerate().all(within)
+    }
+}
+
+fn row(numbers: &[f64], words: &[u32], bodies: u32) -> Row {
+    let vector = |at: usize| -> Vector { [numbers[at], numbers[at + 1], numbers[at + 2]] };
+    let side = |body: usize, linear: usize, angular: usize| Side {
+        body: words[body] as usize,
+        linear: vector(linear),
+        angular: vector(angular),
+    };
+    Row {
+        dimension: words[DIMENSION] as usize,
+        a: side(BODY_A, LINEAR_A, ANGULAR_A),
+        b: side(BODY_B, LINEAR_B, ANGULAR_B),
+        error: numbers[ERROR],
+        owner: words[OWNER],
+        valid: is_valid(numbers, words, bodies),
+    }
+}
+
+/// Refusal 7's test: ConstraintRow::is_valid, whose body numbers are below the body count.
+fn is_valid(numbers: &[f64], words: &[u32], bodies: u32) -> bool {
+    let ordered = |low: usize, high: usize| numbers[low] <= numbers[high];
+    words[BODY_A] != words[BODY_B]
+        && words[BODY_A] < bodies
+        && words[BODY_B] < bodies
+        && all_finite(&numbers[LINEAR_A..=DAMPING])
+        && numbers[COMPLIANCE] >= 0.0
+        && numbers[DAMPING] >= 0.0
+        && ordered(MIN_MULTIPLIER, MAX_MULTIPLIER)
+        && ordered(MIN_IMPULSE, MAX_IMPULSE)
+        && all_finite(&numbers[MULTIPLIER..=CACHED_MASS])
+        && numbers[CACHED_MASS] >= 0.0
+}
+
+/// Refusals 3 to 6 of a solve, in their order.
+pub fn opening(job: &Job) -> Judged<()> {
+    pass(3, job.mode <= BLOCK_JACOBI && counts_fit(job))?;
+    pass(4, words_fit(job))?;
+    pass(5, job.rows == 0 || (job.limit != 0 && opens(job)))?;
+    pass(6, all_finite(&job.masses))
+}
+
+/// Refusal 3's test, apart from the mode: the counts, and lengths that follow from them.
+pub fn counts_fit(job: &Job) -> bool {
+    let (rows, bodies) = (job.rows as usize, job.bodies as usize);
+    rows <= 512
+        && bodies <= 256
+        && job.numbers.len() == ROW_NUMBERS * rows
+        && job.words.len() == ROW_WORDS * rows
+        && job.masses.len() == MASS_NUMBERS * bodies
+}
+
+/// Refusal 4's test.
+pub fn words_fit(job: &Job) -> bool {
+    job.words.chunks_exact(ROW_WORDS).all(|words| {
+        words[KEY] <= 255
+            && words[DIMENSION] <= 1
+            && words[FORCE_DRIVEN] <= 1
+            && words[POSITION_ENABLED] <= 1
+            && words[SPARE] == 0
+    })
+}
+
+/// The Rust's opening test over all rows (refusal 5).
+fn opens(job: &Job) -> bool {
+    let mut rows = job.numbers.chunks_exact(ROW_NUMBERS).zip(job.words.chunks_exact(ROW_WORDS));
+    rows.all(|(numbers, words)| {
+        words[POSITION_ENABLED] == 1
+            && words[FORCE_DRIVEN] == 0
+            && numbers[COMPLIANCE] == 0.0
+            && numbers[DAMPING] == 0.0
+            && numbers[MIN_MULTIPLIER] == f64::NEG_INFINITY
+            && numbers[MAX_MULTIPLIER] == f64::INFINITY
+    })
+}
