@@ -1,0 +1,1 @@
+// Laws of rounding over whole numbers: definitions in specs/, laws in proofs/, and no code.
