@@ -1,2 +1,4 @@
 pub mod Run
+pub mod Every
+pub mod Judge
 pub mod Cleared

@@ -1,0 +1,4 @@
+-- Laws of rows, masses, impulses and tolerances in the lent tables.
+pub mod Dimension
+pub mod Cross
+pub mod Every

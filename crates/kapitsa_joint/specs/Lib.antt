@@ -1,0 +1,6 @@
+pub mod Row
+pub mod Mass
+pub mod Impulse
+pub mod Tolerance
+pub mod Table
+pub mod Refusals

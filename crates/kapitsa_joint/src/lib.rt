@@ -1,0 +1,27 @@
+// Constraint rows, masses, impulses and tolerances of Kapitsa's joint solver, read out of the lent tables, and refusals 4 to 7.
+pub mod impulse; // impulse.rt: GeneralizedImpulse
+pub mod judge; // judge.rt: refusals 4 to 7 of one row or mass, and of a whole table
+pub mod mass; // mass.rt: SolverMass with cross and diagonal
+pub mod row; // row.rt: ConstraintRow, read whole or in parts
+pub mod tolerance; // tolerance.rt: JointTolerance and RowDimension
+
+pub use impulse::GeneralizedImpulse;
+pub use impulse::impulse_at;
+pub use impulse::put_impulse;
+pub use judge::masses_finite;
+pub use judge::rows_open;
+pub use judge::rows_valid;
+pub use judge::words_fit;
+pub use mass::SolverMass;
+pub use mass::mass_at;
+pub use row::ConstraintRow;
+pub use row::RowJacobian;
+pub use row::RowScalars;
+pub use row::RowWords;
+pub use row::jacobian_at;
+pub use row::put_multiplier;
+pub use row::row_at;
+pub use row::scalars_at;
+pub use row::words_at;
+pub use tolerance::JointTolerance;
+pub use tolerance::RowDimension;

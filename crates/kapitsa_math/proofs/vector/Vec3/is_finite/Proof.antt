@@ -1,0 +1,15 @@
+-- `kapitsa_math::vector::Vec3::is_finite` meets its contract. Assumes nothing.
+use borrow.Author.Needs.{needs}
+use Rattle.kapitsa_math.specs.Vector.{isFiniteOf}
+use Rattle.kapitsa_math.proofs.vector.Vec3.is_finite.Statement.{statement}
+use Rattle.kapitsa_math.proofs.vector.Vec3.is_finite.Tie as tie
+
+pub is-finite-spec : {M : Type 1} → statement M
+unfolding isFiniteOf
+is-finite-spec =
+    tie.close
+    (tie.spec
+    (λ c κs. search needs)  -- is-finite-requires
+    (λ c κs. search needs)  -- is-finite-requires-2
+    (λ c κs. search needs)  -- is-finite-requires-3
+    (λ c. cc))  -- returns

@@ -1,0 +1,4 @@
+pub mod Vector
+pub mod Matrix
+pub mod Checked
+pub mod Lent

@@ -1,0 +1,5 @@
+pub mod Method
+pub mod Steps
+pub mod Solve
+pub mod Meaning
+pub mod Numbers
