@@ -2,3 +2,4 @@
 pub mod Dimension
 pub mod Cross
 pub mod Every
+pub mod Stored

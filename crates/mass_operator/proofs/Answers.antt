@@ -1,0 +1,77 @@
+-- What the functions of the operator come to together. Assumes nothing.
+use Prim.Native.Nat.{ℕ, _*_, _<_, _≤_}
+use mathlib.Core.Path.{_≡_, refl, sym, ap, _∙_, subst}
+use mathlib.Core.Bool.{Bool, true, false, not}
+use mathlib.Core.List.{List}
+use native.Mathlib.Omega.{arith}
+use lib.ListN.{length}
+use lib.Ieee.{Float}
+use borrow.Author.Tests.{not-true, not-false}
+use Rattle.loops.specs.Run.{check}
+use Rattle.loops.specs.Tabulate.{tabulate}
+use Rattle.loops.proofs.Tabulate.{tabulate-same}
+use Rattle.kapitsa_joint.specs.Impulse.{impulseOf}
+use Rattle.kapitsa_joint.specs.Mass.{massOf}
+use Rattle.kapitsa_joint.specs.declared.row.RowJacobian.{RowJacobian}
+use Rattle.kapitsa_joint.specs.declared.impulse.GeneralizedImpulse.{GeneralizedImpulse}
+use Rattle.mass_operator.specs.Applied.{allFiniteOf, appliedOf}
+use Rattle.mass_operator.specs.declared.finite.Applied.{Applied}
+use Rattle.mass_operator.specs.declared.finite.Applied.the-variants.{Done, Overflow}
+use Rattle.mass_operator.specs.Compact.{compactOf}
+use Rattle.mass_operator.specs.System.{compactSystem}
+use Rattle.mass_operator.specs.Operator.{impulseAt, responseOf, responseAt, rowValueOf, valueAt}
+use Rattle.mass_operator.specs.Flat.{coefficients, flatImpulses, impulsesOf, responsesOf, productOf, Summed, Multiplied}
+use Rattle.mass_operator.specs.Lent.{Linked, Impulses, Summing, valueIn}
+use Rattle.mass_operator.proofs.Flat.{impulses-flat}
+
+pub test-done : (l : List Float) {r : Bool} → r ≡ allFiniteOf l → not r ≡ false → Done ≡ appliedOf l
+unfolding appliedOf check
+test-done l {r} p h = rw (← p, not-false r h)
+
+pub test-overflow : (l : List Float) {r : Bool} → r ≡ allFiniteOf l → not r ≡ true → Overflow ≡ appliedOf l
+unfolding appliedOf check
+test-overflow l {r} p h = rw (← p, not-true r h)
+
+pub summed-is : (j : ℕ → RowJacobian) (x : ℕ → Float) (rows bodies : ℕ) (l : List Float) {r : Applied} → Summing j x bodies rows l → r ≡ appliedOf l → Summed j x rows bodies r l
+unfolding impulsesOf
+summed-is j x rows bodies l h e = let q = impulses-flat (λ b. impulseAt j x b rows) bodies l (record { long = h .long; at = h .at }) in record { summed = q; answered = e ∙ ap appliedOf q }
+
+-- impulses, responses, values
+module _ (jacobians : List Float) (links : List ℕ) (masses vector : List Float) (bodies : ℕ) (impulses responses product : List Float) where
+  abbrev rows : ℕ
+  rows = length vector
+
+  abbrev j : ℕ → RowJacobian
+  j = compactOf jacobians links
+
+  abbrev x : ℕ → Float
+  x = coefficients vector
+
+  module _ (linked : Linked links rows bodies) (h : Summing j x bodies rows impulses) (k : Impulses (λ b. responseOf (massOf masses b) (impulseOf impulses b)) bodies responses) where
+    response : (b : ℕ) → b < bodies → impulseOf responses b ≡ responseAt (compactSystem rows bodies jacobians links masses) x b
+    unfolding responseAt
+    response b t = k .at b t ∙ ap (responseOf (massOf masses b)) (h .at b t)
+
+    responses-hold : Impulses (responseAt (compactSystem rows bodies jacobians links masses) x) bodies responses
+    responses-hold = record { long = k .long; at = response }
+
+    value : (i : ℕ) → i < rows → valueIn (j i) responses ≡ valueAt (compactSystem rows bodies jacobians links masses) x i
+    unfolding valueIn valueAt
+    value i t =
+        let a : j i .«body_a» < bodies = unfold compactOf in linked .a i t in
+        let b : j i .«body_b» < bodies = unfold compactOf in linked .b i t in
+        rw (response (j i .«body_a») a, response (j i .«body_b») b)
+
+    pub multiplied-is : {r : Applied} {m : ℕ} → product ≡ tabulate (λ i. valueIn (j i) responses) m → m ≡ rows → r ≡ appliedOf product → Multiplied (compactSystem rows bodies jacobians links masses) x r impulses responses product
+    unfolding impulsesOf responsesOf productOf
+    multiplied-is {r} {m} e q a =
+        let p : product ≡ tabulate (valueAt (compactSystem rows bodies jacobians links masses) x) rows = e ∙ ap (tabulate (λ i. valueIn (j i) responses)) q ∙ same in
+        record {
+          summed = impulses-flat (λ b. impulseAt j x b rows) bodies impulses (record { long = h .long; at = h .at });
+          responded = impulses-flat (responseAt (compactSystem rows bodies jacobians links masses) x) bodies responses responses-hold;
+          multiplied = p;
+          answered = a ∙ ap appliedOf p;
+        }
+      where
+        same : tabulate (λ i. valueIn (j i) responses) rows ≡ tabulate (valueAt (compactSystem rows bodies jacobians links masses) x) rows
+        same = tabulate-same (λ i. valueIn (j i) responses) (valueAt (compactSystem rows bodies jacobians links masses) x) rows value

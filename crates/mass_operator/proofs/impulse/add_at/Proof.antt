@@ -1,0 +1,17 @@
+-- `mass_operator::impulse::add_at` meets its contract. Assumes nothing.
+use borrow.Author.Needs.{needs}
+use Rattle.mass_operator.specs.Lent.{addedAt}
+use Rattle.mass_operator.proofs.impulse.add_at.Statement.{statement}
+use Rattle.mass_operator.proofs.impulse.add_at.Tie as tie
+
+pub add-at-spec : {M : Type 1} → statement M
+unfolding addedAt
+add-at-spec =
+    tie.close
+    (tie.spec
+    (λ c κs. search needs)  -- wide-requires
+    (λ c κs. search needs)  -- impulse-at-requires
+    (λ c κs. search needs)  -- add-generalized-impulse-requires
+    (λ c κs. search needs)  -- put-impulse-requires
+    (λ c. search needs)  -- same-length
+    (λ c. cc))  -- returns

@@ -1,0 +1,16 @@
+-- Document 01, refusals 16 and 17: "is not finite", of a whole vector.
+use mathlib.Core.Bool.{Bool}
+use mathlib.Core.List.{List}
+use lib.ListN.{length, getD}
+use lib.Ieee.{Float, nan}
+use lib.Ieee.Scale.{finite}
+use Rattle.loops.specs.Run.{check}
+use Rattle.loops.specs.Every.{every}
+use Rattle.mass_operator.specs.declared.finite.Applied.{Applied}
+use Rattle.mass_operator.specs.declared.finite.Applied.the-variants.{Done, Overflow}
+
+unfoldable pub allFiniteOf : List Float → Bool
+allFiniteOf l = every (λ i. finite (getD l i nan)) (length l)
+
+unfoldable pub appliedOf : List Float → Applied
+appliedOf l = check (allFiniteOf l) Done Overflow

@@ -1,0 +1,30 @@
+-- The compact table: of each row linear_a, angular_a, linear_b and angular_b, twelve doubles, and body_a and body_b, two words.
+use Prim.Native.Nat.{ℕ, _+_, _*_, _<_}
+use mathlib.Core.Path.{_≡_}
+use mathlib.Core.List.{List}
+use lib.ListN.{length, getD, set}
+use lib.Ieee.{Float}
+use Rattle.kapitsa_math.specs.Lent.{vecOf, putVecOf}
+use Rattle.kapitsa_joint.specs.declared.row.RowJacobian.{RowJacobian}
+
+unfoldable pub compactOf : List Float → List ℕ → ℕ → RowJacobian
+compactOf jacobians links i = record {
+  «linear_a» = vecOf jacobians (12 * i);
+  «angular_a» = vecOf jacobians (12 * i + 3);
+  «linear_b» = vecOf jacobians (12 * i + 6);
+  «angular_b» = vecOf jacobians (12 * i + 9);
+  «body_a» = getD links (2 * i) 0;
+  «body_b» = getD links (2 * i + 1) 0;
+}
+
+unfoldable pub putJacobianOf : List Float → ℕ → RowJacobian → List Float
+putJacobianOf l i j = putVecOf (putVecOf (putVecOf (putVecOf l (12 * i) (j .«linear_a»)) (12 * i + 3) (j .«angular_a»)) (12 * i + 6) (j .«linear_b»)) (12 * i + 9) (j .«angular_b»)
+
+unfoldable pub putLinkOf : List ℕ → ℕ → RowJacobian → List ℕ
+putLinkOf l i j = set (set l (2 * i) (j .«body_a»)) (2 * i + 1) (j .«body_b»)
+
+-- the slices hold the rows g 0 .. g (n - 1), and are as long as they were
+pub record Gathered (g : ℕ → RowJacobian) (n : ℕ) (jacobians₀ : List Float) (links₀ : List ℕ) (jacobians : List Float) (links : List ℕ) : Type 0 where
+  pub longJacobians : length jacobians ≡ length jacobians₀
+  pub longLinks : length links ≡ length links₀
+  pub at : (i : ℕ) → i < n → compactOf jacobians links i ≡ g i

@@ -1,0 +1,6 @@
+pub mod Compact
+pub mod Applied
+pub mod System
+pub mod Operator
+pub mod Flat
+pub mod Lent

@@ -1,0 +1,111 @@
+// The operator on a vector: global_velocity_matrix_vector of pcg.rs.
+ghost use mathlib.Core.Path.{_≡_};
+ghost use Prim.Native.Nat.{_+_, _*_, _≤_};
+ghost use lib.ListN.{length};
+ghost use Rattle.loops.specs.Tabulate.{tabulate};
+ghost use Rattle.kapitsa_joint.specs.Impulse.{impulseOf, putImpulseOf};
+ghost use Rattle.kapitsa_joint.specs.Mass.{massOf};
+ghost use Rattle.mass_operator.specs.Compact.{compactOf};
+ghost use Rattle.mass_operator.specs.System.{compactSystem};
+ghost use Rattle.mass_operator.specs.Operator.{responseOf};
+ghost use Rattle.mass_operator.specs.Flat.{coefficients, Multiplied};
+ghost use Rattle.mass_operator.specs.Lent.{Linked, Impulses, valueIn};
+use crate::compact::compact_at;
+use crate::finite::Applied;
+use crate::finite::test_finite;
+use crate::impulse::sum_impulses;
+use crate::impulse::wide;
+use kapitsa_joint::GeneralizedImpulse;
+use kapitsa_joint::SolverMass;
+use kapitsa_joint::impulse_at;
+use kapitsa_joint::mass_at;
+use kapitsa_joint::put_impulse;
+
+pub fn response(mass: SolverMass, impulse: GeneralizedImpulse) -> GeneralizedImpulse
+    ensures { λ r. ⌜ r ≡ responseOf mass impulse ⌝ }
+{
+    let inertia = mass.inverse_inertia;
+    let linear = impulse.linear;
+    let angular = impulse.angular;
+    GeneralizedImpulse {
+        linear: linear.scale(mass.inverse_mass),
+        angular: inertia.mul_vector(angular),
+    }
+}
+
+fn respond_at(masses: &[f64], b: usize, impulses: &[f64], responses: &mut [f64])
+    requires { ⌜ (10 * b + 10 ≤ length (now masses)) × (6 * b + 6 ≤ length (now impulses)) × (6 * b + 6 ≤ length (now responses)) ⌝ }
+    ensures { λ _. ⌜ now (responses .exit) ≡ putImpulseOf (now (responses .entry)) b (responseOf (massOf (now (masses .entry)) b) (impulseOf (now (impulses .entry)) b)) ⌝ }
+{
+    put_impulse(
+        responses,
+        b,
+        response(mass_at(masses, b), impulse_at(impulses, b)),
+    );
+}
+
+// The response of every body to its impulse.
+fn respond(masses: &[f64], bodies: usize, impulses: &[f64], responses: &mut [f64])
+    requires { ⌜ (10 * bodies ≤ length (now masses)) × (length (now impulses) ≡ 6 * bodies) × (length (now responses) ≡ 6 * bodies) ⌝ }
+    ensures { λ _. ⌜ Impulses (λ b. responseOf (massOf (now (masses .entry)) b) (impulseOf (now (impulses .entry)) b)) bodies (now (responses .exit)) ⌝ }
+{
+    let mut b = 0;
+    while b < bodies {
+        respond_at(masses, b, impulses, responses);
+        b += 1;
+    }
+}
+
+fn value_at(jacobians: &[f64], links: &[u32], i: usize, responses: &[f64]) -> f64
+    requires { ⌜ (12 * i + 12 ≤ length (now jacobians)) × (2 * i + 2 ≤ length (now links)) ⌝ }
+    requires { ⌜ (6 * (compactOf (now jacobians) (now links) i .«body_a») + 6 ≤ length (now responses)) × (6 * (compactOf (now jacobians) (now links) i .«body_b») + 6 ≤ length (now responses)) ⌝ }
+    ensures { λ r. ⌜ r ≡ valueIn (compactOf (now (jacobians .entry)) (now (links .entry)) i) (now (responses .entry)) ⌝ }
+{
+    let j = compact_at(jacobians, links, i);
+    let linear_a = j.linear_a;
+    let angular_a = j.angular_a;
+    let linear_b = j.linear_b;
+    let angular_b = j.angular_b;
+    let p = impulse_at(responses, wide(j.body_a));
+    let q = impulse_at(responses, wide(j.body_b));
+    linear_a.dot(p.linear)
+        + angular_a.dot(p.angular)
+        + linear_b.dot(q.linear)
+        + angular_b.dot(q.angular)
+}
+
+// The value of every row.
+fn values(jacobians: &[f64], links: &[u32], bodies: usize, responses: &[f64], product: &mut [f64])
+    requires { ⌜ (12 * length (now product) ≤ length (now jacobians)) × (2 * length (now product) ≤ length (now links)) ⌝ }
+    requires { ⌜ (length (now responses) ≡ 6 * bodies) × Linked (now links) (length (now product)) bodies ⌝ }
+    ensures { λ _. ⌜ now (product .exit) ≡ tabulate (λ i. valueIn (compactOf (now (jacobians .entry)) (now (links .entry)) i) (now (responses .entry))) (length (now (product .entry))) ⌝ }
+{
+    let mut i = 0;
+    while i < product.len() {
+        product[i] = value_at(jacobians, links, i, responses);
+        i += 1;
+    }
+}
+
+// J M^-1 J^T on `vector`. Impulses and responses are what the sums on the way come to.
+pub fn global_velocity_matrix_vector(
+    jacobians: &[f64],
+    links: &[u32],
+    masses: &[f64],
+    vector: &[f64],
+    bodies: usize,
+    impulses: &mut [f64],
+    responses: &mut [f64],
+    product: &mut [f64],
+) -> Applied
+    requires { ⌜ (12 * length (now vector) ≤ length (now jacobians)) × (2 * length (now vector) ≤ length (now links)) ⌝ }
+    requires { ⌜ (10 * bodies ≤ length (now masses)) × (length (now impulses) ≡ 6 * bodies) × (length (now responses) ≡ 6 * bodies) × (length (now product) ≡ length (now vector)) ⌝ }
+    requires { ⌜ Linked (now links) (length (now vector)) bodies ⌝ }
+    ensures { λ r. ⌜ Multiplied (compactSystem (length (now (vector .entry))) bodies (now (jacobians .entry)) (now (links .entry)) (now (masses .entry))) (coefficients (now (vector .entry)))
+        r (now (impulses .exit)) (now (responses .exit)) (now (product .exit)) ⌝ }
+{
+    sum_impulses(jacobians, links, vector, bodies, impulses);
+    respond(masses, bodies, impulses, responses);
+    values(jacobians, links, bodies, responses, product);
+    test_finite(product)
+}
