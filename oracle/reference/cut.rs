@@ -8,39 +8,50 @@ use std::path::Path;
 
 /// Each output file, the source it is cut from, and the heads of its items.
 const CUTS: [(&str, &str, &[&str]); 5] = [
-    ("solver_items.rs", "crates/kapitsa-core/src/joint/solver.rs", &[
-        "pub(super) struct SolverMassCacheStats",
-        "struct GeneralizedImpulse",
-        "pub(crate) struct VelocityPcgResult",
-        "pub(crate) struct PositionPcgResult",
-        "pub(crate) struct VelocityPcgScratch",
-        "impl VelocityPcgScratch",
-        "impl SolverMassCacheStats",
-        "struct IncompleteCholeskyPreconditioner",
-        "impl IncompleteCholeskyPreconditioner",
-        "struct VelocityRowTerm",
-        "pub(super) fn row_velocity<",
-        "fn solver_bodies_at<",
-        "pub(super) fn map_rigid_body_error(",
-    ]),
-    ("solver_mass_types.rs", "crates/kapitsa-core/src/rigid_body/solver_mass.rs", &[
-        "pub(crate) struct SolverMass",
-        "pub(crate) enum SolverMassCacheStatus",
-    ]),
+    (
+        "solver_items.rs",
+        "crates/kapitsa-core/src/joint/solver.rs",
+        &[
+            "pub(super) struct SolverMassCacheStats",
+            "struct GeneralizedImpulse",
+            "pub(crate) struct VelocityPcgResult",
+            "pub(crate) struct PositionPcgResult",
+            "pub(crate) struct VelocityPcgScratch",
+            "impl VelocityPcgScratch",
+            "impl SolverMassCacheStats",
+            "struct IncompleteCholeskyPreconditioner",
+            "impl IncompleteCholeskyPreconditioner",
+            "struct VelocityRowTerm",
+            "pub(super) fn row_velocity<",
+            "fn solver_bodies_at<",
+            "pub(super) fn map_rigid_body_error(",
+        ],
+    ),
+    (
+        "solver_mass_types.rs",
+        "crates/kapitsa-core/src/rigid_body/solver_mass.rs",
+        &["pub(crate) struct SolverMass", "pub(crate) enum SolverMassCacheStatus"],
+    ),
     // These two stand inside `impl SolverMass`, which the harness writes around them.
-    ("solver_mass_methods.rs", "crates/kapitsa-core/src/rigid_body/solver_mass.rs", &[
-        "    pub(crate) fn diagonal(",
-        "    pub(crate) fn cross(",
-    ]),
-    ("config_items.rs", "crates/kapitsa-core/src/joint/config.rs", &[
-        "pub(crate) struct JointTolerance",
-        "impl JointTolerance",
-    ]),
-    ("constraint_items.rs", "crates/kapitsa-core/src/constraint.rs", &[
-        "pub(crate) struct SolverBody",
-        "pub(crate) trait SolverBodyAccess",
-        "impl SolverBodyAccess for [SolverBody]",
-    ]),
+    (
+        "solver_mass_methods.rs",
+        "crates/kapitsa-core/src/rigid_body/solver_mass.rs",
+        &["    pub(crate) fn diagonal(", "    pub(crate) fn cross("],
+    ),
+    (
+        "config_items.rs",
+        "crates/kapitsa-core/src/joint/config.rs",
+        &["pub(crate) struct JointTolerance", "impl JointTolerance"],
+    ),
+    (
+        "constraint_items.rs",
+        "crates/kapitsa-core/src/constraint.rs",
+        &[
+            "pub(crate) struct SolverBody",
+            "pub(crate) trait SolverBodyAccess",
+            "impl SolverBodyAccess for [SolverBody]",
+        ],
+    ),
 ];
 
 const PCG: &str = "crates/kapitsa-core/src/joint/solver/pcg.rs";
@@ -68,9 +79,7 @@ fn wrap(name: &str, items: &str) -> String {
 /// The item whose head line begins with `head`: its attributes and comments,
 /// its head, and everything to the brace that closes it.
 fn cut<'a>(text: &'a str, head: &str, from: &str) -> &'a str {
-    let begins = line_starts(text)
-        .filter(|&at| begins_item(&text[at..], head))
-        .collect::<Vec<_>>();
+    let begins = line_starts(text).filter(|&at| begins_item(&text[at..], head)).collect::<Vec<_>>();
     if begins.len() != 1 {
         fail(&format!("{from}: '{head}' was found {} times, not once", begins.len()));
     }
@@ -80,9 +89,8 @@ fn cut<'a>(text: &'a str, head: &str, from: &str) -> &'a str {
 
 /// `head` ends at a name's end, so `struct SolverMass` is not `struct SolverMassSlot`.
 fn begins_item(line: &str, head: &str) -> bool {
-    line.strip_prefix(head).is_some_and(|rest| {
-        head.ends_with(['(', '<', ']']) || rest.starts_with([' ', '<', '{'])
-    })
+    line.strip_prefix(head)
+        .is_some_and(|rest| head.ends_with(['(', '<', ']']) || rest.starts_with([' ', '<', '{']))
 }
 
 fn line_starts(text: &str) -> impl Iterator<Item = usize> + '_ {

@@ -5,10 +5,8 @@
 mod physics {
     include!(concat!(env!("KAPITSA_SRC"), "/crates/kapitsa-core/src/rigid_body/physics.rs"));
 
-    pub(super) const DYNAMIC: BodyPhysics = BodyPhysics {
-        body_type: BodyType::Dynamic,
-        mass: None,
-    };
+    pub(super) const DYNAMIC: BodyPhysics =
+        BodyPhysics { body_type: BodyType::Dynamic, mass: None };
 }
 
 pub use physics::{BodyPhysics, BodyType};

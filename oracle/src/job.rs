@@ -34,8 +34,7 @@ pub const POSITION_ENABLED: usize = 5;
 pub const OWNER: usize = 6;
 pub const SPARE: usize = 7;
 
-/// Modes of the preconditioner.
-pub const DIAGONAL: u32 = 0;
+/// Modes of the preconditioner above 0, the diagonal.
 pub const INCOMPLETE_CHOLESKY: u32 = 1;
 pub const BLOCK_JACOBI: u32 = 2;
 
@@ -140,4 +139,13 @@ impl Solved {
 pub fn same_bits(left: &[f64], right: &[f64]) -> bool {
     let bits = |(l, r): (&f64, &f64)| l.to_bits() == r.to_bits();
     left.len() == right.len() && left.iter().zip(right).all(bits)
+}
+
+/// 2^exponent, subnormal ones too.
+pub fn two(exponent: i32) -> f64 {
+    if exponent >= -1022 {
+        f64::from_bits(((exponent + 1023) as u64) << 52)
+    } else {
+        f64::from_bits(1 << (exponent + 1074))
+    }
 }

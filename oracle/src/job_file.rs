@@ -26,9 +26,9 @@ pub fn write_at(job: &Job, row_offset: usize, mass_offset: usize) -> Vec<u8> {
     file
 }
 
-/// Rows first, masses straight after.
+/// Rows first, masses straight after. A count that does not fit its list is written as it is.
 pub fn write(job: &Job) -> Vec<u8> {
-    write_at(job, 0, ROW_BYTES * job.rows as usize)
+    write_at(job, 0, ROW_BYTES * (job.words.len() / ROW_WORDS))
 }
 
 fn row_section(job: &Job) -> Vec<u8> {

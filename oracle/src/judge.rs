@@ -45,8 +45,8 @@ pub struct Judged {
 pub fn judge(job: &Job) -> Judged {
     let solved = model::solve(job);
     let refusal = solved.answer.refusal();
-    let compared = job.mode <= INCOMPLETE_CHOLESKY
-        && (refusal == 0 || rust_outcome(refusal).is_some());
+    let compared =
+        job.mode <= INCOMPLETE_CHOLESKY && (refusal == 0 || rust_outcome(refusal).is_some());
     let dispute = if compared { dispute(job, &solved) } else { None };
     Judged { solved, compared, dispute }
 }

@@ -1,8 +1,9 @@
 //! What the job program prints of a job file.
 
 use crate::job::{Answer, Job, Solved};
-use crate::{job_file, model};
+use crate::{generator, job_file, model};
 use std::fmt::Write;
+use std::path::Path;
 
 pub fn of_file(file: &[u8]) -> String {
     match job_file::read(file) {
@@ -45,4 +46,24 @@ fn delivered(text: &mut String, solved: &Solved) {
 
 fn hexadecimal(values: &[f64]) -> String {
     values.iter().map(|value| format!(" {:016x}", value.to_bits())).collect()
+}
+
+/// Writes document 01's table as job files, prints what the program prints of each, and
+/// holds it to what document 01 says.
+pub fn examples(home: &Path) -> Result<bool, String> {
+    let folder = home.join("target/examples");
+    std::fs::create_dir_all(&folder).map_err(|error| error.to_string())?;
+    let mut good = true;
+    for example in generator::examples() {
+        let file = job_file::write(&example.job);
+        let path = folder.join(format!("{}.job", example.name));
+        std::fs::write(&path, &file).map_err(|error| error.to_string())?;
+        let listing = of_file(&file);
+        let lines: Vec<&str> = listing.lines().collect();
+        let stands = example.says.iter().all(|line| lines.contains(line));
+        println!("{}: {}", example.name, if stands { "as document 01 says" } else { "DIFFERS" });
+        print!("{listing}");
+        good &= stands;
+    }
+    Ok(good)
 }

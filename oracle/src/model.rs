@@ -10,7 +10,7 @@ mod preconditioner;
 mod steps;
 mod table;
 
-pub use closing::{closing_check, reaches};
+pub use closing::{closing_check, measure};
 
 use crate::job::{Answer, Job, Solved};
 use preconditioner::Preconditioner;
@@ -40,7 +40,7 @@ fn attempt(job: &Job) -> Judged<Solved> {
     let ended = run(&table, &preconditioner, residual, job.limit)?;
     let impulses = operator::impulses(&table, &ended.solution).concat();
     pass(17, all_finite(&impulses))?;
-    let gained = job.multipliers().iter().zip(&ended.solution).map(|(old, gain)| old + gain);
+    let gained = job.multipliers().into_iter().zip(&ended.solution).map(|(old, gain)| old + gain);
     let multipliers: Vec<f64> = gained.collect();
     pass(17, all_finite(&multipliers))?;
     let answer = answer(&table, &ended.residual, ended.count, ended.flag);

@@ -1,5 +1,7 @@
 //! A seeded source of choices: splitmix64 (Steele, Lea and Flood 2014).
 
+use crate::job::two;
+
 pub struct Random(u64);
 
 impl Random {
@@ -36,7 +38,7 @@ impl Random {
 
     /// From 0 up to but not 1, 53 bits.
     pub fn unit(&mut self) -> f64 {
-        (self.next() >> 11) as f64 * 2.0_f64.powi(-53)
+        (self.next() >> 11) as f64 * two(-53)
     }
 
     pub fn sign(&mut self) -> f64 {

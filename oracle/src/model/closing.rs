@@ -1,8 +1,8 @@
 //! The closing check: measured r, radius E, verdict.
 
-use super::algebra::Mass;
+use super::algebra::{Mass, Side};
 use super::operator;
-use super::table::{Table, counts_fit, words_fit};
+use super::table::{Row, Table, counts_fit, words_fit};
 use super::{Judged, all_finite, pass};
 use crate::job::*;
 
@@ -14,27 +14,40 @@ pub fn closing_check(job: &Job, list: &[f64]) -> Judged<bool> {
     let table = Table::of(job);
     pass(7, table.rows.iter().all(|row| row.valid))?;
     pass(18, sized(job, list))?;
-    let reaches = reaches(job, list);
-    Ok(reaches.iter().enumerate().all(|(row, reach)| *reach <= table.tolerance(row)))
+    let measured = measure(job, list);
+    Ok(measured.iter().enumerate().all(|(row, found)| found.reach() <= table.tolerance(row)))
 }
 
-/// Each row's rounded |r| + E: the smallest tolerance at which it closes.
-pub fn reaches(job: &Job, list: &[f64]) -> Vec<f64> {
+/// What the check finds of a row.
+pub struct Measured {
+    /// (−error) − value.
+    pub r: f64,
+    /// E = W × ((n + 16) × 2^-51).
+    pub radius: f64,
+}
+
+impl Measured {
+    /// Rounded |r| + E: the smallest tolerance at which the row closes.
+    pub fn reach(&self) -> f64 {
+        self.r.abs() + self.radius
+    }
+}
+
+pub fn measure(job: &Job, list: &[f64]) -> Vec<Measured> {
     let table = Table::of(job);
     let values = operator::product(&table, list);
     let sizes = operator::product(&sizes_of(&table), &absolute(list));
-    let unit = (table.rows.len() as f64 + 16.0) * 2.0_f64.powi(-51);
-    let reach = |(row, (value, size)): (&super::table::Row, (&f64, &f64))| {
-        let measured = -row.error - value;
-        let width = row.error.abs() + size;
-        measured.abs() + width * unit
+    let unit = (table.rows.len() as f64 + 16.0) * two(-51);
+    let row = |(row, (value, size)): (&Row, (&f64, &f64))| Measured {
+        r: -row.error - value,
+        radius: (row.error.abs() + size) * unit,
     };
-    table.rows.iter().zip(values.iter().zip(&sizes)).map(reach).collect()
+    table.rows.iter().zip(values.iter().zip(&sizes)).map(row).collect()
 }
 
 /// Refusal 18's test: zero, or from 2^-150 to 2^150 in size.
 fn sized(job: &Job, list: &[f64]) -> bool {
-    let bound = 2.0_f64.powi(150);
+    let bound = two(150);
     let fits = |value: &f64| *value == 0.0 || (1.0 / bound <= value.abs() && value.abs() <= bound);
     let row_fits = |row: &[f64]| {
         row[LINEAR_A..POSITION_ANGULAR_A].iter().all(fits) && row[LINEAR_B..=ERROR].iter().all(fits)
@@ -46,16 +59,12 @@ fn sized(job: &Job, list: &[f64]) -> bool {
 
 /// The table with every number that the operator reads replaced by its size.
 fn sizes_of(table: &Table) -> Table {
-    let side = |side: &super::algebra::Side| super::algebra::Side {
+    let side = |side: &Side| Side {
         body: side.body,
         linear: side.linear.map(f64::abs),
         angular: side.angular.map(f64::abs),
     };
-    let row = |row: &super::table::Row| super::table::Row {
-        a: side(&row.a),
-        b: side(&row.b),
-        ..*row
-    };
+    let row = |row: &Row| Row { a: side(&row.a), b: side(&row.b), ..*row };
     let mass = |mass: &Mass| Mass {
         inverse_mass: mass.inverse_mass.abs(),
         inverse_inertia: mass.inverse_inertia.map(|row| row.map(f64::abs)),

@@ -14,7 +14,12 @@ use kapitsa_math::{Mat3, Vec3};
 /// What the Rust tells of a solve.
 #[derive(Clone, Copy, Debug, PartialEq)]
 pub enum Outcome {
-    Accepted { count: usize, converged: bool, linear: f64, angular: f64 },
+    Accepted {
+        count: usize,
+        converged: bool,
+        linear: f64,
+        angular: f64,
+    },
     /// Ok(None)
     NotAvailable,
     Error(CollisionError),

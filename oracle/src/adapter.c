@@ -1,0 +1,46 @@
+/* Between the driver and an implementation's archive: the one place that knows which
+   work memory an implementation borrows. The driver calls oracle_*, which lend that
+   memory and call kapitsa_*. This one lends none; an archive whose functions take work
+   slices gets an adapter of its own (oracle/wrap ARCHIVE OUTPUT ADAPTER).
+
+   A slice is a pointer, then its length. `answer` is refusal (0: accepted), count, flag,
+   bits of the linear maximum, bits of the angular maximum; for the check: refusal,
+   verdict (1: closed). */
+#include <stddef.h>
+#include <stdint.h>
+
+void kapitsa_solve_position(
+    double *numbers, size_t numbers_len, const uint32_t *words, size_t words_len,
+    const double *masses, size_t masses_len, double linear_tolerance, double angular_tolerance,
+    uint32_t rows, uint32_t bodies, uint32_t limit, uint32_t mode,
+    double *solution, size_t solution_len, double *impulses, size_t impulses_len,
+    uint64_t *answer, size_t answer_len);
+
+void kapitsa_closing_check(
+    const double *numbers, size_t numbers_len, const uint32_t *words, size_t words_len,
+    const double *masses, size_t masses_len, double linear_tolerance, double angular_tolerance,
+    uint32_t rows, uint32_t bodies, const double *multipliers, size_t multipliers_len,
+    uint64_t *answer, size_t answer_len);
+
+void oracle_solve_position(
+    double *numbers, size_t numbers_len, const uint32_t *words, size_t words_len,
+    const double *masses, size_t masses_len, double linear_tolerance, double angular_tolerance,
+    uint32_t rows, uint32_t bodies, uint32_t limit, uint32_t mode,
+    double *solution, size_t solution_len, double *impulses, size_t impulses_len,
+    uint64_t *answer, size_t answer_len)
+{
+    kapitsa_solve_position(numbers, numbers_len, words, words_len, masses, masses_len,
+                           linear_tolerance, angular_tolerance, rows, bodies, limit, mode,
+                           solution, solution_len, impulses, impulses_len, answer, answer_len);
+}
+
+void oracle_closing_check(
+    const double *numbers, size_t numbers_len, const uint32_t *words, size_t words_len,
+    const double *masses, size_t masses_len, double linear_tolerance, double angular_tolerance,
+    uint32_t rows, uint32_t bodies, const double *multipliers, size_t multipliers_len,
+    uint64_t *answer, size_t answer_len)
+{
+    kapitsa_closing_check(numbers, numbers_len, words, words_len, masses, masses_len,
+                          linear_tolerance, angular_tolerance, rows, bodies,
+                          multipliers, multipliers_len, answer, answer_len);
+}

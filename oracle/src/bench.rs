@@ -1,0 +1,180 @@
+//! Times of a solve: the reference as published and without its timer lines, and an
+//! implementation if one is given. Buffers stay warm; nothing but the solve is timed.
+
+use crate::generator::{Shape, joined};
+use crate::implementation::Implementation;
+use crate::job::*;
+use crate::random::Random;
+use std::hint::black_box;
+use std::time::{Duration, Instant};
+
+/// Name, shape, joints and rows a joint.
+const FAMILIES: [(&str, Shape, usize, usize); 15] = [
+    ("chain", Shape::Chain, 1, 1),
+    ("chain", Shape::Chain, 1, 3),
+    ("chain", Shape::Chain, 4, 3),
+    ("chain", Shape::Chain, 16, 3),
+    ("chain", Shape::Chain, 42, 3),
+    ("chain", Shape::Chain, 21, 6),
+    ("chain", Shape::Chain, 85, 3),
+    ("chain", Shape::Chain, 128, 4),
+    ("chain", Shape::Chain, 170, 3),
+    ("loop", Shape::Loop, 16, 3),
+    ("loop", Shape::Loop, 42, 3),
+    ("loop", Shape::Loop, 170, 3),
+    ("loop", Shape::Loop, 256, 2),
+    ("tree", Shape::Tree, 42, 3),
+    ("tree", Shape::Tree, 128, 4),
+];
+
+/// Links of one size, each turned a little against the one before, so that a loop closes;
+/// the first three rows of a joint hold its pin, the others its turning.
+fn mechanism(shape: Shape, joints: usize, rows_a_joint: usize, mode: u32) -> Job {
+    let mut random = Random::of(7, joints as u64);
+    let (pairs, bodies) = joined(shape, joints, &mut random);
+    let mut job = Job { limit: 2000, mode, tolerances: [1e-6; 2], ..Job::default() };
+    (0..bodies).for_each(|_| job.push_mass(0.5, [1.5, 2.0, 1.25]));
+    let rod = |body: u32| {
+        let angle = std::f64::consts::TAU * f64::from(body) / bodies as f64;
+        [0.5 * angle.cos(), 0.5 * angle.sin(), 0.05]
+    };
+    for (owner, &(a, b)) in pairs.iter().enumerate() {
+        for place in 0..rows_a_joint {
+            let row = job.push_row(a, b);
+            joint_row(&mut job, row, place, [rod(a), negated(rod(b))]);
+            job.set_word(row, OWNER, owner as u32);
+            job.set(row, ERROR, &[(random.unit() - 0.5) * 0.02]);
+        }
+    }
+    job
+}
+
+fn negated(vector: [f64; 3]) -> [f64; 3] {
+    vector.map(|value| -value)
+}
+
+fn crossed([a, b, c]: [f64; 3], [x, y, z]: [f64; 3]) -> [f64; 3] {
+    [b * z - c * y, c * x - a * z, a * y - b * x]
+}
+
+fn joint_row(job: &mut Job, row: usize, place: usize, arms: [[f64; 3]; 2]) {
+    let mut axis = [0.0; 3];
+    axis[place % 3] = 1.0;
+    if place < 3 {
+        job.set(row, LINEAR_A, &axis);
+        job.set(row, ANGULAR_A, &crossed(arms[0], axis));
+        job.set(row, LINEAR_B, &negated(axis));
+        job.set(row, ANGULAR_B, &negated(crossed(arms[1], axis)));
+    } else {
+        job.set(row, ANGULAR_A, &axis);
+        job.set(row, ANGULAR_B, &negated(axis));
+        job.set_word(row, DIMENSION, 1);
+    }
+}
+
+/// Times of one solve in microseconds.
+#[derive(Clone, Copy)]
+struct Times {
+    minimum: f64,
+    median: f64,
+}
+
+type Solve<'a> = Box<dyn FnMut() + 'a>;
+
+/// Takes turns, so that all see the same machine: each turn runs a solve for about
+/// 100 µs or once, for a second and 15 turns at least.
+fn times(mut solves: Vec<Solve>) -> Vec<Times> {
+    let batches: Vec<u32> = solves.iter_mut().map(batch).collect();
+    let mut found = vec![Vec::new(); solves.len()];
+    let started = Instant::now();
+    while found[0].len() < 15 || started.elapsed() < Duration::from_secs(1) {
+        for (solve, (batch, times)) in solves.iter_mut().zip(batches.iter().zip(&mut found)) {
+            times.push(run(*batch, solve));
+        }
+    }
+    found.into_iter().map(summary).collect()
+}
+
+/// How many solves fill 100 µs, by the second run: the first fills the buffers.
+fn batch(solve: &mut Solve) -> u32 {
+    run(1, solve);
+    (100.0 / run(1, solve)).clamp(1.0, 2000.0) as u32
+}
+
+fn run(batch: u32, solve: &mut Solve) -> f64 {
+    let started = Instant::now();
+    (0..batch).for_each(|_| solve());
+    started.elapsed().as_secs_f64() * 1e6 / f64::from(batch)
+}
+
+fn summary(mut times: Vec<f64>) -> Times {
+    times.sort_by(f64::total_cmp);
+    Times { minimum: times[0], median: times[times.len() / 2] }
+}
+
+/// Multipliers go on renewal_overflow from run to run; nothing that a solve does depends on them.
+fn published(job: &Job) -> Solve<'_> {
+    let mut prepared = reference::Prepared::new(&job.numbers, &job.words, &job.masses);
+    let cholesky = job.mode == INCOMPLETE_CHOLESKY;
+    Box::new(move || {
+        black_box(prepared.solve(job.limit as usize, job.tolerances, cholesky));
+    })
+}
+
+fn untimed(job: &Job) -> Solve<'_> {
+    let mut prepared = reference_untimed::Prepared::new(&job.numbers, &job.words, &job.masses);
+    let cholesky = job.mode == INCOMPLETE_CHOLESKY;
+    Box::new(move || {
+        black_box(prepared.solve(job.limit as usize, job.tolerances, cholesky));
+    })
+}
+
+fn implemented<'a>(implementation: &'a Implementation, job: &Job) -> Solve<'a> {
+    let mut job = job.clone();
+    let mut solution = vec![0.0; job.rows as usize];
+    let mut impulses = vec![0.0; IMPULSE_NUMBERS * job.bodies as usize];
+    Box::new(move || {
+        black_box(implementation.solve(&mut job, &mut solution, &mut impulses));
+    })
+}
+
+const HEAD: &str = "| job | rows | mode | count | published min | median | untimed min | median |";
+const OWN_HEAD: &str = " port min | median | port / published | port / untimed |";
+
+/// One table: minimum and median in µs for each, and ratios of minima.
+pub fn table(library: Option<&str>) -> Result<bool, String> {
+    let implementation = library.map(Implementation::open).transpose()?;
+    let head = format!("{HEAD}{}", implementation.as_ref().map_or("", |_| OWN_HEAD));
+    println!("{head}\n|{}", "---|".repeat(head.matches('|').count() - 1));
+    for mode in [0, INCOMPLETE_CHOLESKY] {
+        for (name, shape, joints, rows_a_joint) in FAMILIES {
+            let job = mechanism(shape, joints, rows_a_joint, mode);
+            let label = format!("{name} {joints}×{rows_a_joint}");
+            print_row(&label, &job, implementation.as_ref());
+        }
+    }
+    Ok(true)
+}
+
+fn print_row(label: &str, job: &Job, implementation: Option<&Implementation>) {
+    let [refusal, count, flag, ..] = crate::model::solve(job).answer.words();
+    let met = if (refusal, flag) == (0, 1) { "" } else { " (not met)" };
+    let mut solves = vec![published(job), untimed(job)];
+    solves.extend(implementation.map(|own| implemented(own, job)));
+    let found = times(solves);
+    print!("| {label} | {} | {} | {count}{met} |", job.rows, job.mode);
+    for times in &found {
+        print!(" {} | {} |", short(times.minimum), short(times.median));
+    }
+    if let [published, untimed, own] = &found[..] {
+        let ratio = |to: &Times| own.minimum / to.minimum;
+        print!(" {:.2} | {:.2} |", ratio(published), ratio(untimed));
+    }
+    println!();
+}
+
+/// Three digits at least.
+fn short(value: f64) -> String {
+    let places = if value < 10.0 { 2 } else { usize::from(value < 100.0) };
+    format!("{value:.places$}")
+}

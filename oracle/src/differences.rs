@@ -1,0 +1,142 @@
+//! docs/DIFFERENCES.md's inputs, run on the reference.
+
+use crate::generator::{chain_along_x, push_x_row, star};
+use crate::job::*;
+use crate::judge::run_reference;
+use crate::model;
+use reference::Outcome;
+
+struct Difference {
+    name: &'static str,
+    input: &'static str,
+    job: Job,
+}
+
+fn p1() -> Job {
+    chain_along_x(0.5, &[-0.25])
+}
+
+/// Refusals that the Rust gives elsewhere, later, or not at all.
+fn refusals() -> Vec<Difference> {
+    let mut moved = chain_along_x(two(-1000), &[-0.25]);
+    moved.set(0, MULTIPLIER, &[f64::MAX]);
+    let mut written = chain_along_x(two(-1000), &[-0.25, -0.25]);
+    written.set(1, MULTIPLIER, &[f64::MAX]);
+    let mut bystander = p1();
+    bystander.push_mass(f64::NAN, [0.0; 3]);
+    let mut infinite = p1();
+    infinite.masses[0] = f64::INFINITY;
+    let mut empty = Job::default();
+    empty.push_mass(f64::NAN, [0.0; 3]);
+    let closed = Job { tolerances: [1.0; 2], ..bystander.clone() };
+    let mut many = Job { tolerances: [1.0; 2], limit: 1, ..Job::default() };
+    (0..2).for_each(|_| many.push_mass(0.5, [0.0; 3]));
+    (0..513).for_each(|_| push_x_row(&mut many, 0, 1, 0.0));
+    let named = |name, input, job| Difference { name, input, job };
+    vec![
+        named("17-bodies", "P1, inverse masses 2^-1000, multiplier the largest double", moved),
+        named("17-multipliers", "two such rows in a chain, the second's multiplier so", written),
+        named("6-overflow", "P1, inverse mass of body 0 infinite", infinite),
+        named("6-bystander", "P1, a third body in no row of inverse mass NaN", bystander),
+        named("6-count-0", "the same at tolerance 1", closed),
+        named("6-no-rows", "no rows, one body of inverse mass NaN", empty),
+        named("10", "mode 1, a star of 182 rows", star(182)),
+        named("3", "513 rows that are closed", many),
+    ]
+}
+
+/// What the Rust does and Hestenes and Stiefel 1952 or Meijerink and van der Vorst 1977 do not.
+fn methods() -> Vec<Difference> {
+    let roots = Job { mode: INCOMPLETE_CHOLESKY, ..chain_along_x(1.0, &[-0.75]) };
+    let mut preconditioned = chain_along_x(1.0, &[-1.0, 1.0]);
+    preconditioned.masses[20] = 3.0;
+    preconditioned.limit = 1;
+    let replaced = chain_along_x(0.0, &[0.0005]);
+    let mut carried = chain_along_x(0.5, &[-1.0]);
+    carried.limit = 200;
+    push_x_row(&mut carried, 0, 1, 0.5);
+    carried.set(1, LINEAR_A, &[1.0, two(-26), 0.0]);
+    let mut opposite = chain_along_x(0.5, &[-1.0]);
+    push_x_row(&mut opposite, 0, 1, 1.0);
+    let small = Job { tolerances: [1e-170; 2], ..chain_along_x(0.5, &[1e-160]) };
+    let renewal = Job { limit: 1, tolerances: [-1.0; 2], ..p1() };
+    let named = |name, input, job| Difference { name, input, job };
+    vec![
+        named("roots", "P1, inverse masses 1, error -0.75, mode 1", roots.clone()),
+        named("roots-none", "the same in mode 0: one row needs no root", Job { mode: 0, ..roots }),
+        named(
+            "preconditioned",
+            "P4 with errors -1 and 1, third inverse mass 3, limit 1",
+            preconditioned,
+        ),
+        named("replaced", "P1, inverse masses 0, error 0.0005", replaced),
+        named(
+            "carried",
+            "P1, error -1, limit 200; a second row with linear_a (1, 2^-26, 0), error 0.5",
+            carried,
+        ),
+        named("threshold-14", "P7", small),
+        named("threshold-15", "P5", opposite),
+        named("last-renewal", "P1, limit 1, tolerance -1", renewal),
+    ]
+}
+
+pub fn run() -> bool {
+    for difference in refusals().iter().chain(&methods()) {
+        println!("{}: {}", difference.name, difference.input);
+        println!("  Rust:        {}", rust(&difference.job));
+        println!("  document 01: {}", document(&difference.job));
+    }
+    true
+}
+
+fn document(job: &Job) -> String {
+    let solved = model::solve(job);
+    match solved.answer {
+        Answer::Refused(number) => format!("refusal {number}, nothing written"),
+        Answer::Accepted { flag, count, linear, angular } => {
+            let text = accepted(flag, count as usize, linear, angular, &solved.solution);
+            format!("{text}; {}", check(job, &solved.solution))
+        }
+    }
+}
+
+/// The closing check's verdict, and the largest |r| that it measured.
+fn check(job: &Job, list: &[f64]) -> String {
+    match model::closing_check(job, list) {
+        Err(refusal) => format!("check refuses by {refusal}"),
+        Ok(closed) => {
+            let sizes = model::measure(job, list).into_iter().map(|found| found.r.abs());
+            let verdict = if closed { "closed" } else { "open" };
+            format!("check {verdict}, |r| {:e}", sizes.fold(0.0, f64::max))
+        }
+    }
+}
+
+fn rust(job: &Job) -> String {
+    let (outcome, prepared) = run_reference(job);
+    let told = match outcome {
+        Outcome::Accepted { count, converged, linear, angular } => {
+            return accepted(converged, count, linear, angular, prepared.solution());
+        }
+        Outcome::NotAvailable => "Ok(None)".to_string(),
+        Outcome::Error(error) => format!("Err({error:?})"),
+    };
+    let moved = prepared.applied().iter().filter(|applied| applied.is_some()).count();
+    let changed = |(old, new): (&f64, &f64)| old.to_bits() != new.to_bits();
+    let (old, new) = (job.multipliers(), prepared.multipliers());
+    let written = old.iter().zip(&new).filter(|pair| changed(*pair)).count();
+    format!("{told}, {moved} bodies moved, {written} multipliers written")
+}
+
+/// The solution is told where it is short.
+fn accepted(flag: bool, count: usize, linear: f64, angular: f64, solution: &[f64]) -> String {
+    let flag = u32::from(flag);
+    let mut text =
+        format!("accepted, flag {flag}, count {count}, residuals {linear:e} {angular:e}");
+    if count > 0 && solution.len() <= 2 {
+        let bits = solution.iter().map(|value| format!(" {:016x}", value.to_bits()));
+        text += &format!(", solution{}", bits.collect::<String>());
+    }
+    text
+}

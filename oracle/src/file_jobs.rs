@@ -1,0 +1,63 @@
+//! Job files in every placement, some damaged, each with what the job program prints.
+
+use crate::generator::{Sizes, job};
+use crate::job::Job;
+use crate::random::Random;
+use crate::{job_file, listing};
+use std::path::Path;
+
+const TRAILER_WORDS: usize = 12;
+
+/// Writes FOLDER/INDEX.job and FOLDER/INDEX.out.
+pub fn write(folder: &str, jobs: u64, seed: u64) -> Result<bool, String> {
+    let folder = Path::new(folder);
+    std::fs::create_dir_all(folder).map_err(|error| error.to_string())?;
+    for index in 0..jobs {
+        let mut random = Random::of(!seed, index);
+        let file = file(seed, index, &mut random);
+        let save = |ending: &str, bytes: &[u8]| {
+            std::fs::write(folder.join(format!("{index}.{ending}")), bytes)
+        };
+        save("job", &file)
+            .and_then(|()| save("out", listing::of_file(&file).as_bytes()))
+            .map_err(|error| error.to_string())?;
+    }
+    println!("{jobs} job files with their listings");
+    Ok(true)
+}
+
+fn file(seed: u64, index: u64, random: &mut Random) -> Vec<u8> {
+    let sizes = if random.chance(80) { Sizes::Small } else { Sizes::Any };
+    let job = job(seed, index, sizes);
+    let mut file = placed(&job, random);
+    if random.chance(25) {
+        damage(&mut file, random);
+    }
+    file
+}
+
+/// Rows or masses first, with gaps; a count that no longer fits its list is written as it is.
+fn placed(job: &Job, random: &mut Random) -> Vec<u8> {
+    let gaps = [0; 2].map(|_| random.pick(&[0, 0, 1, 7, 64]));
+    let (rows, masses) = (248 * (job.words.len() / 8), 8 * job.masses.len());
+    if random.chance(50) {
+        job_file::write_at(job, gaps[0], gaps[0] + rows + gaps[1])
+    } else {
+        job_file::write_at(job, gaps[0] + masses + gaps[1], gaps[0])
+    }
+}
+
+/// A wrong length, or one word of the trailer that is not what it was.
+fn damage(file: &mut Vec<u8>, random: &mut Random) {
+    match random.below(6) {
+        0 => file.truncate(random.below(file.len())),
+        1 => file.push(0),
+        2 => file.resize(65_536 + random.below(2), 0),
+        _ => {
+            let at = file.len() - 4 * (1 + random.below(TRAILER_WORDS));
+            let near = u32::from_le_bytes(file[at..at + 4].try_into().unwrap());
+            let values = [0, 1, near.wrapping_add(1), near.wrapping_sub(1), near ^ 248, u32::MAX];
+            file[at..at + 4].copy_from_slice(&random.pick(&values).to_le_bytes());
+        }
+    }
+}

@@ -1,0 +1,92 @@
+//! An implementation under test: its two C functions, out of a shared library.
+
+use crate::job::Job;
+use std::ffi::{CString, c_char, c_int, c_void};
+
+#[rustfmt::skip]
+type Solve = unsafe extern "C" fn(
+    *mut f64, usize, *const u32, usize, *const f64, usize,
+    f64, f64, u32, u32, u32, u32,
+    *mut f64, usize, *mut f64, usize, *mut u64, usize,
+);
+#[rustfmt::skip]
+type Close = unsafe extern "C" fn(
+    *const f64, usize, *const u32, usize, *const f64, usize,
+    f64, f64, u32, u32, *const f64, usize, *mut u64, usize,
+);
+
+#[link(name = "dl")]
+unsafe extern "C" {
+    fn dlopen(file: *const c_char, flags: c_int) -> *mut c_void;
+    fn dlsym(library: *mut c_void, name: *const c_char) -> *mut c_void;
+}
+
+const RTLD_NOW: c_int = 2;
+
+pub struct Implementation {
+    solve: Solve,
+    close: Close,
+}
+
+impl Implementation {
+    pub fn open(path: &str) -> Result<Self, String> {
+        let file = CString::new(path).map_err(|error| error.to_string())?;
+        let library = unsafe { dlopen(file.as_ptr(), RTLD_NOW) };
+        if library.is_null() {
+            return Err(format!("'{path}' cannot be opened as a shared library"));
+        }
+        let symbol = |name: &str| {
+            let symbol = CString::new(name).map_err(|error| error.to_string())?;
+            let found = unsafe { dlsym(library, symbol.as_ptr()) };
+            if found.is_null() {
+                Err(format!("'{path}' has no function {name}"))
+            } else {
+                Ok(found)
+            }
+        };
+        Ok(Self {
+            solve: unsafe {
+                std::mem::transmute::<*mut c_void, Solve>(symbol("oracle_solve_position")?)
+            },
+            close: unsafe {
+                std::mem::transmute::<*mut c_void, Close>(symbol("oracle_closing_check")?)
+            },
+        })
+    }
+
+    #[rustfmt::skip]
+    /// Writes into the job's multipliers, solution and impulses as the function does.
+    pub fn solve(&self, job: &mut Job, solution: &mut [f64], impulses: &mut [f64]) -> [u64; 5] {
+        let mut answer = [u64::MAX; 5];
+        unsafe {
+            (self.solve)(
+                job.numbers.as_mut_ptr(), job.numbers.len(),
+                job.words.as_ptr(), job.words.len(),
+                job.masses.as_ptr(), job.masses.len(),
+                job.tolerances[0], job.tolerances[1],
+                job.rows, job.bodies, job.limit, job.mode,
+                solution.as_mut_ptr(), solution.len(),
+                impulses.as_mut_ptr(), impulses.len(),
+                answer.as_mut_ptr(), answer.len(),
+            );
+        }
+        answer
+    }
+
+    #[rustfmt::skip]
+    /// Refusal, and 1 where closed.
+    pub fn close(&self, job: &Job, list: &[f64]) -> [u64; 2] {
+        let mut answer = [u64::MAX; 2];
+        unsafe {
+            (self.close)(
+                job.numbers.as_ptr(), job.numbers.len(),
+                job.words.as_ptr(), job.words.len(),
+                job.masses.as_ptr(), job.masses.len(),
+                job.tolerances[0], job.tolerances[1], job.rows, job.bodies,
+                list.as_ptr(), list.len(),
+                answer.as_mut_ptr(), answer.len(),
+            );
+        }
+        answer
+    }
+}

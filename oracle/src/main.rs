@@ -1,0 +1,74 @@
+//! The Rust side of the port: the reference as judge. `oracle/run` calls this program.
+
+mod bench;
+mod blocks;
+mod closing_jobs;
+mod differences;
+mod driver;
+mod file_jobs;
+mod generator;
+mod implementation;
+mod job;
+mod job_file;
+mod judge;
+mod listing;
+mod model;
+mod packing;
+mod random;
+mod recorded;
+mod tally;
+mod unpacking;
+
+use std::path::PathBuf;
+
+const USAGE: &str = "usage: oracle/run COMMAND
+  tally [JOBS] [SEED]             outcomes of generated jobs by mode, reference against model
+  drive LIBRARY [JOBS] [SEED]     an implementation (see oracle/wrap) against the judge
+  record                          makes oracle/recorded/*.bin
+  replay                          judges the recorded jobs anew
+  blocks [JOBS] [SEED]            mode 2 of the model against the Rust's velocity side
+  differences                     docs/DIFFERENCES.md's inputs on the reference
+  bench [LIBRARY]                 times of the reference, and of an implementation
+  job FILE                        what the job program prints of a job file
+  files FOLDER [JOBS] [SEED]      job files in every placement, with what the program prints
+  examples                        document 01's P1 to P9 as job files, in target/examples";
+
+fn main() {
+    let arguments: Vec<String> = std::env::args().skip(1).collect();
+    let words: Vec<&str> = arguments.iter().map(String::as_str).collect();
+    let ended = command(&words).unwrap_or_else(|message| {
+        eprintln!("oracle: {message}");
+        false
+    });
+    std::process::exit(if ended { 0 } else { 1 });
+}
+
+/// Where the oracle's folder is: `oracle/run` says so.
+fn home() -> PathBuf {
+    std::env::var_os("ORACLE_HOME").map_or_else(|| PathBuf::from("."), PathBuf::from)
+}
+
+fn command(words: &[&str]) -> Result<bool, String> {
+    let number = |at: usize, default: u64| match words.get(at) {
+        None => Ok(default),
+        Some(word) => word.parse().map_err(|_| format!("'{word}' is not a number")),
+    };
+    match words {
+        ["tally", ..] => Ok(tally::run(number(1, 100_000)?, number(2, 1)?)),
+        ["drive", library, ..] => driver::run(library, number(2, 100_000)?, number(3, 1)?, &home()),
+        ["record"] => recorded::make(&home()),
+        ["replay"] => recorded::replay(&home()),
+        ["blocks", ..] => Ok(blocks::run(number(1, 100_000)?, number(2, 1)?)),
+        ["differences"] => Ok(differences::run()),
+        ["bench"] => bench::table(None),
+        ["bench", library] => bench::table(Some(library)),
+        ["job", file] => {
+            let bytes = std::fs::read(file).map_err(|error| format!("{file}: {error}"))?;
+            print!("{}", listing::of_file(&bytes));
+            Ok(true)
+        }
+        ["files", folder, ..] => file_jobs::write(folder, number(2, 1000)?, number(3, 1)?),
+        ["examples"] => listing::examples(&home()),
+        _ => Err(USAGE.to_string()),
+    }
+}
