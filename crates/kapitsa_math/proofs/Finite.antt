@@ -44,7 +44,7 @@ dot-finite v w t =
     let c = mul-finite binary64 (v .z) (w .z) (s .1) in
     (record { x = a .0; y = b .0; z = c .0 }, record { x = a .1; y = b .1; z = c .1 })
 
-sum-finite : (v w : Vec3) → FiniteVector (addOf v w) → FiniteVector v × FiniteVector w
+pub sum-finite : (v w : Vec3) → FiniteVector (addOf v w) → FiniteVector v × FiniteVector w
 unfolding addOf
 sum-finite v w f =
     let a = add-finite binary64 (v .x) (w .x) (f .x) in
@@ -52,7 +52,7 @@ sum-finite v w f =
     let c = add-finite binary64 (v .z) (w .z) (f .z) in
     (record { x = a .0; y = b .0; z = c .0 }, record { x = a .1; y = b .1; z = c .1 })
 
-scaled-finite : (v : Vec3) (c : Float) → FiniteVector (scaleOf v c) → FiniteVector v × T (finite c)
+pub scaled-finite : (v : Vec3) (c : Float) → FiniteVector (scaleOf v c) → FiniteVector v × T (finite c)
 unfolding scaleOf
 scaled-finite v c f =
     let a = mul-finite binary64 (v .x) c (f .x) in

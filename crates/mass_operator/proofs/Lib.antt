@@ -3,3 +3,4 @@ pub mod Flat
 pub mod Sums
 pub mod Table
 pub mod Answers
+pub mod Overflow

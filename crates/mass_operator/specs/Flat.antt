@@ -35,7 +35,7 @@ pub record Summed (j : ℕ → RowJacobian) (x : ℕ → Float) (rows bodies : �
   pub summed : impulses ≡ impulsesOf j x rows bodies
   pub answered : answer ≡ appliedOf (impulsesOf j x rows bodies)
 
--- document 01, refusal 16, "A number in the recurrence is not finite": of the operator's numbers, testing the product tests all (proofs/Finite.antt)
+-- document 01, refusal 16, "A number in the recurrence is not finite": of the operator's numbers, testing the product tests all (proofs/Overflow.antt)
 pub record Multiplied (s : System) (x : ℕ → Float) (answer : Applied) (impulses responses product : List Float) : Type 0 where
   pub summed : impulses ≡ impulsesOf (s .jacobian) x (s .rows) (s .bodies)
   pub responded : responses ≡ responsesOf s x

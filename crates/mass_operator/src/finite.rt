@@ -1,4 +1,4 @@
-// One test for a whole vector: a number that went not finite stays so (proofs/Finite.antt), so nothing is tested on the way.
+// One test for a whole vector: a number that went not finite stays so (proofs/Overflow.antt), so nothing is tested on the way.
 ghost use mathlib.Core.Path.{_≡_};
 ghost use Rattle.mass_operator.specs.Applied.{allFiniteOf, appliedOf};
 
