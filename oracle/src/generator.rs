@@ -7,11 +7,13 @@ mod faults;
 mod large;
 mod mechanism;
 mod overflows;
+mod tables;
 mod thresholds;
 
 pub use examples::{chain_along_x, examples, push_x_row};
 pub use large::{large, late_faults, star};
 pub use mechanism::{Shape, joined};
+pub use tables::{Operand, chain, operand};
 
 use crate::job::Job;
 use crate::random::Random;

@@ -13,6 +13,7 @@ mod job_file;
 mod judge;
 mod listing;
 mod model;
+mod operator_list;
 mod packing;
 mod random;
 mod recorded;
@@ -27,6 +28,7 @@ const USAGE: &str = "usage: oracle/run COMMAND
   record                          makes oracle/recorded/*.bin
   replay                          judges the recorded jobs anew
   blocks [JOBS] [SEED]            mode 2 of the model against the Rust's velocity side
+  operator                        the list that crates/operator_recorded replays, to standard output
   differences                     docs/DIFFERENCES.md's inputs on the reference
   bench [LIBRARY]                 times of the reference, and of an implementation
   job FILE                        what the job program prints of a job file
@@ -59,6 +61,7 @@ fn command(words: &[&str]) -> Result<bool, String> {
         ["record"] => recorded::make(&home()),
         ["replay"] => recorded::replay(&home()),
         ["blocks", ..] => Ok(blocks::run(number(1, 100_000)?, number(2, 1)?)),
+        ["operator"] => operator_list::write(),
         ["differences"] => Ok(differences::run()),
         ["bench"] => bench::table(None),
         ["bench", library] => bench::table(Some(library)),

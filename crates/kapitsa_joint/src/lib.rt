@@ -25,3 +25,4 @@ pub use row::scalars_at;
 pub use row::words_at;
 pub use tolerance::JointTolerance;
 pub use tolerance::RowDimension;
+pub use tolerance::dimension;

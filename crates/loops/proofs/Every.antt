@@ -28,6 +28,22 @@ every-iff p n = (there n, back n)
     back zero h = refl
     back (suc m) h = check-true _ _ _ (back m (λ i l. h i (omega arith))) ∙ h m (omega arith)
 
+-- where it is false there is an index that fails
+pub every-false : (p : ℕ → Bool) (n : ℕ) → every p n ≡ false → (i : ℕ) × (i < n) × (p i ≡ false)
+unfolding every
+every-false p zero h = absurd (false≢true (sym h))
+every-false p (suc n) h = go (every p n) refl (every-false p n)
+  where
+    go : (b : Bool) → every p n ≡ b → (every p n ≡ false → (i : ℕ) × (i < n) × (p i ≡ false)) → (i : ℕ) × (i < suc n) × (p i ≡ false)
+    go true e r = (n, omega arith, sym (check-true _ _ _ e) ∙ h)
+    go false e r = let (i, l, q) = r e in (i, omega arith, q)
+
+-- tests that agree on every index
+pub every-same : (p q : ℕ → Bool) (n : ℕ) → ((i : ℕ) → i < n → p i ≡ q i) → every p n ≡ every q n
+unfolding every
+every-same p q zero e = refl
+every-same p q (suc n) e = rw (every-same p q n (λ i h. e i (omega arith)), e n (omega arith))
+
 -- the invariant of the loop: of n indices those below i have passed
 pub record Holds (p : ℕ → Bool) (n i : ℕ) : Type 0 where
   pub within : i ≤ n

@@ -4,3 +4,4 @@ pub mod Sums
 pub mod Table
 pub mod Answers
 pub mod Overflow
+pub mod Same

@@ -35,10 +35,9 @@ value-finite j p q t =
     let ab = dotOf (j .«angular_b») (q .angular) in
     let r = add-finite binary64 (add binary64 (add binary64 la aa) lb) ab t in
     let s = add-finite binary64 (add binary64 la aa) lb (r .0) in
-    let u = add-finite binary64 la aa (s .0) in
-    (
+    let u = add-finite binary64 la aa (s .0) in (
       record { linear = dot-finite (j .«linear_a») (p .linear) (u .0) .1; angular = dot-finite (j .«angular_a») (p .angular) (u .1) .1 },
-      record { linear = dot-finite (j .«linear_b») (q .linear) (s .1) .1; angular = dot-finite (j .«angular_b») (q .angular) (r .1) .1 }
+      record { linear = dot-finite (j .«linear_b») (q .linear) (s .1) .1; angular = dot-finite (j .«angular_b») (q .angular) (r .1) .1 },
     )
 
 response-finite : (m : SolverMass) (g : GeneralizedImpulse) → FiniteImpulse (responseOf m g) → FiniteImpulse g

@@ -13,6 +13,8 @@ include!(concat!(env!("ORACLE_CUT"), "/solver_items.rs"));
 
 mod pcg {
     include!(env!("ORACLE_PCG"));
+
+    pub mod operator;
 }
 
 pub mod harness;

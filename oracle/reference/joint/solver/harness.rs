@@ -1,5 +1,7 @@
 //! Calls solve_position_pcg_prepared on document 01's tables of numbers.
 
+pub use super::pcg::operator::Operator;
+
 use super::pcg::{solve_position_pcg_prepared, solve_velocity_pcg_prepared};
 use super::{
     ConstraintRow, GeneralizedImpulse, RowDimension, SolverBody, SolverMass, SolverMassCacheStats,
@@ -38,10 +40,10 @@ pub struct Prepared {
 impl Prepared {
     /// `numbers` has 27 doubles a row, `words` 8 u32 a row, `masses` 10 doubles a body.
     pub fn new(numbers: &[f64], words: &[u32], masses: &[f64]) -> Self {
-        let bodies: Vec<SolverBody> = masses.chunks_exact(10).map(body).collect();
-        let rows = numbers.chunks_exact(27).zip(words.chunks_exact(8));
+        let of = |mass| SolverBody { body: RigidBody::of(mass) };
+        let bodies: Vec<SolverBody> = masses_of(masses).into_iter().map(of).collect();
         Self {
-            rows: rows.map(|(numbers, words)| row(numbers, words)).collect(),
+            rows: rows_of(numbers, words),
             owners: words.chunks_exact(8).map(|words| words[6] as usize).collect(),
             slots: vec![SolverMassSlot; bodies.len()],
             bodies,
@@ -124,7 +126,7 @@ impl Prepared {
     }
 }
 
-fn six(impulse: GeneralizedImpulse) -> [f64; 6] {
+pub(super) fn six(impulse: GeneralizedImpulse) -> [f64; 6] {
     let GeneralizedImpulse { linear: l, angular: a } = impulse;
     [l.x, l.y, l.z, a.x, a.y, a.z]
 }
@@ -143,16 +145,23 @@ fn vector(numbers: &[f64]) -> Vec3 {
     Vec3::new(numbers[0], numbers[1], numbers[2])
 }
 
+pub(super) fn masses_of(numbers: &[f64]) -> Vec<SolverMass> {
+    numbers.chunks_exact(10).map(mass).collect()
+}
+
 /// A mass is inverse_mass, then inverse_inertia by columns; the centre is not read.
-fn body(numbers: &[f64]) -> SolverBody {
+fn mass(numbers: &[f64]) -> SolverMass {
     let columns = [vector(&numbers[1..]), vector(&numbers[4..]), vector(&numbers[7..])];
-    SolverBody {
-        body: RigidBody::of(SolverMass {
-            inverse_mass: numbers[0],
-            inverse_inertia: Mat3::from_cols(columns[0], columns[1], columns[2]),
-            center: Vec3::ZERO,
-        }),
+    SolverMass {
+        inverse_mass: numbers[0],
+        inverse_inertia: Mat3::from_cols(columns[0], columns[1], columns[2]),
+        center: Vec3::ZERO,
     }
+}
+
+pub(super) fn rows_of(numbers: &[f64], words: &[u32]) -> Vec<ConstraintRow> {
+    let rows = numbers.chunks_exact(27).zip(words.chunks_exact(8));
+    rows.map(|(numbers, words)| row(numbers, words)).collect()
 }
 
 /// A row in document 01's order. Words that refusal 4 turns back never get here.

@@ -1,0 +1,16 @@
+-- `closing_check::fit::table_fits` meets its contract. Assumes nothing.
+use mathlib.Core.Path.{refl}
+use borrow.Author.Needs.{needs}
+use Rattle.closing_check.specs.Refusals.{tableFits}
+use Rattle.closing_check.proofs.fit.table_fits.Statement.{statement}
+use Rattle.closing_check.proofs.fit.table_fits.Tie as tie
+
+pub table-fits-spec : {M : Type 1} → statement M
+unfolding tableFits
+table-fits-spec =
+    tie.close
+    (tie.spec
+    (λ c. search needs)  -- mul-result
+    (λ c. search needs)  -- mul-result-2
+    (λ c. search needs)  -- mul-result-3
+    (λ c. refl))  -- returns

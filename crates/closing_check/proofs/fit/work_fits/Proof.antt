@@ -1,0 +1,18 @@
+-- `closing_check::fit::work_fits` meets its contract. Assumes nothing.
+use mathlib.Core.Path.{refl}
+use borrow.Author.Needs.{needs}
+use Rattle.closing_check.specs.Refusals.{workFits}
+use Rattle.closing_check.proofs.fit.work_fits.Statement.{statement}
+use Rattle.closing_check.proofs.fit.work_fits.Tie as tie
+
+pub work-fits-spec : {M : Type 1} → statement M
+unfolding workFits
+work-fits-spec =
+    tie.close
+    (tie.spec
+    (λ c. search needs)  -- mul-result
+    (λ c. search needs)  -- mul-result-2
+    (λ c. search needs)  -- mul-result-3
+    (λ c. search needs)  -- mul-result-4
+    (λ c. search needs)  -- mul-result-5
+    (λ c. refl))  -- returns
