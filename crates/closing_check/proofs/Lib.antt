@@ -9,3 +9,4 @@ pub mod Meaning
 pub mod Judgement
 pub mod Lent
 pub mod Entry
+pub mod Examples
