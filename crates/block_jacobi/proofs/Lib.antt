@@ -1,0 +1,4 @@
+-- Laws of the blocks.
+pub mod Cells
+pub mod Stretches
+pub mod Leading

@@ -1,0 +1,4 @@
+pub mod Blocks
+pub mod Solves
+pub mod Answers
+pub mod Runs

@@ -1,0 +1,77 @@
+-- The ways through the functions that work out the value of one pair. Assumes nothing.
+use Prim.Native.Nat.{ℕ, _+_, _*_, _<_, _≤_}
+use mathlib.Core.Path.{_≡_, refl, sym, ap, _∙_}
+use mathlib.Core.Bool.{Bool, true, false, cond}
+use mathlib.Core.List.{List}
+use mathlib.Core.Option.{Option, none, some}
+use native.Mathlib.Omega.{arith}
+use lib.Dec.{eqb, ltb}
+use lib.ListN.{length, getD}
+use lib.Ieee.{Float, binary64, add}
+use borrow.Author.Tests.{eq-eqb, ne-eqb, lt-ltb, le-ltb}
+use Rattle.loops.specs.Cleared.{plusZero}
+use Rattle.kapitsa_math.specs.declared.vector.Vec3.{Vec3}
+use Rattle.kapitsa_joint.specs.Mass.{massOf, crossOf}
+use Rattle.kapitsa_joint.specs.declared.row.RowJacobian.{RowJacobian}
+use Rattle.kapitsa_joint.specs.declared.mass.SolverMass.{SolverMass}
+use Rattle.mass_operator.specs.Compact.{compactOf}
+use Rattle.mass_operator.specs.Lent.{Linked}
+use Rattle.pairs.specs.Pairs.{armOf, crossAt, sumOf, pairOf}
+use Rattle.pairs.specs.Gather.{crossedOut, numberOf}
+use Rattle.pairs.specs.declared.cross.Crossed.{Crossed}
+use Rattle.pairs.specs.declared.cross.Crossed.the-variants.{Value, Apart}
+
+-- `cross_at`
+module _ (masses : List Float) (body w : ℕ) (m : SolverMass) (l a : Vec3) (q : RowJacobian) (em : m ≡ massOf masses w) (ew : w ≡ body) where
+  pub cross-a : (v : Float) → q .«body_a» ≡ body → v ≡ crossOf m l a (q .«linear_a») (q .«angular_a») → crossAt (massOf masses body) l a (armOf q body) ≡ some v
+  unfolding crossAt armOf
+  cross-a v h e = rw (eq-eqb (q .«body_a») body h, e, em, ew)
+
+  pub cross-b : (v : Float) → (q .«body_a» ≡ body → ⊥) → q .«body_b» ≡ body → v ≡ crossOf m l a (q .«linear_b») (q .«angular_b») → crossAt (massOf masses body) l a (armOf q body) ≡ some v
+  unfolding crossAt armOf
+  cross-b v n h e = rw (ne-eqb (q .«body_a») body n, eq-eqb (q .«body_b») body h, e, em, ew)
+
+pub cross-none : (m : SolverMass) (l a : Vec3) (q : RowJacobian) (body : ℕ) → (q .«body_a» ≡ body → ⊥) → (q .«body_b» ≡ body → ⊥) → crossAt m l a (armOf q body) ≡ none
+unfolding crossAt armOf
+cross-none m l a q body n k = rw (ne-eqb (q .«body_a») body n, ne-eqb (q .«body_b») body k)
+
+-- `sum`
+module _ (p q : Crossed) where
+  pub sum-both : (x y : Float) → p ≡ Value x → q ≡ Value y → add binary64 x y ≡ numberOf (sumOf (crossedOut p) (crossedOut q))
+  unfolding numberOf sumOf
+  sum-both x y e f = rw (e, f)
+
+  pub sum-first : (x : Float) → p ≡ Value x → q ≡ Apart → x ≡ numberOf (sumOf (crossedOut p) (crossedOut q))
+  unfolding numberOf sumOf
+  sum-first x e f = rw (e, f)
+
+  pub sum-second : (y : Float) → p ≡ Apart → q ≡ Value y → y ≡ numberOf (sumOf (crossedOut p) (crossedOut q))
+  unfolding numberOf sumOf
+  sum-second y e f = rw (e, f)
+
+  pub sum-none : p ≡ Apart → q ≡ Apart → plusZero ≡ numberOf (sumOf (crossedOut p) (crossedOut q))
+  unfolding numberOf sumOf
+  sum-none e f = rw (e, f)
+
+-- `pair_value`
+module _ (mass : ℕ → SolverMass) (p q : RowJacobian) (a b : Crossed) (r : Float)
+    (ea : crossAt (mass (p .«body_a»)) (p .«linear_a») (p .«angular_a») (armOf q (p .«body_a»)) ≡ crossedOut a)
+    (eb : crossAt (mass (p .«body_b»)) (p .«linear_b») (p .«angular_b») (armOf q (p .«body_b»)) ≡ crossedOut b) where
+  pub pair-descending : p .«body_b» < p .«body_a» → r ≡ numberOf (sumOf (crossedOut b) (crossedOut a)) → r ≡ numberOf (pairOf mass p q)
+  unfolding pairOf
+  pair-descending h e = rw (lt-ltb (p .«body_b») (p .«body_a») h, ea, eb) e
+
+  pub pair-ascending : p .«body_a» ≤ p .«body_b» → r ≡ numberOf (sumOf (crossedOut a) (crossedOut b)) → r ≡ numberOf (pairOf mass p q)
+  unfolding pairOf
+  pair-ascending h e = rw (le-ltb (p .«body_b») (p .«body_a») h, ea, eb) e
+
+-- the masses of a row's bodies are there
+module _ (jacobians : List Float) (links : List ℕ) (masses : List Float) (rows bodies i j : ℕ) (p : RowJacobian) (e : p ≡ compactOf jacobians links j)
+    (h : Linked links rows bodies) (l : 10 * bodies ≤ length masses) (li : i < rows) (lj : j < i) where
+  pub mass-a : 10 * (p .«body_a») + 10 ≤ length masses
+  unfolding compactOf
+  mass-a = let b = h .a j (omega arith) in rw e (omega arith)
+
+  pub mass-b : 10 * (p .«body_b») + 10 ≤ length masses
+  unfolding compactOf
+  mass-b = let b = h .b j (omega arith) in rw e (omega arith)

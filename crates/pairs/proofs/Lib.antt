@@ -1,0 +1,4 @@
+-- Laws of the pairs while they are gathered and valued.
+pub mod Crosses
+pub mod Parts
+pub mod Places

@@ -1,0 +1,30 @@
+-- `pairs::values::fill_values` meets its contract: the rows below i have their values. Assumes nothing.
+use Prim.Native.Nat.{_-_, _≤_}
+use mathlib.Core.Path.{_≡_}
+use lib.ListN.{length}
+use Rattle.loops.proofs.Loop.{loops}
+use Rattle.pairs.proofs.Places.{valued-end, valued-none}
+use Rattle.pairs.specs.Gather.{Valued, valueIn}
+use Rattle.sparse.specs.Kept.{start}
+use Rattle.pairs.proofs.values.fill_values.Statement.{statement}
+use Rattle.pairs.proofs.values.fill_values.Tie as tie
+
+abbrev Inv-loop : tie.InvT-loop
+Inv-loop jacobians links masses rows bodies starts columns values₀ i₀ values i = (i ≤ rows) × (length values ≡ length columns) × Valued (valueIn jacobians links masses) starts columns values (start starts i)
+
+abbrev μ-loop : tie.MeasureT-loop
+μ-loop jacobians links masses rows bodies starts columns values₀ i₀ values i = rows - i
+
+ruleset known = (valued-none, valued-end, loops)
+
+pub fill-values-spec : {M : Type 1} → statement M
+fill-values-spec =
+    tie.close
+    (tie.spec Inv-loop μ-loop
+    (λ c. search known)  -- loop-holds
+    (λ c κs. ((search known, search known, search known), (search known, ((search known, search known, search known), (search known, search known)))))  -- value-row-requires
+    (λ c. search known)  -- add-i
+    (λ c. search known)  -- loop-less
+    (λ c. search known)  -- loop-again
+    (λ c. search known)  -- same-length
+    (λ c. search known))  -- returns

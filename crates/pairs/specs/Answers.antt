@@ -1,0 +1,32 @@
+-- Refusals 10 and 12 of the pairs, and what the lent slices then hold.
+use Prim.Native.Nat.{ℕ}
+use mathlib.Core.Path.{_≡_}
+use mathlib.Core.Bool.{cond}
+use mathlib.Core.List.{List}
+use lib.Dec.{ltb}
+use lib.Ieee.{Float}
+use Rattle.loops.specs.Run.{check}
+use Rattle.mass_operator.specs.System.{System}
+use Rattle.sparse.specs.Kept.{start, Kept, numbers}
+use Rattle.pairs.specs.Pairs.{patternOf, pairCount, pairLimit, pairsOf, finitePairs}
+use Rattle.pairs.specs.declared.gathering.Paired.{Paired}
+use Rattle.pairs.specs.declared.gathering.Paired.the-variants as paired
+
+-- 10 is judged first: "10. Mode 1 has more than 16,384 pairs", "12. A pair value ... is not finite"
+unfoldable pub pairedOf : System → Paired
+pairedOf s =
+    cond (ltb pairLimit (pairCount (patternOf s) (s .rows))) (paired.Refused 10)
+    (check (finitePairs (pairsOf s) (s .rows)) (paired.Done (pairCount (patternOf s) (s .rows))) (paired.Refused 12))
+
+-- the slices keep the triangle of pairs, in as many places as there are pairs
+pub record Collected (s : System) (starts columns : List ℕ) (values : List Float) : Type 0 where
+  pub kept : Kept starts columns
+  pub pairs : numbers starts columns values ≡ pairsOf s
+  pub places : start starts (s .rows) ≡ pairCount (patternOf s) (s .rows)
+
+-- After 10 no value is touched; what the starts and columns then hold is left free. After 12 the pairs stand there like after an answer that is Done.
+pub record PairsHeld (s : System) (answer : Paired) (values₀ : List Float) (starts columns : List ℕ) (values : List Float) : Type 0 where
+  pub answered : answer ≡ pairedOf s
+  pub ten : answer ≡ paired.Refused 10 → values ≡ values₀
+  pub twelve : answer ≡ paired.Refused 12 → Collected s starts columns values
+  pub done : (count : ℕ) → answer ≡ paired.Done count → Collected s starts columns values

@@ -1,0 +1,84 @@
+-- What the functions that gather the pairs hand to one another.
+use Prim.Native.Nat.{ℕ, _+_, _*_, _<_, _≤_}
+use mathlib.Core.Path.{_≡_}
+use mathlib.Core.Bool.{Bool, true, false, _||_, cond}
+use mathlib.Core.List.{List}
+use mathlib.Core.Option.{Option, none, some}
+use lib.Dec.{eqb, ltb}
+use lib.ListN.{getD, set, length}
+use lib.Ieee.{Float, nan}
+use Rattle.loops.specs.Run.{check}
+use Rattle.loops.specs.Cleared.{plusZero}
+use Rattle.kapitsa_joint.specs.Mass.{massOf}
+use Rattle.mass_operator.specs.Compact.{compactOf}
+use Rattle.sparse.specs.Kept.{start, Rising, Missing}
+use Rattle.pairs.specs.Pairs.{rowPairs, pairCount, pairOf}
+use Rattle.pairs.specs.declared.cross.Crossed.{Crossed}
+use Rattle.pairs.specs.declared.cross.Crossed.the-variants as crossed
+use Rattle.pairs.specs.declared.pattern.Gathered.{Gathered}
+use Rattle.pairs.specs.declared.pattern.Gathered.the-variants as gathered
+
+-- ---- values
+abbrev pub crossedOut : Crossed → Option Float
+crossedOut (crossed.Value x) = some x
+crossedOut crossed.Apart = none
+
+unfoldable pub numberOf : Option Float → Float
+numberOf (some x) = x
+numberOf none = plusZero
+
+-- the value of rows i > j in the compact table
+unfoldable pub valueIn : List Float → List ℕ → List Float → ℕ → ℕ → Float
+valueIn jacobians links masses i j = numberOf (pairOf (massOf masses) (compactOf jacobians links j) (compactOf jacobians links i))
+
+-- each place below p has the value of its row and column
+pub record Valued (value : ℕ → ℕ → Float) (starts columns : List ℕ) (values : List Float) (p : ℕ) : Type 0 where
+  pub at : (x q : ℕ) → start starts x ≤ q → q < start starts (x + 1) → q < p → getD values q nan ≡ value x (getD columns q 0)
+
+-- ---- pattern
+
+-- a row with the bodies a and b, and row j of the compact table
+unfoldable pub sharesIn : List ℕ → ℕ → ℕ → ℕ → Bool
+sharesIn links a b j =
+    (eqb a (getD links (2 * j) 0) || eqb a (getD links (2 * j + 1) 0)) || (eqb b (getD links (2 * j) 0) || eqb b (getD links (2 * j + 1) 0))
+
+unfoldable pub shareIn : List ℕ → ℕ → ℕ → Bool
+shareIn links i j = sharesIn links (getD links (2 * i) 0) (getD links (2 * i + 1) 0) j
+
+-- one column tried at place p of room many
+unfoldable pub triedOf : Bool → ℕ → ℕ → Gathered
+triedOf share room p = cond share (check (ltb p room) (gathered.Done (p + 1)) gathered.Full) (gathered.Done p)
+
+unfoldable pub triedColumns : Bool → ℕ → List ℕ → ℕ → ℕ → List ℕ
+triedColumns share room columns p j = cond share (check (ltb p room) (set columns p j) columns) columns
+
+-- the pairs of row i with the columns before m are at the places a .. b - 1
+pub record Part (share : ℕ → ℕ → Bool) (columns : List ℕ) (i a b m : ℕ) : Type 0 where
+  pub rising : Rising columns a b m
+  pub right : (q : ℕ) → a ≤ q → q < b → share i (getD columns q 0) ≡ true
+  pub all : (k : ℕ) → k < m → Missing columns a b k → share i k ≡ false
+  pub counted : b ≡ a + rowPairs share i m
+
+-- the same, and the places before a are as they were
+pub record RowPart (share : ℕ → ℕ → Bool) (columns₀ columns : List ℕ) (i a b m : ℕ) : Type 0 where
+  pub long : length columns ≡ length columns₀
+  pub before : (q : ℕ) → q < a → getD columns q 0 ≡ getD columns₀ q 0
+  pub part : Part share columns i a b m
+  pub room : b ≤ length columns
+
+pub record RowDone (answer : Gathered) (share : ℕ → ℕ → Bool) (columns₀ columns : List ℕ) (i a room : ℕ) : Type 0 where
+  pub done : (b : ℕ) → answer ≡ gathered.Done b → RowPart share columns₀ columns i a b i
+  pub full : answer ≡ gathered.Full → room < a + rowPairs share i i
+
+-- the rows before i are at the places before p
+pub record Stored (share : ℕ → ℕ → Bool) (starts columns : List ℕ) (i p : ℕ) : Type 0 where
+  pub begin : start starts 0 ≡ 0
+  pub last : start starts i ≡ p
+  pub order : (x y : ℕ) → x ≤ y → y ≤ i → start starts x ≤ start starts y
+  pub parts : (x : ℕ) → x < i → Part share columns x (start starts x) (start starts (x + 1)) x
+  pub counted : p ≡ pairCount share i
+  pub room : p ≤ length columns
+
+pub record Gathering (answer : Gathered) (share : ℕ → ℕ → Bool) (starts columns : List ℕ) (i room : ℕ) : Type 0 where
+  pub done : (p : ℕ) → answer ≡ gathered.Done p → Stored share starts columns i p
+  pub full : answer ≡ gathered.Full → room < pairCount share i

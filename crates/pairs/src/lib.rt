@@ -1,0 +1,9 @@
+// The pairs of a table: rows that share a body, their columns and values in lent flat slices.
+pub mod cross; // cross.rt: the value of one pair
+pub mod gathering; // gathering.rt: pattern and values, with refusals 10 and 12
+pub mod pattern; // pattern.rt: starts and columns
+pub mod values; // values.rt: the value of each place
+
+pub use cross::cross_value;
+pub use gathering::Paired;
+pub use gathering::pairs;

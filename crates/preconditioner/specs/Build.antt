@@ -1,0 +1,52 @@
+-- Mode 1: pairs, factor and index in one. pcg.rs, build_incomplete_cholesky_preconditioner_into.
+use Prim.Native.Nat.{ℕ}
+use mathlib.Core.Path.{_≡_}
+use mathlib.Core.Bool.{cond}
+use mathlib.Core.List.{List}
+use lib.Dec.{ltb}
+use lib.Ieee.{Float}
+use Rattle.loops.specs.Run.{Run, going, ended, on, check}
+use Rattle.mass_operator.specs.System.{System}
+use Rattle.sparse.specs.Triangle.{Sparse}
+use Rattle.sparse.specs.Cholesky.{Factor, factorRun}
+use Rattle.sparse.specs.Kept.{numbers}
+use Rattle.sparse.specs.Column.{Indexed}
+use Rattle.pairs.specs.Pairs.{patternOf, pairCount, pairLimit, pairsOf, finitePairs}
+use Rattle.preconditioner.specs.declared.build.Built.{Built}
+use Rattle.preconditioner.specs.declared.build.Built.the-variants as built
+
+-- "10. Mode 1 has more than 16,384 pairs." "12. A pair value ... is not finite." "13. A pivot is not finite or at most MIN, or a factor is not finite."
+unfoldable pub buildRun : System → List Float → List Float → Run Factor ℕ
+buildRun s diagonal pivots =
+    cond (ltb pairLimit (pairCount (patternOf s) (s .rows))) (ended 10)
+    (check (finitePairs (pairsOf s) (s .rows)) (on (factorRun diagonal (pairsOf s) pivots) going (λ _. ended 13)) (ended 12))
+
+-- what an answer and the slices at exit tell together: the refusal is document 01's number
+abbrev pub buildOut : Built → Sparse → List Float → Run Factor ℕ
+buildOut (built.Done count) L pivots = going (L, pivots)
+buildOut (built.Refused number) L pivots = ended number
+
+abbrev pub finishOut : Built → Sparse → List Float → Run Factor Factor
+finishOut (built.Done count) L pivots = going (L, pivots)
+finishOut (built.Refused number) L pivots = ended (L, pivots)
+
+-- the index by column: heads (one a row), nexts and homes (one a place)
+pub record Index : Type 0 where
+  pub heads : List ℕ
+  pub nexts : List ℕ
+  pub homes : List ℕ
+
+-- the factor of pairs that the slices keep
+pub record Finished (diagonal : List Float) (answer : Built) (starts columns : List ℕ) (values₀ values pivots₀ pivots : List Float) (index₀ index : Index) : Type 0 where
+  pub answered : factorRun diagonal (numbers starts columns values₀) pivots₀ ≡ finishOut answer (numbers starts columns values) pivots
+  pub indexed : (count : ℕ) → answer ≡ built.Done count → Indexed starts columns (index .heads) (index .nexts) (index .homes) count
+  pub refused : (number : ℕ) → answer ≡ built.Refused number → (number ≡ 13) × (index ≡ index₀)
+
+-- What the lent memory holds. Free are the marks, and after refusal 10 the starts and columns.
+pub record FactorHeld (s : System) (diagonal : List Float) (answer : Built) (starts columns : List ℕ) (values₀ values pivots₀ pivots : List Float) (index₀ index : Index) : Type 0 where
+  pub answered : buildRun s diagonal pivots₀ ≡ buildOut answer (numbers starts columns values) pivots
+  pub indexed : (count : ℕ) → answer ≡ built.Done count → Indexed starts columns (index .heads) (index .nexts) (index .homes) count
+  pub refused : (number : ℕ) → answer ≡ built.Refused number → index ≡ index₀
+  pub ten : answer ≡ built.Refused 10 → (values ≡ values₀) × (pivots ≡ pivots₀)
+  pub twelve : answer ≡ built.Refused 12 → (numbers starts columns values ≡ pairsOf s) × (pivots ≡ pivots₀)
+  pub thirteen : answer ≡ built.Refused 13 → factorRun diagonal (pairsOf s) pivots₀ ≡ ended (numbers starts columns values, pivots)
