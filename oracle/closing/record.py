@@ -1,0 +1,277 @@
+#!/usr/bin/env python3
+"""Closing checks worked in exact rational arithmetic.
+
+Written from document 01 ("The closing check", refusals 4, 6, 7, 18) alone: every operation is done on
+fractions, and where the document rounds, the exact result is rounded to the nearest double once. For each
+check the exact gap is formed as well, and what a verdict means is tested on it before the check is listed.
+
+    oracle/closing/record.py > LIST
+
+A check is a run of 64-bit words, little end first: its length in bytes, rows n, bodies b, the linear and the
+angular tolerance, the answer (0 open, 1 closed, else the refusal's number), 27n row numbers, 8n row words,
+10b mass numbers, n multipliers. Doubles are given by their bits. The same seed makes the same bytes.
+"""
+import math
+import random
+import struct
+import sys
+from fractions import Fraction
+
+SEED = 1952
+LOW, HIGH = 2.0 ** -150, 2.0 ** 150
+ERROR, MIN_MULTIPLIER = 15, 20
+
+
+def rounded(exact):
+    """The nearest double; a zero is +0.0, which no verdict tells from -0.0."""
+    return Fraction(float(exact))
+
+
+def dot(u, v, to):
+    x, y, z = (to(a * b) for a, b in zip(u, v))
+    return to(to(x + y) + z)
+
+
+def times(columns, v, to):
+    return [dot([column[i] for column in columns], v, to) for i in range(3)]
+
+
+def scaled(v, by, to):
+    return [to(x * by) for x in v]
+
+
+def plus(u, v, to):
+    return [to(x + y) for x, y in zip(u, v)]
+
+
+class Sheet:
+    """A table of rows and masses with its listed multipliers and two tolerances."""
+
+    def __init__(self, numbers, words, masses, multipliers, tolerances):
+        self.numbers, self.words, self.masses = numbers, words, masses
+        self.multipliers, self.tolerances = multipliers, tolerances
+
+    def values(self, number, to):
+        """Each row's value: J M^-1 J^T on the multipliers, rows ascending, linear then angular, a before b."""
+        rows = [[number(x) for x in row[:15]] for row in self.numbers]
+        masses = [[number(x) for x in mass] for mass in self.masses]
+        impulses = [([Fraction(0)] * 3, [Fraction(0)] * 3) for _ in masses]
+        for row, word, multiplier in zip(rows, self.words, self.multipliers):
+            for body, linear, angular in ((word[2], row[0:3], row[3:6]), (word[3], row[9:12], row[12:15])):
+                before = impulses[body]
+                impulses[body] = (
+                    plus(before[0], scaled(linear, number(multiplier), to), to),
+                    plus(before[1], scaled(angular, number(multiplier), to), to),
+                )
+        responses = [
+            (scaled(impulse[0], mass[0], to), times([mass[1:4], mass[4:7], mass[7:10]], impulse[1], to))
+            for mass, impulse in zip(masses, impulses)
+        ]
+        found = []
+        for row, word in zip(rows, self.words):
+            a, b = responses[word[2]], responses[word[3]]
+            total = to(dot(row[0:3], a[0], to) + dot(row[3:6], a[1], to))
+            total = to(total + dot(row[9:12], b[0], to))
+            found.append(to(total + dot(row[12:15], b[1], to)))
+        return found
+
+    def measured(self):
+        """For each row the rounded |r|, the radius E and the exact gap."""
+        factor = rounded((len(self.numbers) + 16) * Fraction(1, 2 ** 51))
+        values = self.values(Fraction, rounded)
+        sizes = self.values(lambda x: abs(Fraction(x)), rounded)
+        exact = self.values(Fraction, lambda x: x)
+        found = []
+        for row, value, size, whole in zip(self.numbers, values, sizes, exact):
+            error = Fraction(row[ERROR])
+            radius = rounded(rounded(abs(error) + size) * factor)
+            found.append((abs(rounded(-error - value)), radius, abs(error + whole)))
+        return found
+
+    def tolerance(self, row):
+        return self.tolerances[self.words[row][1]]
+
+
+def holds(size_and_radius, tolerance):
+    size, radius, _ = size_and_radius
+    if not math.isfinite(tolerance):
+        return tolerance > 0
+    return rounded(size + radius) <= Fraction(tolerance)
+
+
+def passes_4(word):
+    return word[0] <= 255 and all(word[i] <= 1 for i in (1, 4, 5)) and word[7] == 0
+
+
+def passes_7(row, word, bodies):
+    plain = row[:MIN_MULTIPLIER] + row[24:]
+    low, high, least, most = row[MIN_MULTIPLIER:24]
+    return (
+        word[2] != word[3]
+        and word[2] < bodies
+        and word[3] < bodies
+        and all(map(math.isfinite, plain))
+        and row[18] >= 0.0
+        and row[19] >= 0.0
+        and row[26] >= 0.0
+        and not any(map(math.isnan, (low, high, least, most)))
+        and low <= high
+        and least <= most
+    )
+
+
+def in_range(x):
+    return x == 0.0 or LOW <= abs(x) <= HIGH
+
+
+def passes_18(sheet):
+    listed = list(sheet.multipliers)
+    for row in sheet.numbers:
+        listed += row[0:6] + row[9:16]
+    for mass in sheet.masses:
+        listed += mass
+    return all(map(in_range, listed))
+
+
+def answer(sheet):
+    bodies = len(sheet.masses)
+    if not all(map(passes_4, sheet.words)):
+        return 4
+    if not all(math.isfinite(x) for mass in sheet.masses for x in mass):
+        return 6
+    if not all(passes_7(row, word, bodies) for row, word in zip(sheet.numbers, sheet.words)):
+        return 7
+    if not passes_18(sheet):
+        return 18
+    return verdict(sheet)
+
+
+def verdict(sheet):
+    found = sheet.measured()
+    told = [holds(each, sheet.tolerance(i)) for i, each in enumerate(found)]
+    for i, (closed, (_, radius, gap)) in enumerate(zip(told, found)):
+        tolerance = sheet.tolerance(i)
+        if math.isfinite(tolerance):
+            assert not closed or gap <= Fraction(tolerance), "closed, and the exact gap is beyond its tolerance"
+            assert closed or gap + 2 * radius > Fraction(tolerance), "open, and the exact gap is well within"
+    return 1 if all(told) else 0
+
+
+def number(chance):
+    """A number of a row, a mass or the list: often plain, sometimes zero, sometimes far from one."""
+    kind = chance.randrange(8)
+    if kind == 0:
+        return chance.choice((0.0, -0.0))
+    if kind == 1:
+        return chance.choice((-1.0, 1.0)) * math.ldexp(1.0 + chance.random(), chance.randrange(-149, 149))
+    if kind == 2:
+        return chance.choice((-1.0, 1.0)) * 2.0 ** chance.randrange(-40, 41)
+    return chance.uniform(-2.0, 2.0)
+
+
+def edge(chance):
+    """2^-150, 2^150 and their neighbours."""
+    size = chance.choice((LOW, HIGH))
+    return chance.choice((-1.0, 1.0)) * chance.choice((size, math.nextafter(size, 0.0), math.nextafter(size, math.inf)))
+
+
+def row_of(chance):
+    row = [number(chance) for _ in range(16)] + [0.0] * 11
+    row[MIN_MULTIPLIER:24] = [-math.inf, math.inf, -math.inf, math.inf]
+    return row
+
+
+def sheet_of(chance):
+    n, b = chance.choice((1, 1, 1, 2, 2, 3, 4)), chance.choice((2, 2, 3))
+    words = []
+    for owner in range(n):
+        a, c = chance.sample(range(b), 2)
+        words.append([chance.randrange(256), chance.randrange(2), a, c, 0, chance.randrange(2), owner, 0])
+    masses = [[number(chance) for _ in range(10)] for _ in range(b)]
+    return Sheet([row_of(chance) for _ in range(n)], words, masses, [number(chance) for _ in range(n)], [0.5, 0.5])
+
+
+def settle(sheet, chance):
+    """Errors that the multipliers nearly undo, so that the gap is small beside the sizes."""
+    for row, value in zip(sheet.numbers, sheet.values(Fraction, rounded)):
+        if abs(value) <= HIGH and (value == 0 or abs(value) >= LOW):
+            row[ERROR] = -float(value)
+            if chance.randrange(2):
+                row[ERROR] = math.nextafter(row[ERROR], chance.choice((-math.inf, math.inf)))
+
+
+def at_reach(sheet, chance):
+    """Both tolerances at the largest |r| + E, or one unit beside it."""
+    reach = max(float(size + radius) for size, radius, _ in sheet.measured())
+    sheet.tolerances = [chance.choice((reach, math.nextafter(reach, 0.0), math.nextafter(reach, math.inf)))] * 2
+
+
+def at_edge(sheet, chance):
+    """One number at the edge of refusal 18, of any kind, also where 18 does not look."""
+    lists = sheet.numbers + sheet.masses + [sheet.multipliers]
+    listed = chance.choice(lists)
+    at = chance.randrange(min(len(listed), 16))
+    listed[at] = edge(chance)
+
+
+def spoiled(sheet, chance):
+    """Something that another refusal looks at."""
+    kind = chance.randrange(6)
+    row, word = chance.choice(sheet.numbers), chance.choice(sheet.words)
+    if kind == 0:
+        word[chance.choice((1, 4, 5, 7))] = chance.choice((1, 2, 3))
+    elif kind == 1:
+        word[0] = chance.choice((255, 256))
+    elif kind == 2:
+        chance.choice(sheet.masses)[chance.randrange(10)] = chance.choice((math.nan, math.inf, -math.inf))
+    elif kind == 3:
+        row[chance.randrange(27)] = chance.choice((math.nan, math.inf, -1.0))
+    elif kind == 4:
+        word[2] = chance.choice((word[3], len(sheet.masses)))
+    else:
+        sheet.multipliers[chance.randrange(len(sheet.multipliers))] = chance.choice((math.nan, math.inf, 5e-324))
+
+
+def one(chance):
+    sheet = sheet_of(chance)
+    kind = chance.randrange(10)
+    if kind < 6:
+        settle(sheet, chance)
+    if kind < 4 and passes_18(sheet):
+        at_reach(sheet, chance)
+    elif kind < 6:
+        odd = (math.inf, -math.inf, math.nan, 0.0, -0.0, -1.0, 1e-9, 1e300)
+        sheet.tolerances = [chance.choice(odd), chance.choice(odd)]
+    elif kind < 8:
+        at_edge(sheet, chance)
+    elif kind == 8:
+        spoiled(sheet, chance)
+    return sheet
+
+
+def bits(x):
+    return struct.unpack("<Q", struct.pack("<d", x))[0] if x == x else 0x7FF8000000000000
+
+
+def words_of(sheet, told):
+    words = [len(sheet.numbers), len(sheet.masses), *map(bits, sheet.tolerances), told]
+    words += [bits(x) for row in sheet.numbers for x in row]
+    words += [x for word in sheet.words for x in word]
+    words += [bits(x) for mass in sheet.masses for x in mass]
+    words += [bits(x) for x in sheet.multipliers]
+    return [8 * (len(words) + 1), *words]
+
+
+def main():
+    chance, tally = random.Random(SEED), {}
+    for _ in range(1500):
+        sheet = one(chance)
+        told = answer(sheet)
+        tally[told] = tally.get(told, 0) + 1
+        words = words_of(sheet, told)
+        sys.stdout.buffer.write(struct.pack("<%dQ" % len(words), *words))
+    print("open 0, closed 1, or the refusal:", dict(sorted(tally.items())), file=sys.stderr)
+
+
+if __name__ == "__main__":
+    main()
