@@ -1,10 +1,12 @@
 // Replays the recorded list of what Rust's f64 functions give (oracle/src/binary64_list.rs has its layout and makes it) through `binary64`,
 // and prints how many records there were and how many differ.
+ghost use mathlib.Core.Path.{_≡_};
 ghost use Prim.Native.Nat.{_+_, _≤_};
 ghost use lib.ListN.{length};
 use binary64::RootAnswer;
 use libc::STDIN_FILENO;
 use libc::STDOUT_FILENO;
+use little_endian::word;
 
 const RECORD: usize = 40;
 
@@ -24,26 +26,6 @@ struct Tally {
     records: u32,
     differ: u32,
     refused: u32,
-}
-
-fn wide(x: u8) -> u64 {
-    x as u64
-}
-
-// Four little-endian bytes.
-fn half(list: &[u8], at: usize) -> u64
-    requires { ⌜ at + 4 ≤ length (now list) ⌝ }
-{
-    wide(list[at])
-        | (wide(list[at + 1]) << 8)
-        | (wide(list[at + 2]) << 16)
-        | (wide(list[at + 3]) << 24)
-}
-
-fn word(list: &[u8], at: usize) -> u64
-    requires { ⌜ at + 8 ≤ length (now list) ⌝ }
-{
-    half(list, at) | (half(list, at + 4) << 32)
 }
 
 fn record_at(list: &[u8], at: usize) -> Record
@@ -146,8 +128,15 @@ fn line(n: u32, text: &[u8]) {
     io::write_all(STDOUT_FILENO, text);
 }
 
+// Room for the list. The contract gives its length alone: that is all that lending it needs.
+fn room() -> [u8; 192000]
+    ensures { λ r. ⌜ 192000 ≡ length r ⌝ }
+{
+    [0; 192000]
+}
+
 fn main() {
-    let mut space: [u8; 192000] = [0; 192000];
+    let mut space = room();
     let n = io::read_full(STDIN_FILENO, &mut space);
     let tally = list_counted(&space[..n]);
     line(tally.records, b" records\n");

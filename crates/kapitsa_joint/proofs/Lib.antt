@@ -1,5 +1,4 @@
 -- Laws of rows, masses, impulses and tolerances in the lent tables.
 pub mod Kind
 pub mod Cross
-pub mod Every
 pub mod Stored

@@ -3,4 +3,3 @@ pub mod Mass
 pub mod Impulse
 pub mod Tolerance
 pub mod Table
-pub mod Refusals

@@ -1,6 +1,5 @@
-// Constraint rows, masses, impulses and tolerances of Kapitsa's joint solver, read out of the lent tables, and refusals 4 to 7.
+// Constraint rows, masses, impulses and tolerances of Kapitsa's joint solver, read out of the lent tables.
 pub mod impulse; // impulse.rt: GeneralizedImpulse
-pub mod judge; // judge.rt: refusals 4 to 7 of one row or mass, and of a whole table
 pub mod mass; // mass.rt: SolverMass with cross and diagonal
 pub mod row; // row.rt: ConstraintRow, read whole or in parts
 pub mod tolerance; // tolerance.rt: JointTolerance and RowDimension
@@ -8,10 +7,6 @@ pub mod tolerance; // tolerance.rt: JointTolerance and RowDimension
 pub use impulse::GeneralizedImpulse;
 pub use impulse::impulse_at;
 pub use impulse::put_impulse;
-pub use judge::masses_finite;
-pub use judge::rows_open;
-pub use judge::rows_valid;
-pub use judge::words_fit;
 pub use mass::SolverMass;
 pub use mass::mass_at;
 pub use row::ConstraintRow;

@@ -17,11 +17,11 @@ use Rattle.kapitsa_joint.specs.declared.impulse.GeneralizedImpulse.{Generalized
 use Rattle.mass_operator.specs.Applied.{allFiniteOf, appliedOf}
 use Rattle.mass_operator.specs.declared.finite.Applied.{Applied}
 use Rattle.mass_operator.specs.declared.finite.Applied.the-variants.{Done, Overflow}
-use Rattle.mass_operator.specs.Compact.{compactOf}
+use Rattle.compact_table.specs.Compact.{compactOf, Linked}
 use Rattle.mass_operator.specs.System.{compactSystem}
 use Rattle.mass_operator.specs.Operator.{impulseAt, responseOf, responseAt, rowValueOf, valueAt}
 use Rattle.mass_operator.specs.Flat.{coefficients, flatImpulses, impulsesOf, responsesOf, productOf, Summed, Multiplied}
-use Rattle.mass_operator.specs.Lent.{Linked, Impulses, Summing, valueIn}
+use Rattle.mass_operator.specs.Lent.{Impulses, Summing, valueIn}
 use Rattle.mass_operator.proofs.Flat.{impulses-flat}
 
 pub test-done : (l : List Float) {r : Bool} → r ≡ allFiniteOf l → not r ≡ false → Done ≡ appliedOf l

@@ -1,7 +1,7 @@
--- Laws of the compact table and of the impulses in their slices, and that testing the product tests all.
+-- Laws of the impulses in their slices, and that testing the product tests all.
 pub mod Flat
 pub mod Sums
-pub mod Table
+pub mod Room
 pub mod Answers
 pub mod Overflow
 pub mod Same

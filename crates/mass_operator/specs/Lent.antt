@@ -1,19 +1,14 @@
 -- What the functions of src/ hand to one another about the lent slices.
-use Prim.Native.Nat.{ℕ, _+_, _*_, _<_}
+use Prim.Native.Nat.{ℕ, _*_, _<_}
 use mathlib.Core.Path.{_≡_}
 use mathlib.Core.List.{List}
-use lib.ListN.{length, getD}
+use lib.ListN.{length}
 use lib.Ieee.{Float}
 use Rattle.kapitsa_math.specs.declared.vector.Vec3.{Vec3}
 use Rattle.kapitsa_joint.specs.Impulse.{impulseOf, putImpulseOf}
 use Rattle.kapitsa_joint.specs.declared.row.RowJacobian.{RowJacobian}
 use Rattle.kapitsa_joint.specs.declared.impulse.GeneralizedImpulse.{GeneralizedImpulse}
 use Rattle.mass_operator.specs.Operator.{addImpulseOf, impulseAt, rowValueOf}
-
--- every body number of the compact table is below the body count: what refusal 7 has passed
-pub record Linked (links : List ℕ) (rows bodies : ℕ) : Type 0 where
-  pub a : (i : ℕ) → i < rows → getD links (2 * i) 0 < bodies
-  pub b : (i : ℕ) → i < rows → getD links (2 * i + 1) 0 < bodies
 
 -- the slice l holds the impulses g 0 .. g (bodies - 1)
 pub record Impulses (g : ℕ → GeneralizedImpulse) (bodies : ℕ) (l : List Float) : Type 0 where

@@ -1,4 +1,3 @@
-pub mod Compact
 pub mod Applied
 pub mod System
 pub mod Operator

@@ -7,7 +7,7 @@ use Rattle.kapitsa_joint.specs.Mass.{massOf}
 use Rattle.kapitsa_joint.specs.Table.{Table}
 use Rattle.kapitsa_joint.specs.declared.row.RowJacobian.{RowJacobian}
 use Rattle.kapitsa_joint.specs.declared.mass.SolverMass.{SolverMass}
-use Rattle.mass_operator.specs.Compact.{compactOf}
+use Rattle.compact_table.specs.Compact.{compactOf}
 
 pub record System : Type 0 where
   pub rows : ℕ

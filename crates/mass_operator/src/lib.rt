@@ -1,11 +1,8 @@
 // The mass operator of pcg.rs: J M^-1 J^T on a vector, a row at a time, over a compact table of Jacobians.
-pub mod compact; // compact.rt: twelve doubles and two body numbers a row, gathered once
 pub mod finite; // finite.rt: one test for a whole vector
 pub mod impulse; // impulse.rt: the impulses of a vector of coefficients
 pub mod product; // product.rt: responses, row values, and the operator
 
-pub use compact::compact_at;
-pub use compact::gather;
 pub use finite::Applied;
 pub use finite::all_finite;
 pub use impulse::add_generalized_impulse;

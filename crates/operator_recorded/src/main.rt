@@ -1,46 +1,13 @@
 // Replays the recorded list of what the Rust's cross, diagonal, impulses and operator give (oracle/src/operator_list.rs has its layout
 // and makes it) through `mass_operator`, and prints how many were compared, how many of them are not finite, and how many differ.
-ghost use Prim.Native.Nat.{_+_, _≤_};
+// The contract of `operator_cases::list_counted` says what is counted. The functions here promise nothing beyond safety: no contract can
+// speak of what is read or written.
+ghost use mathlib.Core.Path.{_≡_};
 ghost use lib.ListN.{length};
-
-mod compare; // compare.rt: each answer beside the recorded one
-mod links; // links.rt: body numbers below the body count
-mod list; // list.rt: words and doubles
-mod replay; // replay.rt: one case
-mod tally; // tally.rt: the counts
-
 use libc::STDIN_FILENO;
 use libc::STDOUT_FILENO;
-use list::word;
-use replay::Kind;
-use replay::replay;
-use tally::Count;
-
-// A case begins with its length. Where that is none, the rest of the list is one malformed case.
-fn case_size(list: &[u8], at: usize) -> usize
-    requires { ⌜ at + 8 ≤ length (now list) ⌝ }
-    ensures { λ r. ⌜ (8 ≤ r) × (at + r ≤ length (now (list .entry))) ⌝ }
-{
-    let size = word(list, at) as usize;
-    if size < 8 {
-        return list.len() - at;
-    }
-    if list.len() - at < size {
-        return list.len() - at;
-    }
-    size
-}
-
-fn list_counted(kind: Kind, list: &[u8]) -> Count {
-    let mut count = Count::none();
-    let mut at = 0;
-    while 8 <= list.len() - at {
-        let end = at + case_size(list, at);
-        count = count.with(replay(kind, &list[at..end]));
-        at = end;
-    }
-    count
-}
+use operator_cases::Kind;
+use operator_cases::list_counted;
 
 fn part(n: u32, text: &[u8]) {
     io::print_decimal(STDOUT_FILENO, n as u64);
@@ -61,8 +28,15 @@ fn lines(list: &[u8]) {
     line(Kind::Product, list, b" products, ");
 }
 
+// Room for the list. The contract gives its length alone: that is all that lending it needs.
+fn room() -> [u8; 600000]
+    ensures { λ r. ⌜ 600000 ≡ length r ⌝ }
+{
+    [0; 600000]
+}
+
 fn main() {
-    let mut space: [u8; 600000] = [0; 600000];
+    let mut space = room();
     let n = io::read_full(STDIN_FILENO, &mut space);
     lines(&space[..n]);
 }

@@ -13,4 +13,4 @@ impulse-at-spec =
     (λ c κs. search needs)  -- vec-at-requires
     (λ c. search needs)  -- add-vec-at
     (λ c κs. search needs)  -- vec-at-requires-2
-    (λ c. cc))  -- returns
+    (λ c. rw (c .before .vec-at .ensures, c .vec-at2 .ensures)))  -- returns

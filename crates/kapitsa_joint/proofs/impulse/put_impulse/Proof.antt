@@ -18,4 +18,4 @@ put-impulse-spec =
     (λ c. search known)  -- add-put-vec
     (λ c κs. omega (arith, put-vec-long _ _ _ (c .before .before .before .put-vec .ensures)))  -- put-vec-requires-2
     (λ c. search known)  -- same-length
-    (λ c. cc))  -- returns
+    (λ c. rw (c .before .before .put-vec2 .ensures, c .before .before .before .before .before .before .put-vec .ensures)))  -- returns

@@ -18,4 +18,4 @@ mass-at-spec =
     (λ c κs. search needs)  -- vec-at-requires-3
     (λ c. search needs)  -- mul-t7
     (λ c. search needs)  -- shared-slice-read-t9
-    (λ c. cc))  -- returns
+    (λ c. rw (c .before .before .before .vec-at .ensures, c .before .before .vec-at2 .ensures, c .before .vec-at3 .ensures)))  -- returns

@@ -3,7 +3,7 @@ use Prim.Native.Nat.{_-_}
 use lib.Ieee.{nan}
 use lib.Ieee.Scale.{finite}
 use lib.ListN.{getD, length}
-use Rattle.kapitsa_joint.proofs.Every.{called}
+use Rattle.loops.proofs.Every.{called}
 use Rattle.loops.proofs.Every.{Holds}
 use Rattle.mass_operator.specs.Applied.{allFiniteOf}
 use Rattle.mass_operator.proofs.finite.all_finite.Statement.{statement}

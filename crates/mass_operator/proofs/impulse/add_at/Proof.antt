@@ -14,4 +14,4 @@ add-at-spec =
     (λ c κs. search needs)  -- add-generalized-impulse-requires
     (λ c κs. search needs)  -- put-impulse-requires
     (λ c. search needs)  -- same-length
-    (λ c. cc))  -- returns
+    (λ c. rw (c .before .before .put-impulse .ensures, c .before .before .before .add-generalized-impulse .ensures, c .before .before .before .before .before .impulse-at .ensures, c .before .before .before .before .before .before .before .wide .ensures)))  -- returns

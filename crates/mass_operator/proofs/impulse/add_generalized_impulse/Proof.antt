@@ -13,4 +13,4 @@ add-generalized-impulse-spec =
     (λ c κs. search needs)  -- add-requires
     (λ c κs. search needs)  -- scale-requires-2
     (λ c κs. search needs)  -- add-requires-2
-    (λ c. cc))  -- returns
+    (λ c. rw (c .before .before .add .ensures, c .before .before .before .scale .ensures, c .add2 .ensures, c .before .scale2 .ensures)))  -- returns

@@ -1,6 +1,6 @@
 -- `mass_operator::impulse::add_row` meets its contract. Assumes nothing.
 use borrow.Author.Needs.{needs}
-use Rattle.mass_operator.proofs.Table.{room-a, room-after}
+use Rattle.mass_operator.proofs.Room.{room-a, room-after}
 use Rattle.mass_operator.specs.Lent.{addedRow}
 use Rattle.mass_operator.proofs.impulse.add_row.Statement.{statement}
 use Rattle.mass_operator.proofs.impulse.add_row.Tie as tie
@@ -16,4 +16,4 @@ add-row-spec =
     (λ c κs. search known)  -- add-at-requires
     (λ c κs. search known)  -- add-at-requires-2
     (λ c. search known)  -- same-length
-    (λ c. cc))  -- returns
+    (λ c. rw (c .before .before .add-at2 .ensures, c .before .before .before .before .before .before .add-at .ensures, c .before .before .before .before .before .before .before .before .before .before .before .before .compact-at .ensures)))  -- returns

@@ -3,8 +3,9 @@ use Prim.Native.Nat.{_-_, _≤_}
 use lib.ListN.{length}
 use Rattle.loops.proofs.Loop.{loops}
 use Rattle.mass_operator.proofs.Sums.{all-rows, none-yet, one-more}
-use Rattle.mass_operator.proofs.Table.{below-a, below-b, linked-a, linked-b}
-use Rattle.mass_operator.specs.Compact.{compactOf}
+use Rattle.compact_table.proofs.Linked.{below-a, below-b}
+use Rattle.mass_operator.proofs.Room.{linked-a, linked-b}
+use Rattle.compact_table.specs.Compact.{compactOf}
 use Rattle.mass_operator.specs.Flat.{coefficients}
 use Rattle.mass_operator.specs.Lent.{Summing}
 use Rattle.mass_operator.proofs.impulse.sum_impulses.Statement.{statement}

@@ -1,7 +1,7 @@
 -- `mass_operator::product::global_velocity_matrix_vector` meets its contract. Assumes nothing.
 use borrow.Author.Needs.{needs}
 use Rattle.mass_operator.proofs.Answers.{multiplied-is}
-use Rattle.mass_operator.proofs.Table.{linked-same}
+use Rattle.compact_table.proofs.Linked.{linked-same}
 use Rattle.mass_operator.proofs.product.global_velocity_matrix_vector.Statement.{statement}
 use Rattle.mass_operator.proofs.product.global_velocity_matrix_vector.Tie as tie
 

@@ -11,4 +11,4 @@ response-spec =
     (tie.spec
     (λ c κs. search needs)  -- scale-requires
     (λ c κs. search needs)  -- mul-vector-requires
-    (λ c. cc))  -- returns
+    (λ c. rw (c .before .scale .ensures, c .mul-vector .ensures)))  -- returns

@@ -1,6 +1,6 @@
 -- `mass_operator::product::value_at` meets its contract. Assumes nothing.
 use borrow.Author.Needs.{needs}
-use Rattle.mass_operator.proofs.Table.{room-wide-a, room-wide-b}
+use Rattle.mass_operator.proofs.Room.{room-wide-a, room-wide-b}
 use Rattle.mass_operator.specs.Lent.{valueIn}
 use Rattle.mass_operator.specs.Operator.{rowValueOf}
 use Rattle.mass_operator.proofs.product.value_at.Statement.{statement}
@@ -22,4 +22,4 @@ value-at-spec =
     (λ c κs. search known)  -- dot-requires-2
     (λ c κs. search known)  -- dot-requires-3
     (λ c κs. search known)  -- dot-requires-4
-    (λ c. cc))  -- returns
+    (λ c. rw (c .before .before .before .dot .ensures, c .before .before .dot2 .ensures, c .before .dot3 .ensures, c .dot4 .ensures, c .before .before .before .before .before .before .impulse-at .ensures, c .before .before .before .before .before .before .before .wide .ensures, c .before .before .before .before .impulse-at2 .ensures, c .before .before .before .before .before .wide2 .ensures, c .before .before .before .before .before .before .before .before .before .before .before .before .compact-at .ensures)))  -- returns

@@ -4,8 +4,8 @@ use lib.Ieee.{nan}
 use lib.ListN.{length}
 use Rattle.loops.proofs.Fill.{Fills, fills}
 use Rattle.loops.proofs.Tabulate.{filled-tabulate}
-use Rattle.mass_operator.proofs.Table.{linked-a, linked-b}
-use Rattle.mass_operator.specs.Compact.{compactOf}
+use Rattle.mass_operator.proofs.Room.{linked-a, linked-b}
+use Rattle.compact_table.specs.Compact.{compactOf}
 use Rattle.mass_operator.specs.Lent.{valueIn}
 use Rattle.mass_operator.proofs.product.values.Statement.{statement}
 use Rattle.mass_operator.proofs.product.values.Tie as tie

@@ -13,4 +13,4 @@ cross-spec =
     (λ c κs. search needs)  -- dot-requires
     (λ c κs. search needs)  -- dot-requires-2
     (λ c κs. search needs)  -- checked-value-requires
-    (λ c. cc))  -- returns
+    (λ c. rw (c .checked-value .ensures, c .before .dot2 .ensures, c .before .before .before .dot .ensures, c .before .before .before .before .mul-vector .ensures)))  -- returns

@@ -12,4 +12,4 @@ is-finite-spec =
     (λ c κs. search needs)  -- is-finite-requires
     (λ c κs. search needs)  -- is-finite-requires-2
     (λ c κs. search needs)  -- is-finite-requires-3
-    (λ c. cc))  -- returns
+    (λ c. rw (c .before .before .is-finite .ensures, c .before .is-finite2 .ensures, c .is-finite3 .ensures)))  -- returns

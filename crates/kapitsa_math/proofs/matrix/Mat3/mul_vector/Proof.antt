@@ -14,4 +14,4 @@ mul-vector-spec =
     (λ c κs. search needs)  -- add-requires
     (λ c κs. search needs)  -- scale-requires-3
     (λ c κs. search needs)  -- add-requires-2
-    (λ c. cc))  -- returns
+    (λ c. rw (c .add2 .ensures, c .before .before .add .ensures, c .before .before .before .before .scale .ensures, c .before .before .before .scale2 .ensures, c .before .scale3 .ensures)))  -- returns

@@ -12,4 +12,4 @@ abs-spec =
     (λ c κs. search needs)  -- abs-requires
     (λ c κs. search needs)  -- abs-requires-2
     (λ c κs. search needs)  -- abs-requires-3
-    (λ c. cc))  -- returns
+    (λ c. rw (c .before .before .abs .ensures, c .before .abs2 .ensures, c .abs3 .ensures)))  -- returns

@@ -1,0 +1,42 @@
+-- The compact table: of each row linear_a, angular_a, linear_b and angular_b, twelve doubles, and body_a and body_b, two words.
+use Prim.Native.Nat.{ℕ, _+_, _*_, _<_}
+use mathlib.Core.Path.{_≡_}
+use mathlib.Core.Bool.{Bool}
+use mathlib.Core.List.{List}
+use lib.Dec.{ltb}
+use lib.ListN.{length, getD, set}
+use lib.Ieee.{Float}
+use Rattle.loops.specs.Every.{every}
+use Rattle.kapitsa_math.specs.Lent.{vecOf, putVecOf}
+use Rattle.kapitsa_joint.specs.declared.row.RowJacobian.{RowJacobian}
+
+unfoldable pub compactOf : List Float → List ℕ → ℕ → RowJacobian
+compactOf jacobians links i = record {
+  «linear_a» = vecOf jacobians (12 * i);
+  «angular_a» = vecOf jacobians (12 * i + 3);
+  «linear_b» = vecOf jacobians (12 * i + 6);
+  «angular_b» = vecOf jacobians (12 * i + 9);
+  «body_a» = getD links (2 * i) 0;
+  «body_b» = getD links (2 * i + 1) 0;
+}
+
+unfoldable pub putJacobianOf : List Float → ℕ → RowJacobian → List Float
+putJacobianOf l i j = putVecOf (putVecOf (putVecOf (putVecOf l (12 * i) (j .«linear_a»)) (12 * i + 3) (j .«angular_a»)) (12 * i + 6) (j .«linear_b»)) (12 * i + 9) (j .«angular_b»)
+
+unfoldable pub putLinkOf : List ℕ → ℕ → RowJacobian → List ℕ
+putLinkOf l i j = set (set l (2 * i) (j .«body_a»)) (2 * i + 1) (j .«body_b»)
+
+-- the slices hold the rows g 0 .. g (n - 1), and are as long as they were
+pub record Gathered (g : ℕ → RowJacobian) (n : ℕ) (jacobians₀ : List Float) (links₀ : List ℕ) (jacobians : List Float) (links : List ℕ) : Type 0 where
+  pub longJacobians : length jacobians ≡ length jacobians₀
+  pub longLinks : length links ≡ length links₀
+  pub at : (i : ℕ) → i < n → compactOf jacobians links i ≡ g i
+
+-- the body number of every end below `ends` is below the body count. End 2i is row i at body_a, end 2i + 1 row i at body_b
+unfoldable pub linksBelowOf : List ℕ → ℕ → ℕ → Bool
+linksBelowOf links ends bodies = every (λ e. ltb (getD links e 0) bodies) ends
+
+-- every body number of the compact table is below the body count: what refusal 7 has passed
+pub record Linked (links : List ℕ) (rows bodies : ℕ) : Type 0 where
+  pub a : (i : ℕ) → i < rows → getD links (2 * i) 0 < bodies
+  pub b : (i : ℕ) → i < rows → getD links (2 * i + 1) 0 < bodies

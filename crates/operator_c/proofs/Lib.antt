@@ -1,0 +1,2 @@
+-- Ways through the functions for C.
+pub mod Ways

@@ -1,0 +1,3 @@
+-- What a held table gives, and the ways through the comparisons.
+pub mod Held
+pub mod Ways
