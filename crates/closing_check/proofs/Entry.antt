@@ -22,20 +22,23 @@ use Rattle.kapitsa_joint.specs.declared.tolerance.RowDimension.{RowDimension}
 use Rattle.kapitsa_joint.specs.declared.tolerance.RowDimension.the-variants.{Linear, Angular}
 use Rattle.kapitsa_joint.specs.Table.{Table, tableOf}
 use Rattle.kapitsa_joint.specs.Tolerance.{dimensionOf, toleranceOf}
-use Rattle.kapitsa_joint.specs.Refusals.{passes4, passes6, passes7, isValidOf, bodiesBelowOf, jacobiansFiniteOf, scalarsFiniteOf, scalarsInRangeOf}
+use Rattle.joint_refusals.specs.Refusals.{passes4, passes6, passes7, isValidOf, bodiesBelowOf, jacobiansFiniteOf, scalarsFiniteOf, scalarsInRangeOf}
 use Rattle.kapitsa_joint.specs.declared.tolerance.JointTolerance.{JointTolerance}
 use Rattle.mass_operator.specs.Flat.{coefficients}
-use Rattle.closing_check.specs.Refusals.{TableLengths, WorkLengths, workLengths, countsFit, tableFits, workFits, passes3, passes18}
-use Rattle.closing_check.specs.Verdict.{valueOf, sizeOf, reach, closes}
-use Rattle.closing_check.specs.Answer.{judgements, verdictOf, checkOf}
-use Rattle.closing_check.specs.Judged.{judgedOf}
-use Rattle.closing_check.specs.Rows.{rowCloses}
-use Rattle.closing_check.specs.Work.{Valid, Room, Cleared, After}
-use Rattle.closing_check.specs.declared.check.CheckAnswer.{CheckAnswer}
-use Rattle.closing_check.specs.declared.check.CheckAnswer.the-variants.{Closed, Open, Refused}
-use Rattle.closing_check.specs.declared.judge.Judged.{Judged}
-use Rattle.closing_check.specs.declared.judge.Judged.the-variants as judged
-use Rattle.closing_check.proofs.Meaning.{both, Bodies, valid-bodies, HeldVec, Held}
+use Rattle.check_refusals.specs.Refusals.{workLengths, countsFit, tableFits, workFits, passes3}
+use Rattle.check_refusals.specs.declared.fit.TableLengths.{TableLengths}
+use Rattle.check_refusals.specs.declared.fit.WorkLengths.{WorkLengths}
+use Rattle.check_range.specs.Range.{passes18}
+use Rattle.check_measure.specs.Verdict.{valueOf, sizeOf, reach, closes}
+use Rattle.check_answer.specs.Answer.{judgements, verdictOf, checkOf}
+use Rattle.check_refusals.specs.Judged.{judgedOf}
+use Rattle.check_measure.specs.Rows.{rowCloses}
+use Rattle.check_work.specs.Work.{Valid, Room, Cleared, After}
+use Rattle.check_answer.specs.declared.CheckAnswer.{CheckAnswer}
+use Rattle.check_answer.specs.declared.CheckAnswer.the-variants.{Closed, Open, Refused}
+use Rattle.check_refusals.specs.declared.judge.TableJudged.{TableJudged}
+use Rattle.check_refusals.specs.declared.judge.TableJudged.the-variants as judged
+use Rattle.check_answer.proofs.Meaning.{both, Bodies, valid-bodies, HeldVec, Held}
 
 -- ---- refusal 3
 pub rows-3 : (n b : ℕ) (t : TableLengths) (w : WorkLengths) → passes3 n b t w ≡ true → n ≤ 512
@@ -55,8 +58,8 @@ room-3 n b t w h =
     let a4 = eqb (t .multipliers) n in
     let b1 = eqb (w .jacobians) (12 * n) in
     let b2 = eqb (w .links) (2 * n) in
-    let b3 = eqb (w .massSizes) (10 * b) in
-    let b4 = eqb (w .multiplierSizes) n in
+    let b3 = eqb (w .«mass_sizes») (10 * b) in
+    let b4 = eqb (w .«multiplier_sizes») n in
     let b5 = eqb (w .impulses) (6 * b) in
     let b6 = eqb (w .responses) (6 * b) in
     let b7 = eqb (w .values) n in
@@ -80,8 +83,8 @@ room-3 n b t w h =
       multipliers = eqb-true (t .multipliers) n h4;
       jacobians = eqb-true (w .jacobians) (12 * n) k1;
       links = eqb-true (w .links) (2 * n) k2;
-      massSizes = eqb-true (w .massSizes) (10 * b) k3;
-      multiplierSizes = eqb-true (w .multiplierSizes) n k4;
+      massSizes = eqb-true (w .«mass_sizes») (10 * b) k3;
+      multiplierSizes = eqb-true (w .«multiplier_sizes») n k4;
       impulses = eqb-true (w .impulses) (6 * b) k5;
       responses = eqb-true (w .responses) (6 * b) k6;
       values = eqb-true (w .values) n k7;
@@ -93,14 +96,14 @@ room-same e r = rw e r
 
 -- ---- the judgements after 3
 module _ (t : Table) (x : ℕ → Float) where
-  unfoldable answered : Bool → Bool → Bool → Bool → Judged
+  unfoldable answered : Bool → Bool → Bool → Bool → TableJudged
   answered b c d e = on (judge ((4, b) ∷ (6, c) ∷ (7, d) ∷ (18, e) ∷ [])) (λ _. judged.Passed) judged.Refused
 
   is-answered : judgedOf t x ≡ answered (passes4 t) (passes6 t) (passes7 t) (passes18 t x)
   unfolding judgedOf answered
   is-answered = refl
 
-  pub refused-judged : (n : ℕ) {j : Judged} → j ≡ judgedOf t x → j ≡ judged.Refused n → Refused n ≡ checkOf true t x
+  pub refused-judged : (n : ℕ) {j : TableJudged} → j ≡ judgedOf t x → j ≡ judged.Refused n → Refused n ≡ checkOf true t x
   unfolding checkOf judgements judge test
   refused-judged n {j} e h = go (passes4 t) (passes6 t) (passes7 t) (passes18 t x) (sym (is-answered) ∙ sym e ∙ h)
     where
@@ -111,7 +114,7 @@ module _ (t : Table) (x : ℕ → Float) where
       go true true true false h = unfold answered judge test check on in cc
       go true true true true h = unfold answered judge test check on in cc
 
-  pub passed-judged : {j : Judged} → j ≡ judgedOf t x → j ≡ judged.Passed → (checkOf true t x ≡ verdictOf t x) × (passes7 t ≡ true)
+  pub passed-judged : {j : TableJudged} → j ≡ judgedOf t x → j ≡ judged.Passed → (checkOf true t x ≡ verdictOf t x) × (passes7 t ≡ true)
   unfolding checkOf judgements
   passed-judged {j} e h = go (passes4 t) (passes6 t) (passes7 t) (passes18 t x) (sym (is-answered) ∙ sym e ∙ h)
     where
@@ -191,7 +194,7 @@ pub after-3 : {p : Bool} {j : List Float} {l : List ℕ} {m x i r v s : List Flo
 after-3 e = record { cleared = λ h. absurd (no-both e h); untouched = λ h. (refl, refl, refl, refl, refl, refl, refl, refl) }
 
 pub cleared-same : {w w′ : WorkLengths} {j : List Float} {l : List ℕ} {m x i r v s : List Float} → Cleared w j l m x i r v s
-    → w .jacobians ≡ w′ .jacobians → w .links ≡ w′ .links → w .massSizes ≡ w′ .massSizes → w .multiplierSizes ≡ w′ .multiplierSizes → w .impulses ≡ w′ .impulses → w .responses ≡ w′ .responses → w .values ≡ w′ .values → w .sizes ≡ w′ .sizes
+    → w .jacobians ≡ w′ .jacobians → w .links ≡ w′ .links → w .«mass_sizes» ≡ w′ .«mass_sizes» → w .«multiplier_sizes» ≡ w′ .«multiplier_sizes» → w .impulses ≡ w′ .impulses → w .responses ≡ w′ .responses → w .values ≡ w′ .values → w .sizes ≡ w′ .sizes
     → Cleared w′ j l m x i r v s
 cleared-same c p1 p2 p3 p4 p5 p6 p7 p8 = record {
   jacobians = c .jacobians ∙ ap (λ (n : ℕ). replicate n plusZero) p1;

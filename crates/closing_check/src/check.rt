@@ -4,24 +4,19 @@ ghost use Prim.Native.Nat.{_≤_};
 ghost use mathlib.Core.Bool.{true};
 ghost use Rattle.kapitsa_joint.specs.Table.{tableOf};
 ghost use Rattle.mass_operator.specs.Flat.{coefficients};
-ghost use Rattle.closing_check.specs.Refusals.{passes3, tableLengths, workLengths};
-ghost use Rattle.closing_check.specs.Answer.{checkOf, CheckMeaning};
-ghost use Rattle.closing_check.specs.Work.{Room, After};
-use crate::fit::counts_fit;
-use crate::fit::table_fits;
-use crate::fit::work_fits;
-use crate::judge::Judged;
-use crate::judge::judge_table;
-use crate::verdict::rows_close;
-use crate::work::clear_work;
-use crate::work::measure_rows;
+ghost use Rattle.check_refusals.specs.Refusals.{passes3, tableLengths, workLengths};
+ghost use Rattle.check_answer.specs.Answer.{checkOf, CheckMeaning};
+ghost use Rattle.check_work.specs.Work.{Room, After};
+use check_answer::CheckAnswer;
+use check_measure::rows_close;
+use check_refusals::TableJudged;
+use check_refusals::TableLengths;
+use check_refusals::WorkLengths;
+use check_refusals::fits;
+use check_refusals::judge_table;
+use check_work::clear_work;
+use check_work::measure_rows;
 use kapitsa_joint::JointTolerance;
-
-pub enum CheckAnswer {
-    Closed,
-    Open,
-    Refused(u32),
-}
 
 // Once refusal 3 has passed: the other refusals, and the verdict.
 fn judged_check(
@@ -47,10 +42,10 @@ fn judged_check(
 {
     let judged = judge_table(rows, bodies, numbers, words, masses, multipliers, tolerance);
     match judged {
-        Judged::Refused(number) => {
+        TableJudged::Refused(number) => {
             return CheckAnswer::Refused(number);
         }
-        Judged::Passed => {}
+        TableJudged::Passed => {}
     }
     measure_rows(
         bodies as usize,
@@ -72,44 +67,6 @@ fn judged_check(
         return CheckAnswer::Open;
     }
     CheckAnswer::Closed
-}
-
-// Refusal 3, or nothing: the counts and every length.
-fn fits(
-    rows: u32,
-    bodies: u32,
-    numbers: &[f64],
-    words: &[u32],
-    masses: &[f64],
-    multipliers: &[f64],
-    jacobians: &[f64],
-    links: &[u32],
-    mass_sizes: &[f64],
-    multiplier_sizes: &[f64],
-    impulses: &[f64],
-    responses: &[f64],
-    values: &[f64],
-    sizes: &[f64],
-) -> bool
-    ensures { λ r. ⌜ r ≡ passes3 rows bodies (tableLengths (now (numbers .entry)) (now (words .entry)) (now (masses .entry)) (now (multipliers .entry)))
-        (workLengths (now (jacobians .entry)) (now (links .entry)) (now («mass_sizes» .entry)) (now («multiplier_sizes» .entry)) (now (impulses .entry)) (now (responses .entry)) (now (values .entry)) (now (sizes .entry))) ⌝ }
-{
-    let n = rows as usize;
-    let b = bodies as usize;
-    let table = table_fits(n, b, numbers, words, masses, multipliers);
-    let work = work_fits(
-        n,
-        b,
-        jacobians,
-        links,
-        mass_sizes,
-        multiplier_sizes,
-        impulses,
-        responses,
-        values,
-        sizes,
-    );
-    counts_fit(rows, bodies) & table & work
 }
 
 // Are the joints closed by these multipliers, the gains since the errors were measured? Refusals 3, 4, 6, 7 and 18.
@@ -142,22 +99,23 @@ pub fn closing_check(
         (now (jacobians .entry)) (now (links .entry)) (now («mass_sizes» .entry)) (now («multiplier_sizes» .entry)) (now (impulses .entry)) (now (responses .entry)) (now (values .entry)) (now (sizes .entry))
         (now (jacobians .exit)) (now (links .exit)) (now («mass_sizes» .exit)) (now («multiplier_sizes» .exit)) (now (impulses .exit)) (now (responses .exit)) (now (values .exit)) (now (sizes .exit)) ⌝ }
 {
-    if !fits(
-        rows,
-        bodies,
-        numbers,
-        words,
-        masses,
-        multipliers,
-        jacobians,
-        links,
-        mass_sizes,
-        multiplier_sizes,
-        impulses,
-        responses,
-        values,
-        sizes,
-    ) {
+    let table = TableLengths {
+        numbers: numbers.len(),
+        words: words.len(),
+        masses: masses.len(),
+        multipliers: multipliers.len(),
+    };
+    let work = WorkLengths {
+        jacobians: jacobians.len(),
+        links: links.len(),
+        mass_sizes: mass_sizes.len(),
+        multiplier_sizes: multiplier_sizes.len(),
+        impulses: impulses.len(),
+        responses: responses.len(),
+        values: values.len(),
+        sizes: sizes.len(),
+    };
+    if !fits(rows, bodies, table, work) {
         return CheckAnswer::Refused(3);
     }
     let answer = judged_check(

@@ -1,0 +1,67 @@
+-- Document 01, "The closing check", in doubles: the measured gap, its radius and the verdict. `x i` is the listed multiplier of row i.
+use Prim.Native.Nat.{ℕ, _+_}
+use mathlib.Core.Bool.{Bool}
+use lib.IntN.{pos}
+use lib.Ieee.{Float, binary64, add, sub, mul, neg, le, ofInt, ofBits}
+use Rattle.loops.specs.Every.{every}
+use Rattle.binary64.specs.Order.{absolute}
+use Rattle.kapitsa_math.specs.Vector.{absOf}
+use Rattle.kapitsa_math.specs.Matrix.{absColumnsOf}
+use Rattle.kapitsa_joint.specs.Table.{Table}
+use Rattle.kapitsa_joint.specs.declared.row.RowJacobian.{RowJacobian}
+use Rattle.kapitsa_joint.specs.declared.mass.SolverMass.{SolverMass}
+use Rattle.mass_operator.specs.System.{System, systemOf}
+use Rattle.mass_operator.specs.Operator.{valueAt}
+
+-- ---- "with every input replaced by its size"
+unfoldable pub sizeOfRow : RowJacobian → RowJacobian
+sizeOfRow j = record { «linear_a» = absOf (j .«linear_a»); «angular_a» = absOf (j .«angular_a»); «linear_b» = absOf (j .«linear_b»); «angular_b» = absOf (j .«angular_b»); «body_a» = j .«body_a»; «body_b» = j .«body_b» }
+
+unfoldable pub sizeOfMass : SolverMass → SolverMass
+sizeOfMass m = record { «inverse_mass» = absolute (m .«inverse_mass»); «inverse_inertia» = absColumnsOf (m .«inverse_inertia») }
+
+abbrev pub sizesOf : System → System
+sizesOf s = record { rows = s .rows; bodies = s .bodies; jacobian = λ i. sizeOfRow (s .jacobian i); mass = λ b. sizeOfMass (s .mass b) }
+
+-- ---- one row's numbers, from its error, its value and its value on sizes
+-- "Measured r = (−error) − value."
+unfoldable pub measuredOf : Float → Float → Float
+measuredOf error value = sub binary64 (neg error) value
+
+-- "W is |error| plus the value with every input replaced by its size."
+unfoldable pub weightOf : Float → Float → Float
+weightOf error size = add binary64 (absolute error) size
+
+-- 2 ^ -51
+abbrev pub tick : Float
+tick = ofBits binary64 0x3cc0_0000_0000_0000
+
+-- "(n+16) × 2^-51"
+unfoldable pub radiusFactor : ℕ → Float
+radiusFactor n = mul binary64 (ofInt binary64 (pos (n + 16))) tick
+
+-- "Radius E = W × ((n+16) × 2^-51)."
+unfoldable pub radiusOf : ℕ → Float → Float → Float
+radiusOf n error size = mul binary64 (weightOf error size) (radiusFactor n)
+
+-- a row's reach, "rounded |r| + E"
+unfoldable pub reachOf : ℕ → Float → Float → Float → Float
+reachOf n error value size = add binary64 (absolute (measuredOf error value)) (radiusOf n error size)
+
+-- ---- of row i of a table
+module _ (t : Table) (x : ℕ → Float) where
+  unfoldable pub valueOf : ℕ → Float
+  valueOf i = valueAt (systemOf t) x i
+
+  unfoldable pub sizeOf : ℕ → Float
+  sizeOf i = valueAt (sizesOf (systemOf t)) (λ k. absolute (x k)) i
+
+  unfoldable pub radius : ℕ → Float
+  radius i = radiusOf (t .rows) (t .row i .scalars .error) (sizeOf i)
+
+  unfoldable pub reach : ℕ → Float
+  reach i = reachOf (t .rows) (t .row i .scalars .error) (valueOf i) (sizeOf i)
+
+  -- "Closed exactly when each rounded |r| + E ≤ tolerance."
+  unfoldable pub closes : Bool
+  closes = every (λ i. le (reach i) (t .tolerance i)) (t .rows)

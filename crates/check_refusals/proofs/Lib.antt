@@ -1,0 +1,2 @@
+-- The ways through the tests that are judged in order.
+pub mod Judgement

@@ -1,0 +1,63 @@
+// Refusal 3: the counts, and the lengths of what is lent.
+ghost use mathlib.Core.Path.{_≡_};
+ghost use Prim.Native.Nat.{_<_};
+ghost use Rattle.check_refusals.specs.Refusals.{countsFit, tableFits, workFits, passes3};
+
+// What is given.
+pub struct TableLengths {
+    pub numbers: usize,
+    pub words: usize,
+    pub masses: usize,
+    pub multipliers: usize,
+}
+
+// The work memory.
+pub struct WorkLengths {
+    pub jacobians: usize,
+    pub links: usize,
+    pub mass_sizes: usize,
+    pub multiplier_sizes: usize,
+    pub impulses: usize,
+    pub responses: usize,
+    pub values: usize,
+    pub sizes: usize,
+}
+
+fn counts_fit(rows: u32, bodies: u32) -> bool
+    ensures { λ r. ⌜ r ≡ countsFit rows bodies ⌝ }
+{
+    (rows <= 512) & (bodies <= 256)
+}
+
+fn table_fits(n: usize, b: usize, lengths: TableLengths) -> bool
+    requires { ⌜ (n < 4294967296) × (b < 4294967296) ⌝ }
+    ensures { λ r. ⌜ r ≡ tableFits n b lengths ⌝ }
+{
+    (lengths.numbers == 27 * n)
+        & (lengths.words == 8 * n)
+        & (lengths.masses == 10 * b)
+        & (lengths.multipliers == n)
+}
+
+fn work_fits(n: usize, b: usize, lengths: WorkLengths) -> bool
+    requires { ⌜ (n < 4294967296) × (b < 4294967296) ⌝ }
+    ensures { λ r. ⌜ r ≡ workFits n b lengths ⌝ }
+{
+    (lengths.jacobians == 12 * n)
+        & (lengths.links == 2 * n)
+        & (lengths.mass_sizes == 10 * b)
+        & (lengths.multiplier_sizes == n)
+        & (lengths.impulses == 6 * b)
+        & (lengths.responses == 6 * b)
+        & (lengths.values == n)
+        & (lengths.sizes == n)
+}
+
+// The counts and every length.
+pub fn fits(rows: u32, bodies: u32, table: TableLengths, work: WorkLengths) -> bool
+    ensures { λ r. ⌜ r ≡ passes3 rows bodies table work ⌝ }
+{
+    let n = rows as usize;
+    let b = bodies as usize;
+    counts_fit(rows, bodies) & table_fits(n, b, table) & work_fits(n, b, work)
+}

@@ -1,0 +1,47 @@
+// Refusals 4, 6, 7 and 18, in this order.
+ghost use mathlib.Core.Path.{_≡_};
+ghost use Prim.Native.Nat.{_*_, _≤_};
+ghost use lib.ListN.{length};
+ghost use Rattle.kapitsa_joint.specs.Table.{tableOf};
+ghost use Rattle.mass_operator.specs.Flat.{coefficients};
+ghost use Rattle.check_refusals.specs.Judged.{judgedOf};
+use check_range::table_in_range;
+use joint_refusals::masses_finite;
+use joint_refusals::rows_valid;
+use joint_refusals::words_fit;
+use kapitsa_joint::JointTolerance;
+
+pub enum TableJudged {
+    Passed,
+    Refused(u32),
+}
+
+// The tolerance is not judged: it is here so that the contract can name the table.
+pub fn judge_table(
+    rows: u32,
+    bodies: u32,
+    numbers: &[f64],
+    words: &[u32],
+    masses: &[f64],
+    multipliers: &[f64],
+    tolerance: JointTolerance,
+) -> TableJudged
+    requires { ⌜ (27 * rows ≤ length (now numbers)) × (8 * rows ≤ length (now words)) × (10 * bodies ≤ length (now masses)) × (rows ≤ length (now multipliers)) ⌝ }
+    ensures { λ r. ⌜ r ≡ judgedOf (tableOf rows bodies (now (numbers .entry)) (now (words .entry)) (now (masses .entry)) tolerance) (coefficients (now (multipliers .entry))) ⌝ }
+{
+    let n = rows as usize;
+    let b = bodies as usize;
+    if !words_fit(words, n) {
+        return TableJudged::Refused(4);
+    }
+    if !masses_finite(masses, b) {
+        return TableJudged::Refused(6);
+    }
+    if !rows_valid(numbers, words, n, bodies) {
+        return TableJudged::Refused(7);
+    }
+    if !table_in_range(numbers, words, masses, multipliers, n, b) {
+        return TableJudged::Refused(18);
+    }
+    TableJudged::Passed
+}

@@ -1,0 +1,2 @@
+-- What the operator leaves in the work memory.
+pub mod Lent

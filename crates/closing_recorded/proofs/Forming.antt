@@ -1,0 +1,63 @@
+-- The ways of `well_formed`, and what it tells of a case. Assumes nothing.
+use Prim.Native.Nat.{ℕ, _+_, _*_, _<_, _≤_}
+use mathlib.Core.Path.{_≡_, refl, sym, ap, _∙_}
+use mathlib.Core.Bool.{Bool, true, false, not, true≢false}
+use mathlib.Core.List.{List}
+use lib.Dec.{leb, eqb}
+use lib.ListN.{length}
+use borrow.Author.Needs.{needs}
+use borrow.Author.Tests.{not-true, not-false, le-leb, lt-leb, leb-true, eqb-true}
+use Rattle.loops.specs.Run.{check}
+use Rattle.little_endian.specs.Words.{wordAt}
+use Rattle.closing_recorded.specs.Case.{wellFormed, Formed, seenIn, seenOf}
+use Rattle.closing_recorded.specs.Tally.{malformed}
+use Rattle.closing_recorded.specs.declared.tally.Seen.{Seen}
+
+module _ (case : List ℕ) where
+  pub short-case : length case < 48 → false ≡ wellFormed case
+  unfolding wellFormed check
+  short-case h = rw (lt-leb 48 (length case) h)
+
+  module _ (h : 48 ≤ length case) {n b : ℕ} (p : n ≡ wordAt case 8) (q : b ≡ wordAt case 16) where
+    pub many-rows : 8 < n → false ≡ wellFormed case
+    unfolding wellFormed check
+    many-rows l = rw (le-leb 48 (length case) h, ← p, lt-leb n 8 l)
+
+    pub many-bodies : n ≤ 8 → 4 < b → false ≡ wellFormed case
+    unfolding wellFormed check
+    many-bodies l m = rw (le-leb 48 (length case) h, ← p, le-leb n 8 l, ← q, lt-leb b 4 m)
+
+    pub whole-case : n ≤ 8 → b ≤ 4 → eqb (length case) (48 + 288 * n + 80 * b) ≡ wellFormed case
+    unfolding wellFormed check
+    whole-case l m = rw (le-leb 48 (length case) h, ← p, le-leb n 8 l, ← q, le-leb b 4 m)
+
+pub ruleset forming = (short-case, many-rows, many-bodies, whole-case, needs)
+
+-- ---- a well-formed case
+both : (a b : Bool) → check a b false ≡ true → (a ≡ true) × (b ≡ true)
+unfolding check
+both true b h = (refl, h)
+both false b h = absurd (true≢false (sym h))
+
+pub formed-of : (case : List ℕ) {r : Bool} {n b : ℕ} → r ≡ wellFormed case → not r ≡ false → n ≡ wordAt case 8 → b ≡ wordAt case 16 → Formed case n b
+unfolding wellFormed
+formed-of case {r} {n} {b} e t p q =
+    let long = eqb (length case) (48 + 288 * wordAt case 8 + 80 * wordAt case 16) in
+    let (_, x) = both (leb 48 (length case)) (check (leb (wordAt case 8) 8) (check (leb (wordAt case 16) 4) long false) false) (sym e ∙ not-false r t) in
+    let (y, z) = both (leb (wordAt case 8) 8) (check (leb (wordAt case 16) 4) long false) x in
+    let (u, v) = both (leb (wordAt case 16) 4) long z in
+    rw (p, q) (record { rows = leb-true (wordAt case 8) 8 y; bodies = leb-true (wordAt case 16) 4 u; long = eqb-true (length case) (48 + 288 * wordAt case 8 + 80 * wordAt case 16) v })
+
+-- at least its first six words
+pub formed-head : (case : List ℕ) {r : Bool} → r ≡ wellFormed case → not r ≡ false → 48 ≤ length case
+unfolding wellFormed
+formed-head case {r} e t = leb-true 48 (length case) (both (leb 48 (length case)) _ (sym e ∙ not-false r t) .0)
+
+module _ (case : List ℕ) {r : Bool} (e : r ≡ wellFormed case) {s : Seen} where
+  pub replay-none : not r ≡ true → s ≡ malformed → s ≡ seenOf case
+  unfolding seenOf check
+  replay-none t p = rw (← e, not-true r t) p
+
+  pub replay-seen : not r ≡ false → {n b : ℕ} → n ≡ wordAt case 8 → b ≡ wordAt case 16 → s ≡ seenIn case n b → s ≡ seenOf case
+  unfolding seenOf check
+  replay-seen t {n} {b} p q h = rw (← e, not-false r t, ← p, ← q) h

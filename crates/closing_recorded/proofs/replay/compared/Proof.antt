@@ -1,0 +1,13 @@
+-- `closing_recorded::replay::compared` meets its contract. Assumes nothing.
+use borrow.Author.Needs.{needs}
+use Rattle.closing_recorded.specs.Case.{comparedOf}
+use Rattle.closing_recorded.proofs.replay.compared.Statement.{statement}
+use Rattle.closing_recorded.proofs.replay.compared.Tie as tie
+
+pub compared-spec : {M : Type 1} → statement M
+unfolding comparedOf
+compared-spec =
+    tie.close
+    (tie.spec
+    (λ c. search needs)  -- cast-same
+    (λ c. search needs))  -- returns

@@ -1,0 +1,30 @@
+-- `closing_recorded::replay::read_in` meets its contract. Assumes nothing.
+use borrow.Author.Needs.{needs}
+use Rattle.closing_recorded.proofs.Reading.{seen-in}
+use Rattle.closing_recorded.proofs.replay.read_in.Statement.{statement}
+use Rattle.closing_recorded.proofs.replay.read_in.Tie as tie
+
+pub read-in-spec : {M : Type 1} → statement M
+read-in-spec =
+    tie.close
+    (tie.spec
+    (λ c. search needs)  -- mul-at
+    (λ c. search needs)  -- add-at
+    (λ c κs. search needs)  -- double-requires
+    (λ c κs. search needs)  -- double-requires-2
+    (λ c κs. search needs)  -- word-requires
+    (λ c κs. search needs)  -- read-doubles-requires
+    (λ c. search needs)  -- mul-read-halves
+    (λ c. search needs)  -- add-read-halves
+    (λ c κs. search needs)  -- read-halves-requires
+    (λ c κs. search needs)  -- read-doubles-requires-2
+    (λ c. search needs)  -- mul-read-doubles
+    (λ c. search needs)  -- add-read-doubles
+    (λ c κs. search needs)  -- read-doubles-requires-3
+    (λ c κs. search needs)  -- checked-requires
+    (λ c κs. search needs)  -- compared-requires
+    (λ c. (c .before .before .before .before .before .before .before .before .before .before .before .before .before .before .before .before .before .before .before .numbers) .given)  -- same-length
+    (λ c. (c .before .before .before .before .before .before .before .before .before .before .before .before .before .before .before .words) .given)  -- same-length-2
+    (λ c. (c .before .before .before .before .before .before .before .before .before .before .before .masses) .given)  -- same-length-3
+    (λ c. (c .before .before .before .before .before .before .before .multipliers) .given)  -- same-length-4
+    (λ c. seen-in _ _ _ ((c .before .before .before .before .before .before .before .before .before .before .before .before .before .before .before .before .before .before .before .before .before .before .before .before .before .before .before .before .before .before) .pre .1 .0) ((c .before .before .before .before .before .before .before .before .before .before .before .before .before .before .before .before .before .before .before .before .before .before .before .before .before .before .before .before .before .before) .pre .1 .1) ((c .before .before .before .before .before .before .before .before .before .before .before .before .before .before .before .before .before .before .before .before .before .before .before .before .before .before .before .before .before .before) .pre .1 .2) ((c .before .before .before .before .before .before .before .before .before .before .before .before .before .before .before .before .before .before .before .before .before .before .before .before .before .before .before .before .before .before) .pre .1 .3) ((c .before .before .before .before .before .before .before .before .before .before .before .before .before .before .before .before .before .before .before .before .read-doubles) .ensures) ((c .before .before .before .before .before .before .before .before .before .before .before .before .before .before .before .before .read-halves) .ensures) ((c .before .before .before .before .before .before .before .before .before .before .before .before .read-doubles2) .ensures) ((c .before .before .before .before .before .before .before .before .read-doubles3) .ensures) ((c .before .before .before .before .before .before .before .before .before .before .before .before .before .before .before .before .before .before .before .before .before .before .before .before .double) .ensures) ((c .before .before .before .before .before .before .before .before .before .before .before .before .before .before .before .before .before .before .before .before .before .before .before .double2) .ensures) ((c .before .checked) .ensures) ((c .before .before .before .before .before .before .before .before .before .before .before .before .before .before .before .before .before .before .before .before .before .before .word) .ensures) ((c .compared) .ensures)))  -- returns

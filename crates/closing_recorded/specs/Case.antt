@@ -1,0 +1,41 @@
+-- A recorded check in its bytes. oracle/closing/record.py: "A check is a run of 64-bit words, little end first: its length in bytes, rows n, bodies b, the linear and the angular tolerance, the answer (0 open, 1 closed, else the refusal's number), 27n row numbers, 8n row words, 10b mass numbers, n multipliers."
+use Prim.Native.Nat.{ℕ, _+_, _*_, _≤_}
+use mathlib.Core.Path.{_≡_}
+use mathlib.Core.Bool.{Bool, true, false, _&&_}
+use mathlib.Core.List.{List}
+use lib.Dec.{leb, eqb}
+use lib.ListN.{length}
+use Rattle.loops.specs.Run.{check}
+use Rattle.little_endian.specs.Words.{wordAt, doubleAt, doublesAt, halvesAt}
+use Rattle.kapitsa_joint.specs.declared.tolerance.JointTolerance.{JointTolerance}
+use Rattle.small_check.specs.Checked.{checkedOf}
+use Rattle.small_check.specs.declared.check.Found.{Found}
+use Rattle.closing_recorded.specs.Tally.{malformed}
+use Rattle.closing_recorded.specs.declared.tally.Seen.{Seen}
+
+-- at most 8 rows and 4 bodies, and as long as they make it
+unfoldable pub wellFormed : List ℕ → Bool
+wellFormed case = check (leb 48 (length case)) (check (leb (wordAt case 8) 8) (check (leb (wordAt case 16) 4) (eqb (length case) (48 + 288 * wordAt case 8 + 80 * wordAt case 16)) false) false) false
+
+-- the same as facts, of the counts n and b
+pub record Formed (case : List ℕ) (n b : ℕ) : Type 0 where
+  pub rows : n ≤ 8
+  pub bodies : b ≤ 4
+  pub long : length case ≡ 48 + 288 * n + 80 * b
+
+abbrev pub toleranceIn : List ℕ → JointTolerance
+toleranceIn case = record { «linear_m» = doubleAt case 24; «angular_rad» = doubleAt case 32 }
+
+-- beside the recorded answer
+unfoldable pub comparedOf : Found → ℕ → Seen
+comparedOf found recorded = record { answer = found .answer; same = found .cleared && eqb (found .answer) recorded }
+
+-- what a case of n rows and b bodies shows: the definition's answer beside the recorded one
+unfoldable pub seenIn : List ℕ → ℕ → ℕ → Seen
+seenIn case n b =
+    comparedOf
+    (checkedOf n b (doublesAt case 48 (27 * n)) (halvesAt case (48 + 216 * n) (8 * n)) (doublesAt case (48 + 280 * n) (10 * b)) (doublesAt case (48 + 280 * n + 80 * b) n) (toleranceIn case))
+    (wordAt case 40)
+
+unfoldable pub seenOf : List ℕ → Seen
+seenOf case = check (wellFormed case) (seenIn case (wordAt case 8) (wordAt case 16)) malformed

@@ -1,0 +1,102 @@
+// One case: its table read out of its bytes, the check run on it, its answer beside the recorded one.
+ghost use mathlib.Core.Path.{_≡_};
+ghost use Prim.Native.Nat.{_*_};
+ghost use lib.ListN.{length};
+ghost use Rattle.closing_recorded.specs.Case.{wellFormed, Formed, comparedOf, seenIn, seenOf};
+use crate::tally::Seen;
+use kapitsa_joint::JointTolerance;
+use little_endian::double;
+use little_endian::read_doubles;
+use little_endian::read_halves;
+use little_endian::word;
+use small_check::Found;
+use small_check::checked;
+
+// At most 8 rows and 4 bodies, and all of their words.
+fn well_formed(case: &[u8]) -> bool
+    ensures { λ r. ⌜ r ≡ wellFormed (now (case .entry)) ⌝ }
+{
+    if case.len() < 48 {
+        return false;
+    }
+    let n = word(case, 8);
+    let b = word(case, 16);
+    if 8 < n {
+        return false;
+    }
+    if 4 < b {
+        return false;
+    }
+    case.len() as u64 == 48 + 288 * n + 80 * b
+}
+
+fn compared(found: Found, recorded: u64) -> Seen
+    ensures { λ r. ⌜ r ≡ comparedOf found recorded ⌝ }
+{
+    let same = found.answer as u64 == recorded;
+    Seen {
+        answer: found.answer,
+        same: found.cleared & same,
+    }
+}
+
+// The slices are as long as the table.
+fn read_in(
+    case: &[u8],
+    n: u32,
+    b: u32,
+    numbers: &mut [f64],
+    words: &mut [u32],
+    masses: &mut [f64],
+    multipliers: &mut [f64],
+) -> Seen
+    requires { ⌜ Formed (now case) n b ⌝ }
+    requires { ⌜ (length (now numbers) ≡ 27 * n) × (length (now words) ≡ 8 * n) × (length (now masses) ≡ 10 * b) × (length (now multipliers) ≡ n) ⌝ }
+    ensures { λ r. ⌜ r ≡ seenIn (now (case .entry)) n b ⌝ }
+{
+    let rows = n as usize;
+    let at = 48 + 280 * rows;
+    let tolerance = JointTolerance {
+        linear_m: double(case, 24),
+        angular_rad: double(case, 32),
+    };
+    let recorded = word(case, 40);
+    read_doubles(case, 48, numbers);
+    read_halves(case, 48 + 216 * rows, words);
+    read_doubles(case, at, masses);
+    read_doubles(case, at + 80 * b as usize, multipliers);
+    let found = checked(n, b, numbers, words, masses, multipliers, tolerance);
+    compared(found, recorded)
+}
+
+fn read(case: &[u8], n: u32, b: u32) -> Seen
+    requires { ⌜ Formed (now case) n b ⌝ }
+    ensures { λ r. ⌜ r ≡ seenIn (now (case .entry)) n b ⌝ }
+{
+    let mut numbers: [f64; 216] = [0.0; 216];
+    let mut words: [u32; 64] = [0; 64];
+    let mut masses: [f64; 40] = [0.0; 40];
+    let mut multipliers: [f64; 8] = [0.0; 8];
+    let rows = n as usize;
+    let row_numbers = 27 * rows;
+    let row_words = 8 * rows;
+    let mass_numbers = 10 * b as usize;
+    read_in(
+        case,
+        n,
+        b,
+        &mut numbers[..row_numbers],
+        &mut words[..row_words],
+        &mut masses[..mass_numbers],
+        &mut multipliers[..rows],
+    )
+}
+
+pub fn replay(case: &[u8]) -> Seen
+    ensures { λ r. ⌜ r ≡ seenOf (now (case .entry)) ⌝ }
+{
+    if !well_formed(case) {
+        return Seen::malformed();
+    }
+    read(case, word(case, 8) as u32, word(case, 16) as u32)
+}

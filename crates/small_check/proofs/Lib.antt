@@ -1,0 +1,2 @@
+-- What cleared work memory shows, and what a check that fits answers.
+pub mod Clearing

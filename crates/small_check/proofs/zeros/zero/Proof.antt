@@ -1,0 +1,13 @@
+-- `small_check::zeros::zero` meets its contract. Assumes nothing.
+use borrow.Author.Needs.{needs}
+use Rattle.small_check.specs.Checked.{zeroOf}
+use Rattle.small_check.proofs.zeros.zero.Statement.{statement}
+use Rattle.small_check.proofs.zeros.zero.Tie as tie
+
+pub zero-spec : {M : Type 1} → statement M
+unfolding zeroOf
+zero-spec =
+    tie.close
+    (tie.spec
+    (λ c κs. search needs)  -- to-bits-requires
+    (λ c. rw ((c .to-bits) .ensures .0)))  -- returns
