@@ -9,7 +9,8 @@ use native.Mathlib.Omega.{arith}
 use lib.Dec.{eqb}
 use lib.ListN.{getD, length}
 use borrow.Author.Tests.{eq-eqb, ne-eqb}
-use Rattle.block_jacobi.specs.Runs.{leading, runLength}
+use Rattle.block_jacobi.specs.Runs.{leading, runLength, RunIs}
+use Rattle.block_jacobi.proofs.RunsOf.{run-is}
 
 abbrev owned : List ℕ → ℕ → ℕ → Bool
 owned l start k = eqb (getD l (start + k) 0) (getD l start 0)
@@ -33,10 +34,10 @@ owned-stop l start n k h lt e = le-ind (λ m. leading (λ k. eqb (getD l (start 
     (rw (h .led, eq-eqb k k refl, ne-eqb (getD l (start + k) 0) (getD l start 0) e))
     (λ m b q. rw (q, ne-eqb k m (λ z. omega arith))) n lt
 
-pub run-stop : (l : List ℕ) (start n k : ℕ) → Owned l start n k → k < n → (getD l (start + k) 0 ≡ getD l start 0 → ⊥) → n ≡ length l - start → k ≡ runLength (λ i. getD l i 0) start (length l)
+pub run-stop : (l : List ℕ) (start n k : ℕ) → start < length l → Owned l start n k → k < n → (getD l (start + k) 0 ≡ getD l start 0 → ⊥) → n ≡ length l - start → RunIs (λ i. getD l i 0) start (length l) k
 unfolding runLength
-run-stop l start n k h lt e en = rw (← en) (sym (owned-stop l start n k h lt e))
+run-stop l start n k s h lt e en = run-is (λ i. getD l i 0) start (length l) k s (rw (← en) (sym (owned-stop l start n k h lt e)))
 
-pub run-end : (l : List ℕ) (start n k : ℕ) → Owned l start n k → n ≤ k → n ≡ length l - start → k ≡ runLength (λ i. getD l i 0) start (length l)
+pub run-end : (l : List ℕ) (start n k : ℕ) → start < length l → Owned l start n k → n ≤ k → n ≡ length l - start → RunIs (λ i. getD l i 0) start (length l) k
 unfolding runLength
-run-end l start n k h le en = let e : k ≡ n = omega (arith, h .within) in rw (← en) (e ∙ sym (rw e at (h .led)))
+run-end l start n k s h le en = let e : k ≡ n = omega (arith, h .within) in run-is (λ i. getD l i 0) start (length l) k s (rw (← en) (e ∙ sym (rw e at (h .led))))

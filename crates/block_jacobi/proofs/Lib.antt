@@ -1,4 +1,8 @@
 -- Laws of the blocks.
-pub mod Cells
-pub mod Stretches
 pub mod Leading
+pub mod RunsOf
+pub mod RowPairs
+pub mod Solving
+pub mod Turned
+pub mod BlocksHeld
+pub mod Stores

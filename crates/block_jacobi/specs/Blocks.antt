@@ -1,48 +1,51 @@
--- Mode 2. Document 01, "Blocks: runs of equal owner, at most 6 rows, all on one body_a and one body_b; the first row of a run that leaves its body pair ends the whole block test.
--- The 36-number lower triangle of one block has row stride 6. Block values, diagonal ones too, are formed afresh: cross at body_a plus cross at body_b, higher row first; a replaced diagonal is not used."
--- pcg.rs, build_velocity_block_jacobi_preconditioner. A Run that has ended carries document 01's number.
+-- Mode 2: the factors of all blocks, run by run, and the solves with them. pcg.rs, build_velocity_block_jacobi_preconditioner, apply_block_jacobi_preconditioner.
+-- "the first row of a run that leaves its body pair ends the whole block test": a Run that has ended carries document 01's number, and the blocks as they then stand.
 use Prim.Native.Nat.{ℕ, _+_, _*_}
-use mathlib.Core.Bool.{Bool, not, _&&_, cond}
-use mathlib.Core.List.{List}
-use lib.Dec.{eqb}
-use lib.ListN.{getD, set, replicate}
-use lib.Ieee.{Float, nan, binary64, add, sub, mul, div, le}
-use lib.Ieee.Scale.{finite}
-use Rattle.loops.specs.Run.{Run, going, ended, turns, check}
-use Rattle.loops.specs.Cleared.{plusZero}
-use Rattle.binary64.specs.Order.{minPositive}
-use Rattle.binary64.specs.Answer.{rootOf}
-use Rattle.kapitsa_joint.specs.Mass.{crossOf}
-use Rattle.kapitsa_joint.specs.declared.row.RowJacobian.{RowJacobian}
-use Rattle.kapitsa_joint.specs.declared.mass.SolverMass.{SolverMass}
+use mathlib.Core.List.{List, _++_}
+use lib.ListN.{length, take, drop}
+use lib.Ieee.{Float}
+use Rattle.loops.specs.Run.{Run, going, ended, on, turns, check}
 use Rattle.mass_operator.specs.System.{System}
-use Rattle.sparse.specs.Count.{count}
-use Rattle.sparse.specs.Cholesky.{rootValue}
+use Rattle.block_factor.specs.Answers.{blockOf}
+use Rattle.block_factor.specs.Solves.{blockSolveRun}
+use Rattle.block_jacobi.specs.Runs.{begins, runLength}
+use Rattle.block_jacobi.specs.declared.build.Blocked.{Blocked}
+use Rattle.block_jacobi.specs.declared.build.Blocked.the-variants as blocked
 
--- "cross at body_a plus cross at body_b, higher row first": p is the higher row, or the row itself
-unfoldable pub blockValue : (ℕ → SolverMass) → RowJacobian → RowJacobian → Float
-blockValue mass p q =
-    add binary64 (crossOf (mass (p .«body_a»)) (p .«linear_a») (p .«angular_a») (q .«linear_a») (q .«angular_a»))
-    (crossOf (mass (p .«body_b»)) (p .«linear_b») (p .«angular_b») (q .«linear_b») (q .«angular_b»))
+-- ---- a stretch of a lent list, and that list with z in its place
+unfoldable pub stretch : List Float → ℕ → ℕ → List Float
+stretch l start len = take len (drop start l)
 
--- "all on one body_a and one body_b"
-unfoldable pub onePair : RowJacobian → RowJacobian → Bool
-onePair p q = eqb (p .«body_a») (q .«body_a») && eqb (p .«body_b») (q .«body_b»)
+unfoldable pub putStretch : List Float → ℕ → ℕ → List Float → List Float
+putStretch l start len z = take start l ++ (z ++ drop len (drop start l))
 
--- the value v less the products over the earlier columns, ascending: the numbers of row r are from 6 r on
-unfoldable pub lessTurn : List Float → ℕ → ℕ → ℕ → Float → Float
-lessTurn l row column k v = sub binary64 v (mul binary64 (getD l (row * 6 + k) nan) (getD l (column * 6 + k) nan))
+-- the 36 numbers of the block whose first row is `start`
+unfoldable pub blockIn : List Float → ℕ → List Float
+blockIn l start = stretch l (36 * start) 36
 
-unfoldable pub lessOf : List Float → ℕ → ℕ → Float → Float
-lessOf l row column v = count (lessTurn l row column) v column
+unfoldable pub putBlock : List Float → ℕ → List Float → List Float
+putBlock l start b = putStretch l (36 * start) 36 b
 
--- a number of the factor from its value: "13. A pivot is ... at most MIN, or a factor is not finite."
-unfoldable pub pivotOf : Float → Run Float ℕ
-pivotOf v = check (not (le v minPositive)) (going (rootValue (rootOf v))) (ended 13)
+-- ---- the factors
 
-unfoldable pub factorOf : Float → Float → Run Float ℕ
-factorOf v d = check (finite (div binary64 v d)) (going (div binary64 v d)) (ended 13)
+-- row i: where a run begins there, its block is made and kept
+unfoldable pub blockTurn : System → (ℕ → ℕ) → ℕ → List Float → Run (List Float) (ℕ × List Float)
+blockTurn s owner i l = check (begins owner i) (on (blockOf s i (runLength owner i (s .rows))) (λ b. going (putBlock l i b)) (λ number. ended (number, l))) (going l)
 
--- "12. ... a block value after its subtractions, is not finite", and then 13
-unfoldable pub cellOf : List Float → ℕ → ℕ → Float → Run Float ℕ
-cellOf l row column v = check (finite v) (cond (eqb row column) (pivotOf v) (factorOf v (getD l (column * 6 + column) nan))) (ended 12)
+unfoldable pub blocksRun : System → (ℕ → ℕ) → List Float → Run (List Float) (ℕ × List Float)
+blocksRun s owner l = turns (blockTurn s owner) l (s .rows)
+
+abbrev pub blockedOut : Blocked → List Float → Run (List Float) (ℕ × List Float)
+blockedOut blocked.Done l = going l
+blockedOut (blocked.Refused number) l = ended (number, l)
+
+-- ---- the solves
+
+-- row i: where a run begins there, its block is solved on its own stretch; not finite: 16
+unfoldable pub solveTurn : (ℕ → List Float) → (ℕ → ℕ) → List Float → ℕ → List Float → Run (List Float) (List Float)
+solveTurn block owner residual i y =
+    let len = runLength owner i (length residual) in
+    check (begins owner i) (on (blockSolveRun (block i) (stretch residual i len) (stretch y i len)) (λ z. going (putStretch y i len z)) (λ z. ended (putStretch y i len z))) (going y)
+
+unfoldable pub blocksSolveRun : (ℕ → List Float) → (ℕ → ℕ) → List Float → List Float → Run (List Float) (List Float)
+blocksSolveRun block owner residual y = turns (solveTurn block owner residual) y (length residual)

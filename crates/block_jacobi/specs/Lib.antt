@@ -1,4 +1,2 @@
-pub mod Blocks
-pub mod Solves
-pub mod Answers
 pub mod Runs
+pub mod Blocks

@@ -14,8 +14,8 @@ use Rattle.kapitsa_math.specs.declared.vector.Vec3.{Vec3}
 use Rattle.kapitsa_joint.specs.Mass.{massOf, crossOf}
 use Rattle.kapitsa_joint.specs.declared.row.RowJacobian.{RowJacobian}
 use Rattle.kapitsa_joint.specs.declared.mass.SolverMass.{SolverMass}
-use Rattle.mass_operator.specs.Compact.{compactOf}
-use Rattle.mass_operator.specs.Lent.{Linked}
+use Rattle.compact_table.specs.Compact.{compactOf}
+use Rattle.compact_table.specs.Compact.{Linked}
 use Rattle.pairs.specs.Pairs.{armOf, crossAt, sumOf, pairOf}
 use Rattle.pairs.specs.Gather.{crossedOut, numberOf}
 use Rattle.pairs.specs.declared.cross.Crossed.{Crossed}

@@ -2,3 +2,5 @@
 pub mod Crosses
 pub mod Parts
 pub mod Places
+pub mod Limit
+pub mod Tested

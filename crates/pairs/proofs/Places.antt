@@ -15,12 +15,13 @@ use lib.Ieee.Scale.{finite}
 use borrow.Author.Tests.{lt-ltb, le-ltb, not-true, not-false, ltb-true, ltb-false}
 use Rattle.loops.specs.Run.{check}
 use Rattle.loops.specs.Every.{every}
+use Rattle.loops.specs.Cleared.{clearedWords}
 use Rattle.loops.proofs.Every.{every-iff}
 use Rattle.kapitsa_math.specs.declared.vector.Vec3.{Vec3}
 use Rattle.kapitsa_joint.specs.Mass.{massOf, crossOf}
 use Rattle.kapitsa_joint.specs.declared.row.RowJacobian.{RowJacobian}
 use Rattle.kapitsa_joint.specs.declared.mass.SolverMass.{SolverMass}
-use Rattle.mass_operator.specs.Compact.{compactOf}
+use Rattle.compact_table.specs.Compact.{compactOf}
 use Rattle.mass_operator.specs.System.{System, compactSystem}
 use Rattle.sparse.specs.Triangle.{Sparse}
 use Rattle.sparse.specs.Kept.{start, Rising, Missing, Kept, Row, seek, pick, numbers}
@@ -262,11 +263,13 @@ module _ (n bodies : ℕ) (jacobians : List Float) (links : List ℕ) (masses : 
   unfolding patternOf sharesOf shareIn sharesIn compactOf
   same = fun-ext (λ i. fun-ext (λ j. refl))
 
-  pub pairs-ten : (values : List Float) → r ≡ gathered.Full → PairsHeld (compactSystem n bodies jacobians links masses) (paired.Refused 10) values starts columns values
+  pub pairs-ten : (starts′ columns′ : List ℕ) (values : List Float) → r ≡ gathered.Full → length starts ≡ n + 1 → starts′ ≡ clearedWords starts → columns′ ≡ clearedWords columns
+      → PairsHeld (compactSystem n bodies jacobians links masses) (paired.Refused 10) values starts′ columns′ values
   unfolding pairedOf
-  pairs-ten values t = record {
+  pairs-ten starts′ columns′ values t l es eo = record {
     answered = rw (same, lt-ltb pairLimit (pairCount (shareIn links) n) (past-limit (shareIn links) n (omega (arith, g .full t))));
     ten = λ _. refl;
+    tenWords = λ _. (es ∙ rw l, eo ∙ rw ec);
     twelve = λ e. absurd (let z : _≡_ {A = ℕ} 10 12 = cc in omega arith);
     done = λ c e. absurd (let z : _≡_ {A = ℕ} 0 1 = cc in omega arith);
   }
@@ -288,6 +291,7 @@ module _ (n bodies : ℕ) (jacobians : List Float) (links : List ℕ) (masses : 
     pairs-twelve f = record {
       answered = rw (same, few-enough, ← judged, not-true b f);
       ten = λ e. absurd (let z : _≡_ {A = ℕ} 12 10 = cc in omega arith);
+      tenWords = λ e. absurd (let z : _≡_ {A = ℕ} 12 10 = cc in omega arith);
       twelve = λ _. held;
       done = λ c e. absurd (let z : _≡_ {A = ℕ} 0 1 = cc in omega arith);
     }
@@ -297,6 +301,7 @@ module _ (n bodies : ℕ) (jacobians : List Float) (links : List ℕ) (masses : 
     pairs-done f = record {
       answered = rw (same, few-enough, ← judged, not-false b f, ← (g .done c t .counted));
       ten = λ e. absurd (let z : _≡_ {A = ℕ} 0 1 = cc in omega arith);
+      tenWords = λ e. absurd (let z : _≡_ {A = ℕ} 0 1 = cc in omega arith);
       twelve = λ e. absurd (let z : _≡_ {A = ℕ} 0 1 = cc in omega arith);
       done = λ _ _. held;
     }

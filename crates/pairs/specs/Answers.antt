@@ -1,14 +1,15 @@
 -- Refusals 10 and 12 of the pairs, and what the lent slices then hold.
-use Prim.Native.Nat.{ℕ}
+use Prim.Native.Nat.{ℕ, _+_}
 use mathlib.Core.Path.{_≡_}
 use mathlib.Core.Bool.{cond}
 use mathlib.Core.List.{List}
 use lib.Dec.{ltb}
+use lib.ListN.{replicate}
 use lib.Ieee.{Float}
 use Rattle.loops.specs.Run.{check}
 use Rattle.mass_operator.specs.System.{System}
 use Rattle.sparse.specs.Kept.{start, Kept, numbers}
-use Rattle.pairs.specs.Pairs.{patternOf, pairCount, pairLimit, pairsOf, finitePairs}
+use Rattle.pairs.specs.Pairs.{patternOf, pairCount, pairLimit, pairRoom, pairsOf, finitePairs}
 use Rattle.pairs.specs.declared.gathering.Paired.{Paired}
 use Rattle.pairs.specs.declared.gathering.Paired.the-variants as paired
 
@@ -24,9 +25,10 @@ pub record Collected (s : System) (starts columns : List ℕ) (values : List Flo
   pub pairs : numbers starts columns values ≡ pairsOf s
   pub places : start starts (s .rows) ≡ pairCount (patternOf s) (s .rows)
 
--- After 10 no value is touched; what the starts and columns then hold is left free. After 12 the pairs stand there like after an answer that is Done.
+-- After 10 no value is touched, and starts and columns are 0. After 12 the pairs stand there like after an answer that is Done.
 pub record PairsHeld (s : System) (answer : Paired) (values₀ : List Float) (starts columns : List ℕ) (values : List Float) : Type 0 where
   pub answered : answer ≡ pairedOf s
   pub ten : answer ≡ paired.Refused 10 → values ≡ values₀
+  pub tenWords : answer ≡ paired.Refused 10 → (starts ≡ replicate (s .rows + 1) 0) × (columns ≡ replicate (pairRoom (s .rows)) 0)
   pub twelve : answer ≡ paired.Refused 12 → Collected s starts columns values
   pub done : (count : ℕ) → answer ≡ paired.Done count → Collected s starts columns values

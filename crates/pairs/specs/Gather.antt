@@ -10,7 +10,7 @@ use lib.Ieee.{Float, nan}
 use Rattle.loops.specs.Run.{check}
 use Rattle.loops.specs.Cleared.{plusZero}
 use Rattle.kapitsa_joint.specs.Mass.{massOf}
-use Rattle.mass_operator.specs.Compact.{compactOf}
+use Rattle.compact_table.specs.Compact.{compactOf}
 use Rattle.sparse.specs.Kept.{start, Rising, Missing}
 use Rattle.pairs.specs.Pairs.{rowPairs, pairCount, pairOf}
 use Rattle.pairs.specs.declared.cross.Crossed.{Crossed}

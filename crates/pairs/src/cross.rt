@@ -3,15 +3,15 @@ ghost use mathlib.Core.Path.{_≡_};
 ghost use Prim.Native.Nat.{_+_, _*_, _<_, _≤_};
 ghost use lib.ListN.{length};
 ghost use Rattle.kapitsa_joint.specs.Mass.{massOf, crossOf};
-ghost use Rattle.mass_operator.specs.Compact.{compactOf};
-ghost use Rattle.mass_operator.specs.Lent.{Linked};
+ghost use Rattle.compact_table.specs.Compact.{compactOf};
+ghost use Rattle.compact_table.specs.Compact.{Linked};
 ghost use Rattle.pairs.specs.Pairs.{armOf, crossAt, sumOf, pairOf};
 ghost use Rattle.pairs.specs.Gather.{crossedOut, numberOf, valueIn};
+use compact_table::compact_at;
 use kapitsa_joint::RowJacobian;
 use kapitsa_joint::SolverMass;
 use kapitsa_joint::mass_at;
 use kapitsa_math::Vec3;
-use mass_operator::compact_at;
 use sparse::wide;
 
 // The number of SolverMass::cross, untested: pair values are tested when all are there.

@@ -3,7 +3,7 @@ ghost use mathlib.Core.Path.{_≡_};
 ghost use Prim.Native.Nat.{_+_, _*_, _≤_};
 ghost use lib.ListN.{length};
 ghost use Rattle.mass_operator.specs.System.{compactSystem};
-ghost use Rattle.mass_operator.specs.Lent.{Linked};
+ghost use Rattle.compact_table.specs.Compact.{Linked};
 ghost use Rattle.pairs.specs.Pairs.{pairRoom};
 ghost use Rattle.pairs.specs.Answers.{PairsHeld};
 use crate::pattern::Gathered;
@@ -17,7 +17,7 @@ pub enum Paired {
     Refused(u32),
 }
 
-// Starts, columns and values of the pairs. The answer is their number, or refusal 10 or 12.
+// Starts, columns and values of the pairs. The answer is their number, or refusal 10, with starts and columns cleared, or 12.
 pub fn pairs(
     jacobians: &[f64],
     links: &[u32],
@@ -35,6 +35,8 @@ pub fn pairs(
     ensures { λ r. ⌜ PairsHeld (compactSystem rows bodies (now (jacobians .entry)) (now (links .entry)) (now (masses .entry))) r (now (values .entry)) (now (starts .exit)) (now (columns .exit)) (now (values .exit)) ⌝ }
 {
     let Gathered::Done(count) = gather(links, starts, columns, room, rows) else {
+        loops::clear_words(starts);
+        loops::clear_words(columns);
         return Paired::Refused(10);
     };
     fill_values(

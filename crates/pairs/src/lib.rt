@@ -2,8 +2,10 @@
 pub mod cross; // cross.rt: the value of one pair
 pub mod gathering; // gathering.rt: pattern and values, with refusals 10 and 12
 pub mod pattern; // pattern.rt: starts and columns
+pub mod room; // room.rt: how many places are lent
 pub mod values; // values.rt: the value of each place
 
 pub use cross::cross_value;
 pub use gathering::Paired;
 pub use gathering::pairs;
+pub use room::pair_room;

@@ -5,7 +5,7 @@ ghost use lib.ListN.{length, getD};
 ghost use lib.Ieee.{nan};
 ghost use lib.Ieee.Scale.{finite};
 ghost use Rattle.loops.specs.Every.{every};
-ghost use Rattle.mass_operator.specs.Lent.{Linked};
+ghost use Rattle.compact_table.specs.Compact.{Linked};
 ghost use Rattle.sparse.specs.Kept.{start, Kept};
 ghost use Rattle.pairs.specs.Gather.{valueIn, Valued};
 use crate::cross::value_at;

@@ -10,31 +10,48 @@ use Rattle.loops.specs.Tabulate.{tabulate}
 use Rattle.loops.proofs.Fill.{Fills}
 use Rattle.loops.proofs.Tabulate.{filled-tabulate}
 use Rattle.sparse.specs.Triangle.{Sparse}
-use Rattle.sparse.specs.Triangular.{solveRun}
+use Rattle.triangular.specs.Triangular.{solveRun}
 use Rattle.sparse.specs.Kept.{Kept}
-use Rattle.sparse.specs.Column.{Indexed}
-use Rattle.sparse.specs.Answers.{solveOut}
-use Rattle.sparse.specs.declared.substitution.Solved.{Solved}
-use Rattle.preconditioner.specs.Apply.{diagonalSolveOf, preconditionedRun, Ready}
+use Rattle.triangular.specs.Column.{Indexed}
+use Rattle.triangular.specs.Answers.{solveOut}
+use Rattle.triangular.specs.declared.substitution.Solved.{Solved}
+use Rattle.loops.specs.Cleared.{cleared}
+use Rattle.incomplete_cholesky.specs.Build.{zeros}
+use Rattle.block_jacobi.specs.Runs.{RunsFit}
+use Rattle.block_jacobi.specs.Blocks.{blocksSolveRun}
+use Rattle.preconditioner.specs.Apply.{diagonalSolveOf, preconditionedRun}
+use Rattle.preconditioner.specs.Held.{Ready}
 use Rattle.preconditioner.specs.declared.apply.Preconditioner.{Preconditioner}
-use Rattle.preconditioner.specs.declared.apply.Preconditioner.the-variants as modes
+use Rattle.preconditioner.specs.declared.apply.Preconditioner.the-variants as built
 
 pub diagonal-solved : (residual diagonal output : List Float) (n i : ℕ) → Fills nan (λ k. div binary64 (getD residual k nan) (getD diagonal k nan)) n i output → length residual ≡ n → length residual ≤ i → output ≡ diagonalSolveOf residual diagonal
 unfolding diagonalSolveOf
 diagonal-solved residual diagonal output n i h e l = filled-tabulate h (omega arith) ∙ ap (tabulate (λ k. div binary64 (getD residual k nan) (getD diagonal k nan))) (sym e)
 
-module _ (mode : Preconditioner) (diagonal : List Float) (L : Sparse) (pivots residual y : List Float) where
-  pub apply-diagonal : (y′ : List Float) → mode ≡ modes.Diagonal → y′ ≡ diagonalSolveOf residual diagonal → preconditionedRun mode diagonal L pivots residual y ≡ going y′
+module _ (p : Preconditioner) (diagonal : List Float) (L : Sparse) (pivots : List Float) (block : ℕ → List Float) (owner : ℕ → ℕ) (residual : List Float) where
+  pub apply-diagonal : (y : List Float) → p ≡ built.Diagonal → y ≡ diagonalSolveOf residual diagonal → preconditionedRun p diagonal L pivots block owner residual ≡ going y
   unfolding preconditionedRun
-  apply-diagonal y′ t e = rw (t, e)
+  apply-diagonal y t e = rw (t, e)
 
-  pub apply-factor : (count : ℕ) {o : Run (List Float) (List Float)} → mode ≡ modes.IncompleteCholesky count → solveRun L pivots residual y ≡ o → preconditionedRun mode diagonal L pivots residual y ≡ o
-  unfolding preconditionedRun
-  apply-factor count t e = rw t e
+  -- what was lent is cleared first, and is as long as the residual
+  module _ (y₀ y : List Float) (cleans : y ≡ cleared y₀) (long : length residual ≡ length y₀) where
+    from-zeros : y ≡ zeros (length residual)
+    from-zeros = cleans ∙ ap zeros (sym long)
 
-module _ (mode : Preconditioner) (starts columns heads nexts homes : List ℕ) (count : ℕ) (h : Ready mode starts columns heads nexts homes) (t : mode ≡ modes.IncompleteCholesky count) where
-  pub ready : Indexed starts columns heads nexts homes count
-  ready = h .indexed count t
+    pub apply-factor : (count : ℕ) {o : Run (List Float) (List Float)} → p ≡ built.IncompleteCholesky count → solveRun L pivots residual y ≡ o → preconditionedRun p diagonal L pivots block owner residual ≡ o
+    unfolding preconditionedRun
+    apply-factor count t e = rw (t, ← from-zeros) e
 
-  pub ready-places : count ≤ length columns
-  ready-places = let i = ready in omega (arith, i .all, i .kept .inside (length heads))
+    pub apply-blocks : {o : Run (List Float) (List Float)} → p ≡ built.BlockJacobi → blocksSolveRun block owner residual y ≡ o → preconditionedRun p diagonal L pivots block owner residual ≡ o
+    unfolding preconditionedRun
+    apply-blocks t e = rw (t, ← from-zeros) e
+
+module _ (p : Preconditioner) (starts columns heads nexts homes : List ℕ) (owner : ℕ → ℕ) (rows : ℕ) (h : Ready p starts columns heads nexts homes owner rows) where
+  pub ready : (count : ℕ) → p ≡ built.IncompleteCholesky count → Indexed starts columns heads nexts homes count
+  ready count t = h .indexed count t
+
+  pub ready-places : (count : ℕ) → p ≡ built.IncompleteCholesky count → count ≤ length columns
+  ready-places count t = let i = ready count t in omega (arith, i .all, i .kept .inside (length heads))
+
+  pub ready-runs : p ≡ built.BlockJacobi → RunsFit owner rows
+  ready-runs t = h .fits t

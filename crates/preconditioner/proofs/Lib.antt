@@ -1,3 +1,4 @@
 -- Laws of building and applying the preconditioners.
-pub mod Builds
 pub mod Applies
+pub mod Modes
+pub mod Means

@@ -1,2 +1,4 @@
-pub mod Build
+pub mod Mode
+pub mod Factor
 pub mod Apply
+pub mod Held

@@ -1,8 +1,12 @@
-// The preconditioners of pcg.rs: the diagonal and the incomplete Cholesky factor, built once and solved at every step.
-pub mod apply; // apply.rt: z from the residual, by mode
-pub mod build; // build.rt: pairs, factor and index, with refusals 10, 12 and 13
+// The preconditioners of pcg.rs by mode: the diagonal, the incomplete Cholesky factor and the blocks, built once and solved at every step.
+pub mod apply; // apply.rt: z from the residual
+pub mod mode; // mode.rt: the three modes
+pub mod prepare; // prepare.rt: the mode's factor, with refusals 10 to 13
 
 pub use apply::Preconditioner;
 pub use apply::apply_preconditioner;
-pub use build::Built;
-pub use build::build_incomplete_cholesky_preconditioner;
+pub use mode::Mode;
+pub use mode::mode_of;
+pub use prepare::Prepared;
+pub use prepare::build_preconditioner;
+pub use prepare::refusal_of;

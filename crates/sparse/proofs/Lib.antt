@@ -3,6 +3,3 @@ pub mod Hop
 pub mod Rows
 pub mod Fit
 pub mod Marks
-pub mod Chain
-pub mod Link
-pub mod Solves

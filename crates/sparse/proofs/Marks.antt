@@ -16,7 +16,7 @@ use Rattle.loops.specs.Run.{Run, going, ended, on, check}
 use Rattle.loops.proofs.Loop.{check-pass, check-fail}
 use Rattle.binary64.specs.Answer.{rootOf}
 use Rattle.sparse.specs.Triangle.{Sparse, put}
-use Rattle.sparse.specs.Cholesky.{less, lessTurn, reducedOf, factorOf, factored, columnOf, columnTurn, factorsRun, squaresOf, fit, rootValue, Factor, pivotOf, rowTurn, factorRun}
+use Rattle.sparse.specs.Cholesky.{less, lessTurn, reducedOf, quotientOf, factored, columnOf, columnTurn, factorsRun, squaresOf, fit, rootValue, Factor, pivotOf, rowTurn, factorRun}
 use Rattle.sparse.specs.Kept.{Rising, Missing, start, Kept, Row, numbers}
 use Rattle.sparse.specs.Marks.{AtMost, Marked, lessAt}
 use Rattle.sparse.specs.Answers.{columnOut, factorOut}
@@ -171,7 +171,7 @@ module _ {starts columns : List ℕ} {i a b : ℕ} (row : Row starts columns i a
     pub column-on : (values′ : List Float) → not t ≡ false → v ≡ reducedOf (numbers starts columns values) i j u → u ≡ getD values p nan → j ≡ getD columns p 0
         → a ≤ p → p < b → length values ≡ length columns → values′ ≡ set values p (div binary64 v (getD pivots j nan))
         → columnTurn pivots i (getD columns p 0) (numbers starts columns values) ≡ going (numbers starts columns values′)
-    unfolding columnTurn columnOf factorOf factored
+    unfolding columnTurn columnOf quotientOf factored
     column-on values′ h ev eu ej p1 p2 l ew =
         rw (numbers-some row values p p1 p2, ← eu, ew, numbers-set row values p (div binary64 v (getD pivots j nan)) p1 p2 (omega (arith, row .inside)), ← ej, ← ev)
         (check-pass _ _ _ et h refl)
@@ -179,7 +179,7 @@ module _ {starts columns : List ℕ} {i a b : ℕ} (row : Row starts columns i a
     pub column-out : (values′ : List Float) → not t ≡ true → v ≡ reducedOf (numbers starts columns values) i j u → u ≡ getD values p nan → j ≡ getD columns p 0
         → a ≤ p → p < b → length values ≡ length columns → values′ ≡ set values p (div binary64 v (getD pivots j nan))
         → columnTurn pivots i (getD columns p 0) (numbers starts columns values) ≡ ended (numbers starts columns values′)
-    unfolding columnTurn columnOf factorOf factored
+    unfolding columnTurn columnOf quotientOf factored
     column-out values′ h ev eu ej p1 p2 l ew =
         rw (numbers-some row values p p1 p2, ← eu, ew, numbers-set row values p (div binary64 v (getD pivots j nan)) p1 p2 (omega (arith, row .inside)), ← ej, ← ev)
         (check-fail _ _ _ et h refl)

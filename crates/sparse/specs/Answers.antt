@@ -1,4 +1,4 @@
--- What an answer and the slices at exit tell together. An answer of refusal stands for 13 in the factor and for 16 in the solves.
+-- What the answer of a factor's function and the slices at exit tell together. An answer of refusal stands for 13.
 use mathlib.Core.List.{List}
 use lib.Ieee.{Float}
 use Rattle.loops.specs.Run.{Run, going, ended}
@@ -6,8 +6,6 @@ use Rattle.sparse.specs.Triangle.{Sparse}
 use Rattle.sparse.specs.Cholesky.{Factor}
 use Rattle.sparse.specs.declared.cholesky.Factored.{Factored}
 use Rattle.sparse.specs.declared.cholesky.Factored.the-variants as factors
-use Rattle.sparse.specs.declared.substitution.Solved.{Solved}
-use Rattle.sparse.specs.declared.substitution.Solved.the-variants as solves
 
 abbrev pub columnOut : Factored → Sparse → Run Sparse Sparse
 columnOut factors.Done L = going L
@@ -16,7 +14,3 @@ columnOut factors.Refused L = ended L
 abbrev pub factorOut : Factored → Sparse → List Float → Run Factor Factor
 factorOut factors.Done L pivots = going (L, pivots)
 factorOut factors.Refused L pivots = ended (L, pivots)
-
-abbrev pub solveOut : Solved → List Float → Run (List Float) (List Float)
-solveOut solves.Done y = going y
-solveOut solves.Overflow y = ended y

@@ -32,8 +32,8 @@ unfoldable pub reducedOf : Sparse → ℕ → ℕ → Float → Float
 reducedOf L i j a = count (lessTurn L i j) a j
 
 -- "divide by the column's diagonal"
-unfoldable pub factorOf : Sparse → List Float → ℕ → ℕ → Float → Float
-factorOf L pivots i j a = div binary64 (reducedOf L i j a) (getD pivots j nan)
+unfoldable pub quotientOf : Sparse → List Float → ℕ → ℕ → Float → Float
+quotientOf L pivots i j a = div binary64 (reducedOf L i j a) (getD pivots j nan)
 
 -- "or a factor is not finite": x takes its place
 unfoldable pub factored : Sparse → ℕ → ℕ → Float → Run Sparse Sparse
@@ -41,7 +41,7 @@ factored L i j x = check (finite x) (going (put L i j x)) (ended (put L i j x))
 
 -- column j of row i, where the pattern has it with the pair value a
 unfoldable pub columnOf : List Float → ℕ → ℕ → Sparse → Option Float → Run Sparse Sparse
-columnOf pivots i j L (some a) = factored L i j (factorOf L pivots i j a)
+columnOf pivots i j L (some a) = factored L i j (quotientOf L pivots i j a)
 columnOf pivots i j L none = going L
 
 unfoldable pub columnTurn : List Float → ℕ → ℕ → Sparse → Run Sparse Sparse

@@ -1,9 +1,6 @@
 pub mod Count
 pub mod Triangle
 pub mod Cholesky
-pub mod Triangular
 pub mod Kept
-pub mod Column
 pub mod Marks
-pub mod Index
 pub mod Answers

@@ -13,7 +13,7 @@ cross-at-spec =
     (λ c κs. search known)  -- wide-requires
     (λ c κs. search known)  -- mass-at-requires
     (λ c κs. search known)  -- cross-value-requires
-    (λ c. search known)  -- returns
+    (λ c. cross-a _ _ _ _ _ _ _ (c .before .before .before .before .before .mass-at .ensures) (c .before .before .before .before .before .before .wide .ensures) _ (c .before .before .before .if1 .taken) (c .cross-value .ensures))  -- returns
     (λ c κs. search known)  -- cross-value-requires-2
     (λ c. search known)  -- returns-2
     (λ c. search known))  -- returns-3

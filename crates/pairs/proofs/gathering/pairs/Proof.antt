@@ -1,7 +1,7 @@
 -- `pairs::gathering::pairs` meets its contract. Assumes nothing.
 use native.Mathlib.Omega.{arith}
 use Rattle.loops.proofs.Loop.{loops}
-use Rattle.mass_operator.proofs.Table.{linked-same}
+use Rattle.compact_table.proofs.Linked.{linked-same}
 use Rattle.pairs.proofs.Parts.{gather-on}
 use Rattle.pairs.proofs.Places.{pairs-done, pairs-ten, pairs-twelve, stored-kept}
 use Rattle.pairs.proofs.gathering.pairs.Statement.{statement}
@@ -16,9 +16,11 @@ pairs-spec =
     (λ c κs. search known)  -- gather-requires
     (λ c. search known)  -- enum-known-count
     (λ c. search known)  -- enum-told
+    (λ c κs. search known)  -- clear-words-requires
+    (λ c κs. search known)  -- clear-words-requires-2
     (λ c. search known)  -- same-length
     (λ c. search known)  -- same-length-2
-    (λ c. pairs-ten _ _ ((c .before .before .before .before .before .before .before .before .before .before .before .before .before .before .before) .args .jacobians .now) _ ((c .before .before .before .before .before .before .before .before .before .before .before .before .before .before .before) .args .masses .now) _ _ _ _ ((c .before .before .before .before .before .before .gather) .ensures) (omega (arith, c .before .before .before .before .before .before .before .before .before .before .before .before .before .before .before .pre .1 .1)) (omega (arith, c .before .before .before .before .before .before .before .before .before .before .before .before .before .before .before .pre .1 .1)) _ ((c .enum-told) .given .1))  -- returns
+    (λ c. let pre = c .before .before .before .before .before .before .before .before .before .before .before .before .before .before .before .before .before .before .before .before .before .before .before .pre .1 .1 in pairs-ten _ _ (c .before .before .before .before .before .before .before .before .before .before .before .before .before .before .before .before .before .before .before .before .before .before .before .args .jacobians .now) _ (c .before .before .before .before .before .before .before .before .before .before .before .before .before .before .before .before .before .before .before .before .before .before .before .args .masses .now) _ _ _ _ (c .before .before .before .before .before .before .before .before .before .before .before .before .before .before .gather .ensures) (omega (arith, pre)) (omega (arith, pre)) _ _ _ (c .before .before .before .before .before .before .before .before .enum-told .given .1) (omega (arith, pre)) (c .before .before .before .before .before .before .clear-words .ensures) (c .before .before .clear-words2 .ensures))  -- returns
     (λ c κs. search known)  -- wide-requires
     (λ c κs. ((search known, search known, search known), (linked-same _ _ _ _ ((c .before .before .before .wide) .ensures) ((c .before .before .before .before .before .before .before .before .before .before .before .before .before .before .before .before .before .before .before .before) .pre .1 .0), ((search known, search known), stored-kept (gather-on _ _ _ _ _ _ ((c .before .before .before .before .before .before .before .before .before .before .before .gather) .ensures) ((c .before .before .before .before .before .count) .given .1)) (search known)))))  -- fill-values-requires
     (λ c κs. omega (arith, gather-on _ _ _ _ _ _ (c .before .before .before .before .before .before .before .before .before .before .before .before .before .before .before .gather .ensures) (c .before .before .before .before .before .before .before .before .before .count .given .1) .room, c .before .before .before .before .before .before .before .before .before .before .before .before .before .before .before .before .before .before .before .before .before .before .before .before .pre .1 .1))  -- values-finite-requires

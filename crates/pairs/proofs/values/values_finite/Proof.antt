@@ -3,7 +3,7 @@ use Prim.Native.Nat.{_-_}
 use lib.Ieee.{nan}
 use lib.Ieee.Scale.{finite}
 use lib.ListN.{getD}
-use Rattle.kapitsa_joint.proofs.Every.{called}
+use Rattle.loops.proofs.Every.{called}
 use Rattle.loops.proofs.Every.{Holds}
 use Rattle.pairs.proofs.Places.{finite-at}
 use Rattle.sparse.specs.Count.{count}

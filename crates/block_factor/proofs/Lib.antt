@@ -1,0 +1,3 @@
+-- Laws of one block.
+pub mod Cells
+pub mod Stretches

@@ -1,0 +1,53 @@
+-- The ways through the solves on the stretch of one block. Assumes nothing.
+use Prim.Native.Nat.{ℕ, zero, suc, _+_, _*_, _-_, _<_, _≤_}
+use mathlib.Core.Path.{_≡_, refl, sym, ap, _∙_}
+use mathlib.Core.Bool.{Bool, true, false, not}
+use mathlib.Core.List.{List}
+use native.Mathlib.Omega.{arith}
+use lib.ListN.{getD, set, length}
+use lib.Ieee.{Float, nan, binary64, sub, mul, div}
+use lib.Ieee.Scale.{finite}
+use Rattle.loops.specs.Run.{Run, going, ended, turns, check}
+use Rattle.loops.proofs.Loop.{check-pass, check-fail}
+use Rattle.sparse.specs.Count.{count}
+use Rattle.triangular.specs.Answers.{solveOut}
+use Rattle.triangular.specs.declared.substitution.Solved.{Solved}
+use Rattle.triangular.specs.declared.substitution.Solved.the-variants as solves
+use Rattle.block_factor.specs.Solves.{forwardLess, forwardTurn, backwardLess, backwardOf, backwardTurn, backwardRun, blockSolveRun}
+
+pub forward-less : (l y : List Float) (row k : ℕ) (v : Float) → sub binary64 v (mul binary64 (getD l (row * 6 + k) nan) (getD y k nan)) ≡ forwardLess l y row k v
+unfolding forwardLess
+forward-less l y row k v = refl
+
+pub forward-turn : (l residual y : List Float) (row : ℕ) (v : Float) → v ≡ count (forwardLess l y row) (getD residual row nan) row
+    → set y row (div binary64 v (getD l (row * 6 + row) nan)) ≡ forwardTurn l residual row y
+unfolding forwardTurn
+forward-turn l residual y row v e = rw e
+
+pub backward-less : (l y : List Float) (row k : ℕ) (v : Float) → sub binary64 v (mul binary64 (getD l ((row + 1 + k) * 6 + row) nan) (getD y (row + 1 + k) nan)) ≡ backwardLess l y row k v
+unfolding backwardLess
+backward-less l y row k v = refl
+
+-- `backward_at`
+module _ (l y : List Float) (row len : ℕ) (v : Float) (t : Bool) (e : v ≡ count (backwardLess l y row) (getD y row nan) (len - 1 - row)) (et : t ≡ finite (div binary64 v (getD l (row * 6 + row) nan))) where
+  pub back-on : not t ≡ false → backwardOf l len row y ≡ going (set y row (div binary64 v (getD l (row * 6 + row) nan)))
+  unfolding backwardOf
+  back-on h = rw (← e) (check-pass _ _ _ et h refl)
+
+  pub back-out : not t ≡ true → backwardOf l len row y ≡ ended (set y row (div binary64 v (getD l (row * 6 + row) nan)))
+  unfolding backwardOf
+  back-out h = rw (← e) (check-fail _ _ _ et h refl)
+
+-- a turn of `backward`
+module _ (l y y′ : List Float) (len m t : ℕ) (r : Solved) (called : backwardOf l m (len - 1 - t) y ≡ solveOut r y′) (e : m ≡ len) where
+  pub backs-on : r ≡ solves.Done → backwardTurn l len t y ≡ going y′
+  unfolding backwardTurn
+  backs-on told = rw (← e) (rw (← e) at called ∙ rw told)
+
+  pub backs-out : r ≡ solves.Overflow → backwardTurn l len t y ≡ ended y′
+  unfolding backwardTurn
+  backs-out told = rw (← e) (rw (← e) at called ∙ rw told)
+
+pub block-solved : (l residual y y₁ : List Float) (m : ℕ) {o : Run (List Float) (List Float)} → y₁ ≡ count (forwardTurn l residual) y (length residual) → backwardRun l m y₁ ≡ o → m ≡ length residual → blockSolveRun l residual y ≡ o
+unfolding blockSolveRun
+block-solved l residual y y₁ m e h em = rw (← e, ← em) h

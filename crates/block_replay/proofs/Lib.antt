@@ -1,0 +1,2 @@
+-- Laws of mode 2's cases.
+pub mod Mode2

@@ -1,0 +1,2 @@
+-- Laws of mode 1's cases.
+pub mod Mode1

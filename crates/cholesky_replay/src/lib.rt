@@ -1,0 +1,4 @@
+// Mode 1 on a case of the recorded list of preconditioners.
+pub mod cholesky; // cholesky.rt: the incomplete factor and its solve beside the recorded ones
+
+pub use cholesky::cholesky_seen;

@@ -1,0 +1,2 @@
+-- Laws of the comparison with recorded factors.
+pub mod Compare

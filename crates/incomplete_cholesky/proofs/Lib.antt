@@ -1,0 +1,2 @@
+-- Laws of building the factor.
+pub mod Builds

@@ -1,0 +1,2 @@
+-- Laws of the table of a case.
+pub mod Case

@@ -1,0 +1,117 @@
+// Work memory for the factor of a case: numbers that an answer is made of start at +0.0.
+ghost use mathlib.Core.Path.{_≡_};
+ghost use Prim.Native.Nat.{_*_, _≤_};
+ghost use lib.ListN.{length, replicate};
+ghost use Rattle.loops.specs.Cleared.{plusZero};
+ghost use Rattle.mass_operator.specs.System.{compactSystem};
+ghost use Rattle.compact_table.specs.Compact.{Linked};
+ghost use Rattle.cholesky_replay.specs.Cases.{choleskySeen};
+ghost use Rattle.block_jacobi.specs.Runs.{ownerIn};
+ghost use Rattle.block_replay.specs.Cases.{blocksSeen};
+use block_replay::blocks_seen;
+use cholesky_replay::cholesky_seen;
+use factor_replay::Seen;
+use pairs::pair_room;
+
+// As many places as there can be pairs; their number alone matters.
+fn words() -> [u32; 16384]
+    ensures { λ r. ⌜ 16384 ≡ length r ⌝ }
+{
+    [0; 16384]
+}
+
+fn numbers() -> [f64; 16384]
+    ensures { λ r. ⌜ 16384 ≡ length r ⌝ }
+{
+    [0.0; 16384]
+}
+
+fn wide(x: u32) -> usize
+    ensures { λ r. ⌜ r ≡ x ⌝ }
+{
+    x as usize
+}
+
+// Mode 1.
+pub fn cholesky_worked(
+    case: &[u8],
+    jacobians: &[f64],
+    links: &[u32],
+    masses: &[f64],
+    diagonal: &[f64],
+    residual: &[f64],
+    rows: u32,
+    bodies: usize,
+) -> Seen
+    requires { ⌜ (rows ≤ 192) × (bodies ≤ 192) ⌝ }
+    requires { ⌜ (length (now jacobians) ≡ 12 * rows) × (length (now links) ≡ 2 * rows) × (length (now masses) ≡ 10 * bodies) × (length (now diagonal) ≡ rows) × (length (now residual) ≡ rows) ⌝ }
+    requires { ⌜ Linked (now links) rows bodies ⌝ }
+    ensures { λ r. ⌜ r ≡ choleskySeen (now (case .entry)) (compactSystem rows bodies (now (jacobians .entry)) (now (links .entry)) (now (masses .entry))) (now (diagonal .entry)) (now (residual .entry)) (replicate rows plusZero) ⌝ }
+{
+    let mut starts: [u32; 193] = [0; 193];
+    let mut columns = words();
+    let mut values = numbers();
+    let mut pivots: [f64; 192] = [0.0; 192];
+    let mut marks: [u32; 192] = [0; 192];
+    let mut heads: [u32; 192] = [0; 192];
+    let mut nexts = words();
+    let mut homes = words();
+    let mut output: [f64; 192] = [0.0; 192];
+    let n = wide(rows);
+    let m = n + 1;
+    let room = pair_room(rows);
+    let places = wide(room);
+    cholesky_seen(
+        case,
+        jacobians,
+        links,
+        masses,
+        diagonal,
+        residual,
+        rows,
+        bodies,
+        &mut starts[..m],
+        &mut columns[..places],
+        &mut values[..places],
+        &mut pivots[..n],
+        &mut marks[..n],
+        &mut heads[..n],
+        &mut nexts[..places],
+        &mut homes[..places],
+        &mut output[..n],
+        room,
+    )
+}
+
+// Mode 2.
+pub fn blocks_worked(
+    case: &[u8],
+    jacobians: &[f64],
+    links: &[u32],
+    masses: &[f64],
+    owners: &[u32],
+    residual: &[f64],
+    bodies: usize,
+) -> Seen
+    requires { ⌜ (length (now owners) ≤ 192) × (bodies ≤ 192) ⌝ }
+    requires { ⌜ (length (now jacobians) ≡ 12 * length (now owners)) × (length (now links) ≡ 2 * length (now owners)) × (length (now masses) ≡ 10 * bodies) × (length (now residual) ≡ length (now owners)) ⌝ }
+    requires { ⌜ Linked (now links) (length (now owners)) bodies ⌝ }
+    ensures { λ r. ⌜ r ≡ blocksSeen (now (case .entry)) (compactSystem (length (now (owners .entry))) bodies (now (jacobians .entry)) (now (links .entry)) (now (masses .entry))) (ownerIn (now (owners .entry))) (now (residual .entry))
+        (replicate (36 * length (now (owners .entry))) plusZero) (replicate (length (now (owners .entry))) plusZero) ⌝ }
+{
+    let mut blocks: [f64; 6912] = [0.0; 6912];
+    let mut output: [f64; 192] = [0.0; 192];
+    let n = owners.len();
+    let m = 36 * n;
+    blocks_seen(
+        case,
+        jacobians,
+        links,
+        masses,
+        owners,
+        residual,
+        bodies,
+        &mut blocks[..m],
+        &mut output[..n],
+    )
+}

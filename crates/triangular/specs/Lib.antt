@@ -1,0 +1,4 @@
+pub mod Triangular
+pub mod Column
+pub mod Index
+pub mod Answers

@@ -1,0 +1,311 @@
+// The triangular solves: apply_velocity_preconditioner of pcg.rs with a factor.
+ghost use mathlib.Core.Path.{_≡_};
+ghost use Prim.Native.Nat.{_+_, _-_, _<_, _≤_};
+ghost use lib.ListN.{length, getD, set};
+ghost use Rattle.sparse.specs.Count.{count as down};
+ghost use Rattle.sparse.specs.Kept.{Kept, numbers};
+ghost use Rattle.triangular.specs.Column.{Next, Indexed};
+ghost use Rattle.triangular.specs.Triangular.{transposed, alongTurn, forwardTurn, forwardRun, backwardOf, backwardRun, solveRun};
+ghost use Rattle.triangular.specs.Answers.{solveOut};
+use sparse::column;
+use sparse::earlier;
+use sparse::number;
+use sparse::row;
+use sparse::wide;
+
+pub enum Solved {
+    Done,
+    Overflow,
+}
+
+// `value` less the products of row `i` with `output`
+fn along_row(
+    value: f64,
+    starts: &[u32],
+    columns: &[u32],
+    values: &[f64],
+    output: &[f64],
+    i: usize,
+) -> f64
+    requires { ⌜ Kept (now starts) (now columns) ⌝ }
+    requires { ⌜ length (now values) ≡ length (now columns) ⌝ }
+    requires { ⌜ length (now starts) ≡ length (now output) + 1 ⌝ }
+    requires { ⌜ i < length (now output) ⌝ }
+    ensures { λ r. ⌜ r ≡ down (alongTurn (numbers (now (starts .entry)) (now (columns .entry)) (now (values .entry)) i) (now (output .entry))) value i ⌝ }
+{
+    let row = row(starts, columns, i);
+    let first = row.first;
+    let end = row.end;
+    let mut rest = value;
+    let mut p = first;
+    while p < end {
+        let next = p + 1;
+        let k = earlier(columns, i, first, end, p);
+        rest = rest - number(values, p) * output[k];
+        p = next;
+    }
+    rest
+}
+
+fn forward_at(
+    starts: &[u32],
+    columns: &[u32],
+    values: &[f64],
+    pivots: &[f64],
+    residual: &[f64],
+    output: &mut [f64],
+    i: usize,
+) -> Solved
+    requires { ⌜ Kept (now starts) (now columns) ⌝ }
+    requires { ⌜ length (now values) ≡ length (now columns) ⌝ }
+    requires { ⌜ length (now starts) ≡ length (now output) + 1 ⌝ }
+    requires { ⌜ length (now pivots) ≡ length (now output) ⌝ }
+    requires { ⌜ length (now residual) ≡ length (now output) ⌝ }
+    requires { ⌜ i < length (now output) ⌝ }
+    ensures { λ r. ⌜ forwardTurn (numbers (now (starts .entry)) (now (columns .entry)) (now (values .entry))) (now (pivots .entry)) (now (residual .entry)) i (now (output .entry))
+        ≡ solveOut r (now (output .exit)) ⌝ }
+{
+    let value = along_row(residual[i], starts, columns, values, output, i) / pivots[i];
+    output[i] = value;
+    if !binary64::is_finite(value) {
+        return Solved::Overflow;
+    }
+    Solved::Done
+}
+
+pub fn forward(
+    starts: &[u32],
+    columns: &[u32],
+    values: &[f64],
+    pivots: &[f64],
+    residual: &[f64],
+    output: &mut [f64],
+) -> Solved
+    requires { ⌜ Kept (now starts) (now columns) ⌝ }
+    requires { ⌜ length (now values) ≡ length (now columns) ⌝ }
+    requires { ⌜ length (now starts) ≡ length (now output) + 1 ⌝ }
+    requires { ⌜ length (now pivots) ≡ length (now output) ⌝ }
+    requires { ⌜ length (now residual) ≡ length (now output) ⌝ }
+    ensures { λ r. ⌜ forwardRun (numbers (now (starts .entry)) (now (columns .entry)) (now (values .entry))) (now (pivots .entry)) (now (residual .entry)) (now (output .entry))
+        ≡ solveOut r (now (output .exit)) ⌝ }
+{
+    let mut i = 0;
+    while i < residual.len() {
+        let Solved::Done = forward_at(starts, columns, values, pivots, residual, output, i) else {
+            return Solved::Overflow;
+        };
+        i += 1;
+    }
+    Solved::Done
+}
+
+// the first place of column `j`
+fn head(
+    starts: &[u32],
+    columns: &[u32],
+    heads: &[u32],
+    nexts: &[u32],
+    rows: &[u32],
+    count: u32,
+    j: usize,
+) -> u32
+    requires { ⌜ Indexed (now starts) (now columns) (now heads) (now nexts) (now rows) count ⌝ }
+    requires { ⌜ j < length (now heads) ⌝ }
+    ensures { λ r. ⌜ Next (now (columns .entry)) j 0 count r ⌝ }
+{
+    heads[j]
+}
+
+// the next place of the same column
+fn follow(
+    starts: &[u32],
+    columns: &[u32],
+    heads: &[u32],
+    nexts: &[u32],
+    rows: &[u32],
+    count: u32,
+    p: u32,
+) -> u32
+    requires { ⌜ Indexed (now starts) (now columns) (now heads) (now nexts) (now rows) count ⌝ }
+    requires { ⌜ p < count ⌝ }
+    requires { ⌜ count ≤ length (now nexts) ⌝ }
+    ensures { λ r. ⌜ Next (now (columns .entry)) (getD (now (columns .entry)) p 0) (p + 1) count r ⌝ }
+{
+    nexts[wide(p)]
+}
+
+// the row of a place
+fn home(
+    starts: &[u32],
+    columns: &[u32],
+    heads: &[u32],
+    nexts: &[u32],
+    rows: &[u32],
+    count: u32,
+    p: u32,
+) -> usize
+    requires { ⌜ Indexed (now starts) (now columns) (now heads) (now nexts) (now rows) count ⌝ }
+    requires { ⌜ p < count ⌝ }
+    requires { ⌜ count ≤ length (now rows) ⌝ }
+    ensures { λ r. ⌜ r ≡ getD (now (rows .entry)) p 0 ⌝ }
+    ensures { λ r. ⌜ r < length (now (heads .entry)) ⌝ }
+{
+    column(rows, p)
+}
+
+// `value` less the products of column `j` with `output`
+fn along_column(
+    value: f64,
+    starts: &[u32],
+    columns: &[u32],
+    heads: &[u32],
+    nexts: &[u32],
+    rows: &[u32],
+    count: u32,
+    values: &[f64],
+    output: &[f64],
+    j: usize,
+) -> f64
+    requires { ⌜ Indexed (now starts) (now columns) (now heads) (now nexts) (now rows) count ⌝ }
+    requires { ⌜ count ≤ length (now nexts) ⌝ }
+    requires { ⌜ count ≤ length (now rows) ⌝ }
+    requires { ⌜ count ≤ length (now values) ⌝ }
+    requires { ⌜ length (now heads) ≡ length (now output) ⌝ }
+    requires { ⌜ j < length (now heads) ⌝ }
+    ensures { λ r. ⌜ r ≡ down (alongTurn (transposed (numbers (now (starts .entry)) (now (columns .entry)) (now (values .entry))) j) (now (output .entry))) value (length (now (heads .entry))) ⌝ }
+{
+    let mut rest = value;
+    let mut p = head(starts, columns, heads, nexts, rows, count, j);
+    while p < count {
+        let r = home(starts, columns, heads, nexts, rows, count, p);
+        let factor = number(values, p);
+        rest = rest - factor * output[r];
+        p = follow(starts, columns, heads, nexts, rows, count, p);
+    }
+    rest
+}
+
+fn backward_at(
+    starts: &[u32],
+    columns: &[u32],
+    heads: &[u32],
+    nexts: &[u32],
+    rows: &[u32],
+    count: u32,
+    values: &[f64],
+    pivots: &[f64],
+    output: &mut [f64],
+    i: usize,
+) -> Solved
+    requires { ⌜ Indexed (now starts) (now columns) (now heads) (now nexts) (now rows) count ⌝ }
+    requires { ⌜ count ≤ length (now nexts) ⌝ }
+    requires { ⌜ count ≤ length (now rows) ⌝ }
+    requires { ⌜ count ≤ length (now values) ⌝ }
+    requires { ⌜ length (now heads) ≡ length (now output) ⌝ }
+    requires { ⌜ length (now heads) ≡ length (now pivots) ⌝ }
+    requires { ⌜ i < length (now heads) ⌝ }
+    ensures { λ r. ⌜ backwardOf (numbers (now (starts .entry)) (now (columns .entry)) (now (values .entry))) (now (pivots .entry)) i (now (output .entry))
+        ≡ solveOut r (now (output .exit)) ⌝ }
+{
+    let value = along_column(
+        output[i],
+        starts,
+        columns,
+        heads,
+        nexts,
+        rows,
+        count,
+        values,
+        output,
+        i,
+    )
+        / pivots[i];
+    output[i] = value;
+    if !binary64::is_finite(value) {
+        return Solved::Overflow;
+    }
+    Solved::Done
+}
+
+pub fn backward(
+    starts: &[u32],
+    columns: &[u32],
+    heads: &[u32],
+    nexts: &[u32],
+    rows: &[u32],
+    count: u32,
+    values: &[f64],
+    pivots: &[f64],
+    output: &mut [f64],
+) -> Solved
+    requires { ⌜ Indexed (now starts) (now columns) (now heads) (now nexts) (now rows) count ⌝ }
+    requires { ⌜ count ≤ length (now nexts) ⌝ }
+    requires { ⌜ count ≤ length (now rows) ⌝ }
+    requires { ⌜ count ≤ length (now values) ⌝ }
+    requires { ⌜ length (now heads) ≡ length (now output) ⌝ }
+    requires { ⌜ length (now heads) ≡ length (now pivots) ⌝ }
+    ensures { λ r. ⌜ backwardRun (numbers (now (starts .entry)) (now (columns .entry)) (now (values .entry))) (now (pivots .entry)) (now (output .entry))
+        ≡ solveOut r (now (output .exit)) ⌝ }
+{
+    let n = pivots.len();
+    let mut t = 0;
+    while t < n {
+        let i = n - 1 - t;
+        let Solved::Done = backward_at(
+            starts,
+            columns,
+            heads,
+            nexts,
+            rows,
+            count,
+            values,
+            pivots,
+            output,
+            i,
+        ) else {
+            return Solved::Overflow;
+        };
+        t += 1;
+    }
+    Solved::Done
+}
+
+// The factor's two triangular solves on `residual`, into `output`.
+pub fn solve(
+    starts: &[u32],
+    columns: &[u32],
+    heads: &[u32],
+    nexts: &[u32],
+    rows: &[u32],
+    count: u32,
+    values: &[f64],
+    pivots: &[f64],
+    residual: &[f64],
+    output: &mut [f64],
+) -> Solved
+    requires { ⌜ Indexed (now starts) (now columns) (now heads) (now nexts) (now rows) count ⌝ }
+    requires { ⌜ length (now values) ≡ length (now columns) ⌝ }
+    requires { ⌜ count ≤ length (now nexts) ⌝ }
+    requires { ⌜ count ≤ length (now rows) ⌝ }
+    requires { ⌜ count ≤ length (now values) ⌝ }
+    requires { ⌜ length (now heads) ≡ length (now output) ⌝ }
+    requires { ⌜ length (now heads) ≡ length (now pivots) ⌝ }
+    requires { ⌜ length (now heads) ≡ length (now residual) ⌝ }
+    ensures { λ r. ⌜ solveRun (numbers (now (starts .entry)) (now (columns .entry)) (now (values .entry))) (now (pivots .entry)) (now (residual .entry)) (now (output .entry))
+        ≡ solveOut r (now (output .exit)) ⌝ }
+{
+    let Solved::Done = forward(starts, columns, values, pivots, residual, output) else {
+        return Solved::Overflow;
+    };
+    backward(
+        starts,
+        columns,
+        heads,
+        nexts,
+        rows,
+        count,
+        values,
+        pivots,
+        output,
+    )
+}
