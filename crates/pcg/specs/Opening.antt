@@ -1,0 +1,9 @@
+-- What the answer before step 0 tells.
+use Prim.Native.Nat.{ℕ}
+use Rattle.loops.specs.Run.{Run, going, ended}
+use Rattle.pcg.specs.declared.opening.Opened.{Opened}
+use Rattle.pcg.specs.declared.opening.Opened.the-variants as opened
+
+abbrev pub openedOut : Opened → Run Unit ℕ
+openedOut opened.Done = going tt
+openedOut (opened.Refused number) = ended number

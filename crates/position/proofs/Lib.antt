@@ -1,0 +1,7 @@
+-- Laws of step 0 and of what is delivered.
+pub mod Valid
+pub mod Ways
+pub mod Started
+pub mod Gains
+pub mod Largest
+pub mod Diagonal

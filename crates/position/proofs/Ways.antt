@@ -1,0 +1,70 @@
+-- The ways through the functions that prepare a row. Assumes nothing.
+use Prim.Native.Nat.{ℕ}
+use mathlib.Core.Path.{_≡_}
+use mathlib.Core.Bool.{Bool, true, false, not, cond}
+use mathlib.Core.List.{List, [], _∷_}
+use borrow.Author.Tests.{not-true, not-false}
+use lib.Ieee.{Float, binary64, add, neg, le, lt}
+use lib.Ieee.Scale.{finite}
+use Rattle.loops.specs.Run.{Run, going, ended, on, next, check}
+use Rattle.loops.specs.Judge.{judge, test}
+use Rattle.loops.specs.Cleared.{plusZero}
+use Rattle.binary64.specs.Order.{absolute, minPositive}
+use Rattle.kapitsa_joint.specs.Row.{rowOf}
+use Rattle.kapitsa_joint.specs.Mass.{massOf, crossOf, diagonalOf}
+use Rattle.kapitsa_joint.specs.Table.{Table, tableOf}
+use Rattle.kapitsa_joint.specs.Tolerance.{dimensionOf, toleranceOf}
+use Rattle.kapitsa_joint.specs.declared.row.ConstraintRow.{ConstraintRow}
+use Rattle.kapitsa_joint.specs.declared.mass.SolverMass.{SolverMass}
+use Rattle.kapitsa_joint.specs.declared.tolerance.JointTolerance.{JointTolerance}
+use Rattle.kapitsa_joint.specs.declared.tolerance.RowDimension.{RowDimension}
+use Rattle.joint_refusals.specs.Refusals.{isValidOf}
+use Rattle.position.specs.Prepare.{one, rowDiagonal, startOf, passes8, isLow, passes9, rowJudged, preparedDiagonal, preparedResidual}
+
+-- ---- `row_diagonal`
+pub diagonal-is : (masses : List Float) (r : ConstraintRow) (v w : ℕ) (m n : SolverMass) (a b : Float) → m ≡ massOf masses v → v ≡ r .words .«body_a» → n ≡ massOf masses w → w ≡ r .words .«body_b»
+    → a ≡ crossOf m (r .«linear_a») (r .«angular_a») (r .«linear_a») (r .«angular_a») → b ≡ crossOf n (r .«linear_b») (r .«angular_b») (r .«linear_b») (r .«angular_b»)
+    → add binary64 a b ≡ rowDiagonal (massOf masses) r
+unfolding rowDiagonal diagonalOf
+diagonal-is masses r v w m n a b em ev en ew ea eb = rw (ea, eb, em, en, ev, ew)
+
+-- ---- `judge_diagonal`
+abbrev pub diagonalJudged : Float → Float → Float → Run (Float × Float) ℕ
+diagonalJudged d residual tolerance = next (judge ((8, passes8 d) ∷ ((9, passes9 d residual tolerance) ∷ []))) (λ _. going (cond (isLow d) one d, cond (isLow d) plusZero residual))
+
+module _ (d residual tolerance : Float) (t : Bool) (et : t ≡ finite d) where
+  pub judged-eight : not t ≡ true → diagonalJudged d residual tolerance ≡ ended 8
+  unfolding judge test check on passes8
+  judged-eight h = rw (← et, not-true t h)
+
+  module _ (h : not t ≡ false) where
+    pub judged-high : le d minPositive ≡ false → diagonalJudged d residual tolerance ≡ going (d, residual)
+    unfolding judge test check on passes8 passes9 isLow
+    judged-high l = rw (← et, not-false t h, l)
+
+    module _ (s : Float) (es : s ≡ absolute residual) (l : le d minPositive ≡ true) where
+      pub judged-nine : lt tolerance s ≡ true → diagonalJudged d residual tolerance ≡ ended 9
+      unfolding judge test check on passes8 passes9 isLow
+      judged-nine g = rw (← et, not-false t h, l, ← es, g)
+
+      pub judged-low : lt tolerance s ≡ false → diagonalJudged d residual tolerance ≡ going (one, plusZero)
+      unfolding judge test check on passes8 passes9 isLow
+      judged-low g = rw (← et, not-false t h, l, ← es, g)
+
+-- ---- `prepare_row`
+module _ (rows bodies : ℕ) (numbers : List Float) (words : List ℕ) (masses : List Float) (tolerance : JointTolerance) (i : ℕ) where
+  abbrev t : Table
+  t = tableOf rows bodies numbers words masses tolerance
+
+  abbrev rowPrepared : Run (Float × Float) ℕ
+  rowPrepared = next (rowJudged t i) (λ _. going (preparedDiagonal t i, preparedResidual t i))
+
+  module _ (r : ConstraintRow) (v : Bool) (er : r ≡ rowOf numbers words i) (ev : v ≡ isValidOf bodies r) where
+    pub row-seven : not v ≡ true → rowPrepared ≡ ended 7
+    unfolding rowJudged judge test check on
+    row-seven h = rw (← er, ← ev, not-true v h)
+
+    pub row-on : (d x : Float) (k : RowDimension) {o : Run (Float × Float) ℕ} → not v ≡ false → d ≡ rowDiagonal (massOf masses) r → k ≡ dimensionOf (r .words .dimension) → x ≡ toleranceOf tolerance k
+        → diagonalJudged d (neg (r .scalars .error)) x ≡ o → rowPrepared ≡ o
+    unfolding rowJudged preparedDiagonal preparedResidual startOf judge test check on
+    row-on d x k h ed ek ex e = rw (← er, ← ev, not-false v h, ← ed, ← ek, ← ex) e

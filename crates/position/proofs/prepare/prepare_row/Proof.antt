@@ -1,0 +1,21 @@
+-- `position::prepare::prepare_row` meets its contract. Assumes nothing.
+use borrow.Author.Needs.{needs}
+use Rattle.position.proofs.Valid.{mass-a, mass-b}
+use Rattle.position.proofs.Ways.{row-on, row-seven}
+use Rattle.position.proofs.prepare.prepare_row.Statement.{statement}
+use Rattle.position.proofs.prepare.prepare_row.Tie as tie
+
+ruleset known = (row-seven, row-on, mass-a, mass-b, needs)
+
+pub prepare-row-spec : {M : Type 1} → statement M
+prepare-row-spec =
+    tie.close
+    (tie.spec
+    (λ c κs. search known)  -- row-at-requires
+    (λ c κs. search known)  -- is-valid-requires
+    (λ c. search known)  -- returns
+    (λ c κs. search known)  -- row-diagonal-requires
+    (λ c κs. search known)  -- dimension-requires
+    (λ c κs. search known)  -- of-requires
+    (λ c κs. search known)  -- judge-diagonal-requires
+    (λ c. search known))  -- returns-2

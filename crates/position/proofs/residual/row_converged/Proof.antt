@@ -1,0 +1,22 @@
+-- `position::residual::row_converged` meets its contract. Assumes nothing.
+use borrow.Author.Needs.{needs}
+use Rattle.position.proofs.Largest.{row-meets}
+use Rattle.position.proofs.residual.row_converged.Statement.{statement}
+use Rattle.position.proofs.residual.row_converged.Tie as tie
+
+ruleset known = (row-meets, needs)
+
+pub row-converged-spec : {M : Type 1} → statement M
+row-converged-spec =
+    tie.close
+    (tie.spec
+    (λ c. search known)  -- mul-abs
+    (λ c. search known)  -- shared-slice-read-abs
+    (λ c κs. search known)  -- abs-requires
+    (λ c. search known)  -- mul-dimension
+    (λ c. search known)  -- add-dimension
+    (λ c. search known)  -- mul-dimension-2
+    (λ c. search known)  -- shared-slice-read-dimension
+    (λ c κs. search known)  -- dimension-requires
+    (λ c κs. search known)  -- of-requires
+    (λ c. search known))  -- returns

@@ -1,0 +1,4 @@
+pub mod Prepare
+pub mod Residual
+pub mod Multipliers
+pub mod Answers

@@ -1,0 +1,73 @@
+// What is told of a residual: whether it meets every row's tolerance, and its maxima.
+ghost use mathlib.Core.Path.{_≡_};
+ghost use Prim.Native.Nat.{_+_, _*_, _≤_};
+ghost use lib.ListN.{length, getD};
+ghost use lib.Ieee.{nan, le};
+ghost use Rattle.binary64.specs.Order.{absolute};
+ghost use Rattle.kapitsa_joint.specs.Tolerance.{dimensionOf, toleranceOf};
+ghost use Rattle.position.specs.Residual.{meetsOf, raisedBy, maximaOf};
+use kapitsa_joint::JointTolerance;
+use kapitsa_joint::RowDimension;
+use kapitsa_joint::dimension;
+
+pub struct Maxima {
+    pub linear: f64,
+    pub angular: f64,
+}
+
+fn row_converged(words: &[u32], residual: &[f64], tolerance: JointTolerance, i: usize) -> bool
+    requires { ⌜ (8 * i + 8 ≤ length (now words)) × (i + 1 ≤ length (now residual)) ⌝ }
+    ensures { λ r. ⌜ r ≡ le (absolute (getD (now (residual .entry)) i nan)) (toleranceOf tolerance (dimensionOf (getD (now (words .entry)) (8 * i + 1) 0))) ⌝ }
+{
+    binary64::abs(residual[i]) <= tolerance.of(dimension(words[8 * i + 1]))
+}
+
+pub fn position_vector_converged(words: &[u32], residual: &[f64], tolerance: JointTolerance) -> bool
+    requires { ⌜ 8 * length (now residual) ≤ length (now words) ⌝ }
+    ensures { λ r. ⌜ r ≡ meetsOf (λ i. toleranceOf tolerance (dimensionOf (getD (now (words .entry)) (8 * i + 1) 0))) (now (residual .entry)) (length (now (residual .entry))) ⌝ }
+{
+    let mut i = 0;
+    while i < residual.len() {
+        if !row_converged(words, residual, tolerance, i) {
+            return false;
+        }
+        i += 1;
+    }
+    true
+}
+
+fn raised(maxima: Maxima, dimension: RowDimension, size: f64) -> Maxima
+    ensures { λ r. ⌜ r ≡ raisedBy dimension size maxima ⌝ }
+{
+    match dimension {
+        RowDimension::Linear => Maxima {
+            linear: binary64::max(maxima.linear, size),
+            angular: maxima.angular,
+        },
+        RowDimension::Angular => Maxima {
+            linear: maxima.linear,
+            angular: binary64::max(maxima.angular, size),
+        },
+    }
+}
+
+// position_pcg_result of pcg.rs: its two maxima.
+pub fn residual_maxima(words: &[u32], residual: &[f64]) -> Maxima
+    requires { ⌜ 8 * length (now residual) ≤ length (now words) ⌝ }
+    ensures { λ r. ⌜ r ≡ maximaOf (λ i. dimensionOf (getD (now (words .entry)) (8 * i + 1) 0)) (now (residual .entry)) (length (now (residual .entry))) ⌝ }
+{
+    let mut maxima = Maxima {
+        linear: 0.0,
+        angular: 0.0,
+    };
+    let mut i = 0;
+    while i < residual.len() {
+        maxima = raised(
+            maxima,
+            dimension(words[8 * i + 1]),
+            binary64::abs(residual[i]),
+        );
+        i += 1;
+    }
+    maxima
+}

@@ -1,0 +1,121 @@
+-- The compact table and the owners are those of the table, beyond its rows too: there every list has its default. Assumes nothing.
+use Prim.Native.Nat.{ℕ, suc, _+_, _*_, _<_, _≤_}
+use mathlib.Core.Path.{_≡_, refl, sym, ap, _∙_, fun-ext}
+use mathlib.Core.Bool.{Bool, true, false, not, _&&_}
+use mathlib.Core.List.{List}
+use native.Mathlib.Decide.{decLt}
+use native.Mathlib.Omega.{arith}
+use lib.Dec.{ltb, eqb}
+use lib.ListN.{getD, length, List·getD-eq-default}
+use lib.Ieee.{Float, nan}
+use borrow.Author.Tests.{ltb-true}
+use Rattle.loops.specs.Run.{going}
+use Rattle.loops.specs.Judge.{judge, judged, test}
+use Rattle.loops.specs.Tabulate.{tabulate}
+use Rattle.loops.proofs.Inverse.{next-going}
+use Rattle.loops.proofs.Judge.{test-going}
+use Rattle.loops.proofs.Tabulate.{getD-tabulate, length-tabulate}
+use Rattle.kapitsa_math.specs.Lent.{vecOf}
+use Rattle.kapitsa_math.specs.declared.vector.Vec3.{Vec3}
+use Rattle.kapitsa_joint.specs.Row.{rowOf, wordsOf, jacobianOf}
+use Rattle.kapitsa_joint.specs.Mass.{massOf}
+use Rattle.kapitsa_joint.specs.Table.{Table, tableOf}
+use Rattle.kapitsa_joint.specs.declared.row.RowJacobian.{RowJacobian}
+use Rattle.kapitsa_joint.specs.declared.tolerance.JointTolerance.{JointTolerance}
+use Rattle.joint_refusals.specs.Refusals.{isValidOf, bodiesBelowOf, jacobiansFiniteOf, scalarsFiniteOf, scalarsInRangeOf}
+use Rattle.compact_table.specs.Compact.{compactOf, Gathered, Linked}
+use Rattle.mass_operator.specs.System.{System, systemOf, compactSystem}
+use Rattle.block_jacobi.specs.Runs.{ownerIn}
+use Rattle.block_jacobi.proofs.Turned.{turned}
+use Rattle.position.specs.Prepare.{rowJudged}
+use Rattle.position_steps.specs.Method.{ownerOf}
+
+-- ---- beyond a list's end
+beyond : {X : Type 0} (l : List X) (k : ℕ) (d : X) → length l ≤ k → getD l k d ≡ d
+beyond l k d h = List·getD-eq-default l d {n = k} h
+
+abbrev noVector : Vec3
+noVector = record { x = nan; y = nan; z = nan }
+
+no-vec : (l : List Float) (k : ℕ) → length l ≤ k → vecOf l k ≡ noVector
+unfolding vecOf
+no-vec l k h = rw (beyond l k nan h, beyond l (k + 1) nan (omega arith), beyond l (k + 2) nan (omega arith))
+
+module _ (numbers : List Float) (words : List ℕ) (n : ℕ) (en : length numbers ≡ 27 * n) (ew : length words ≡ 8 * n) where
+  abbrev noRow : RowJacobian
+  noRow = record { «linear_a» = noVector; «angular_a» = noVector; «linear_b» = noVector; «angular_b» = noVector; «body_a» = 0; «body_b» = 0 }
+
+  row-beyond : (i : ℕ) → n ≤ i → jacobianOf (rowOf numbers words i) ≡ noRow
+  unfolding jacobianOf rowOf wordsOf
+  row-beyond i h = rw (no-vec numbers (27 * i) (omega arith), no-vec numbers (27 * i + 3) (omega arith), no-vec numbers (27 * i + 9) (omega arith), no-vec numbers (27 * i + 12) (omega arith), beyond words (8 * i + 2) 0 (omega arith), beyond words (8 * i + 3) 0 (omega arith))
+
+  compact-beyond : (jacobians : List Float) (links : List ℕ) → length jacobians ≡ 12 * n → length links ≡ 2 * n → (i : ℕ) → n ≤ i → compactOf jacobians links i ≡ noRow
+  unfolding compactOf
+  compact-beyond jacobians links ej el i h = rw (no-vec jacobians (12 * i) (omega arith), no-vec jacobians (12 * i + 3) (omega arith), no-vec jacobians (12 * i + 6) (omega arith), no-vec jacobians (12 * i + 9) (omega arith), beyond links (2 * i) 0 (omega arith), beyond links (2 * i + 1) 0 (omega arith))
+
+  rows-same : (jacobians₀ jacobians : List Float) (links₀ links : List ℕ) → length jacobians ≡ 12 * n → length links ≡ 2 * n → Gathered (λ i. jacobianOf (rowOf numbers words i)) n jacobians₀ links₀ jacobians links
+      → compactOf jacobians links ≡ (λ i. jacobianOf (rowOf numbers words i))
+  rows-same jacobians₀ jacobians links₀ links ej el g = fun-ext (λ i. at i (decLt i n))
+    where
+      at : (i : ℕ) → Dec (i < n) → compactOf jacobians links i ≡ jacobianOf (rowOf numbers words i)
+      at i (yes h) = g .at i h
+      at i (no h) = compact-beyond jacobians links ej el i (omega arith) ∙ sym (row-beyond i (omega arith))
+
+  pub system-same : (bodies : ℕ) (masses : List Float) (tolerance : JointTolerance) (jacobians₀ jacobians : List Float) (links₀ links : List ℕ) → length jacobians ≡ 12 * n → length links ≡ 2 * n
+      → Gathered (λ i. jacobianOf (rowOf numbers words i)) n jacobians₀ links₀ jacobians links → compactSystem n bodies jacobians links masses ≡ systemOf (tableOf n bodies numbers words masses tolerance)
+  system-same bodies masses tolerance jacobians₀ jacobians links₀ links ej el g =
+      ap (λ (j : ℕ → RowJacobian). the (record { rows = n; bodies = bodies; jacobian = j; mass = massOf masses })) (rows-same jacobians₀ jacobians links₀ links ej el g)
+    where
+      the : System → System
+      the s = s
+
+  pub owner-same : (bodies : ℕ) (masses : List Float) (tolerance : JointTolerance) (owners : List ℕ) → owners ≡ tabulate (λ i. getD words (8 * i + 6) 0) n → ownerIn owners ≡ ownerOf (tableOf n bodies numbers words masses tolerance)
+  unfolding rowOf wordsOf
+  owner-same bodies masses tolerance owners e = rw e (fun-ext (λ i. at i (decLt i n)))
+    where
+      at : (i : ℕ) → Dec (i < n) → getD (tabulate (λ i. getD words (8 * i + 6) 0) n) i 0 ≡ getD words (8 * i + 6) 0
+      at i (yes h) = getD-tabulate (λ i. getD words (8 * i + 6) 0) n i 0 h
+      at i (no h) = beyond (tabulate (λ i. getD words (8 * i + 6) 0) n) i 0 (rw (length-tabulate (λ i. getD words (8 * i + 6) 0) n) (omega arith)) ∙ sym (beyond words (8 * i + 6) 0 (omega arith))
+
+-- ---- refusal 7 has passed: the bodies are below the count
+both : (a b : Bool) → (a && b) ≡ true → (a ≡ true) × (b ≡ true)
+both true true e = (refl, refl)
+both true false e = absurd (let z : _≡_ {A = ℕ} 0 1 = cc in omega arith)
+both false b e = absurd (let z : _≡_ {A = ℕ} 0 1 = cc in omega arith)
+
+module _ (t : Table) (passed : judged (rowJudged t) (t .rows) ≡ going tt) where
+  each : (i : ℕ) → i < t .rows → rowJudged t i ≡ going tt
+  unfolding judged
+  each i h = turned (λ i _. rowJudged t i) tt (t .rows) (λ k _. (i : ℕ) → i < k → rowJudged t i ≡ going tt) (λ i h. absurd (omega arith)) (λ k s u l all q i h. step k u all q i (decLt i k) h) (t .rows) (omega arith) tt passed i h
+    where
+      step : (k : ℕ) (u : Unit) → ((i : ℕ) → i < k → rowJudged t i ≡ going tt) → rowJudged t k ≡ going u → (i : ℕ) → Dec (i < k) → i < suc k → rowJudged t i ≡ going tt
+      step k tt all q i (yes h) l = all i h
+      step k tt all q i (no h) l = let e : i ≡ k = omega arith in rw e q
+
+  valid : (i : ℕ) → i < t .rows → isValidOf (t .bodies) (t .row i) ≡ true
+  unfolding rowJudged judge
+  valid i h = let g = next-going _ _ _ .0 (each i h) in test-going (isValidOf (t .bodies) (t .row i)) 7 .0 (only (isValidOf (t .bodies) (t .row i)) (g .0) (g .1))
+    where
+      only : (b : Bool) (u : Unit) → test b 7 ≡ going u → test b 7 ≡ going tt
+      only b tt q = q
+
+  below : (i : ℕ) → i < t .rows → (t .row i .words .«body_a» < t .bodies) × (t .row i .words .«body_b» < t .bodies)
+  unfolding isValidOf bodiesBelowOf
+  below i h =
+      let r = t .row i in
+      let w = r .words in
+      let s = ((not (eqb (w .«body_a») (w .«body_b»)) && ltb (w .«body_a») (t .bodies)) && ltb (w .«body_b») (t .bodies)) in
+      let (p, _) = both ((s && jacobiansFiniteOf r) && scalarsFiniteOf (r .scalars)) (scalarsInRangeOf (r .scalars)) (valid i h) in
+      let (q, _) = both (s && jacobiansFiniteOf r) (scalarsFiniteOf (r .scalars)) p in
+      let (u, _) = both s (jacobiansFiniteOf r) q in
+      let (v, b) = both (not (eqb (w .«body_a») (w .«body_b»)) && ltb (w .«body_a») (t .bodies)) (ltb (w .«body_b») (t .bodies)) u in
+      let (_, a) = both (not (eqb (w .«body_a») (w .«body_b»))) (ltb (w .«body_a») (t .bodies)) v in
+      (ltb-true (w .«body_a») (t .bodies) a, ltb-true (w .«body_b») (t .bodies) b)
+
+  -- the compact table's rows are those of the table
+  pub table-linked : (jacobians : List Float) (links : List ℕ) (masses : List Float) → compactSystem (t .rows) (t .bodies) jacobians links masses ≡ systemOf t → Linked links (t .rows) (t .bodies)
+  unfolding compactOf jacobianOf
+  table-linked jacobians links masses e = record {
+    a = λ i h. rw (ap (λ (s : System). s .jacobian i .«body_a») e) (below i h .0);
+    b = λ i h. rw (ap (λ (s : System). s .jacobian i .«body_b») e) (below i h .1);
+  }

@@ -1,0 +1,63 @@
+-- Flag, count and the step counted: document 01, "If every |residual| ≤ its row's tolerance: accepted with count 0, before any factor is built. Then the recurrence".
+use Prim.Native.Nat.{ℕ, _+_, _*_}
+use mathlib.Core.Path.{_≡_}
+use mathlib.Core.Bool.{Bool, true}
+use mathlib.Core.List.{List}
+use lib.Ieee.{Float}
+use Rattle.loops.specs.Run.{Run}
+use Rattle.kapitsa_joint.specs.Table.{Table}
+use Rattle.compact_table.specs.Compact.{Linked}
+use Rattle.mass_operator.specs.System.{systemOf, compactSystem}
+use Rattle.pairs.specs.Pairs.{pairRoom}
+use Rattle.preconditioner.specs.declared.mode.Mode.{Mode}
+use Rattle.recurrence.specs.Step.{Iterate}
+use Rattle.steps.specs.Solve.{counting}
+use Rattle.position_steps.specs.Method.{positionMethod}
+use Rattle.position_steps.specs.Standing.{iteratedOut}
+use Rattle.position_steps.specs.declared.iteration.Iterated.{Iterated}
+use Rattle.position_steps.specs.declared.iteration.Iterated.the-variants as iterated
+
+-- what is judged before has passed: only the opening reads whether refusal 3 does
+abbrev pub countingOf : Mode → Table → ℕ → Run (Bool × ℕ × Iterate) ℕ
+countingOf mode t limit = counting (positionMethod true t mode) limit
+
+-- the lengths that the counts call for
+pub record CountRoom (rows bodies room : ℕ) (numbers words masses jacobians links owners diagonal residual pending preconditioned direction product bodyImpulses bodyResponses starts columns values pivots marks heads nexts homes blocks : ℕ) : Type 0 where
+  pub numbers-long : numbers ≡ 27 * rows
+  pub words-long : words ≡ 8 * rows
+  pub masses-long : masses ≡ 10 * bodies
+  pub jacobians-long : jacobians ≡ 12 * rows
+  pub links-long : links ≡ 2 * rows
+  pub owners-long : owners ≡ rows
+  pub diagonal-long : diagonal ≡ rows
+  pub residual-long : residual ≡ rows
+  pub pending-long : pending ≡ rows
+  pub preconditioned-long : preconditioned ≡ rows
+  pub direction-long : direction ≡ rows
+  pub product-long : product ≡ rows
+  pub body-impulses-long : bodyImpulses ≡ 6 * bodies
+  pub body-responses-long : bodyResponses ≡ 6 * bodies
+  pub starts-long : starts ≡ rows + 1
+  pub columns-long : columns ≡ pairRoom rows
+  pub values-long : values ≡ pairRoom rows
+  pub pivots-long : pivots ≡ rows
+  pub marks-long : marks ≡ rows
+  pub heads-long : heads ≡ rows
+  pub nexts-long : nexts ≡ pairRoom rows
+  pub homes-long : homes ≡ pairRoom rows
+  pub blocks-long : blocks ≡ 36 * rows
+  pub room-long : room ≡ pairRoom rows
+
+-- what stands in the compact table: it is the system of the table
+pub record Stands (t : Table) (masses jacobians : List Float) (links : List ℕ) : Type 0 where
+  pub system : compactSystem (t .rows) (t .bodies) jacobians links masses ≡ systemOf t
+  pub linked : Linked links (t .rows) (t .bodies)
+
+-- of an answer that is not refused the compact table stands
+pub record Counted (t : Table) (masses : List Float) (answer : Iterated) (jacobians : List Float) (links : List ℕ) : Type 0 where
+  pub met : (count : ℕ) → answer ≡ iterated.Met count → Stands t masses jacobians links
+  pub spent : answer ≡ iterated.Limit → Stands t masses jacobians links
+
+pub record CountHeld (mode : Mode) (t : Table) (limit : ℕ) (masses : List Float) (answer : Iterated) (jacobians : List Float) (links : List ℕ) (pending residual : List Float) : Type 0 where
+  pub answered : countingOf mode t limit ≡ iteratedOut answer limit pending residual
+  pub counted : Counted t masses answer jacobians links

@@ -1,0 +1,36 @@
+-- `recurrence::vector::scaled_subtract` meets its contract: the first i numbers are changed, the others those at entry. Assumes nothing.
+use Prim.Native.Nat.{_-_}
+use mathlib.Core.Path.{refl}
+use native.Mathlib.Omega.{arith}
+use lib.Ieee.{nan}
+use lib.ListN.{length}
+use Rattle.loops.proofs.Loop.{loops}
+use Rattle.recurrence.proofs.InPlace.{Changes, changes-more, changes-none}
+use Rattle.recurrence.proofs.Sums.{loses, lost}
+use Rattle.recurrence.proofs.vector.scaled_subtract.Statement.{statement}
+use Rattle.recurrence.proofs.vector.scaled_subtract.Tie as tie
+
+abbrev Inv-loop : tie.InvT-loop
+Inv-loop out₀ scale vector i₀ out i = Changes nan (loses scale vector) out₀ i out
+
+abbrev μ-loop : tie.MeasureT-loop
+μ-loop out₀ scale vector i₀ out i = length out₀ - i
+
+ruleset known = (lost, changes-none, loops)
+
+pub scaled-subtract-spec : {M : Type 1} → statement M
+scaled-subtract-spec =
+    tie.close
+    (tie.spec Inv-loop μ-loop
+    (λ c. search known)  -- loop-holds
+    (λ c. search known)  -- mul-out
+    (λ c. search known)  -- slice-read-out
+    (λ c. search known)  -- mul-out-2
+    (λ c. search known)  -- shared-slice-read-out
+    (λ c. search known)  -- mul-out-3
+    (λ c. search known)  -- slice-write-out
+    (λ c. search known)  -- add-i
+    (λ c. search known)  -- loop-less
+    (λ c. changes-more ((c .before .before .before .loop) .inv) (omega (arith, (c .before .before .before .loop) .inv .long, (c .before .before .loop-test) .taken)) refl)  -- loop-again
+    (λ c. search known)  -- same-length
+    (λ c. search known))  -- returns

@@ -1,0 +1,154 @@
+// z and s made from a residual, and the direction from them. The answer is s.
+ghost use mathlib.Core.Path.{_≡_};
+ghost use Prim.Native.Nat.{_+_, _*_, _≤_};
+ghost use lib.ListN.{length};
+ghost use Rattle.loops.specs.Run.{going, next};
+ghost use Rattle.block_jacobi.specs.Runs.{ownerIn};
+ghost use Rattle.preconditioner.specs.Held.{Ready, zIn};
+ghost use Rattle.recurrence.specs.Step.{productFit, firstFrom, betaOf, turnedOf, renewFrom};
+ghost use Rattle.recurrence.specs.Vectors.{dotProductOf};
+ghost use Rattle.recurrence.specs.Answers.{scaleOut, carriedOut};
+use crate::ratio::Scale;
+use crate::ratio::beta;
+use crate::ratio::fit_product;
+use crate::vector::dot_product;
+use crate::vector::update_direction;
+use mass_operator::all_finite;
+use preconditioner::Preconditioner;
+use preconditioner::apply_preconditioner;
+use triangular::Solved;
+
+// s of a residual and its z, which is the direction at first.
+fn first_direction(residual: &[f64], preconditioned: &[f64], direction: &mut [f64]) -> Scale
+    requires { ⌜ (length (now preconditioned) ≡ length (now residual)) × (length (now direction) ≡ length (now residual)) ⌝ }
+    ensures { λ r. ⌜ firstFrom (going (now (preconditioned .entry))) (now (residual .entry)) ≡ carriedOut r (now (direction .exit)) ⌝ }
+{
+    loops::copy(direction, preconditioned);
+    fit_product(dot_product(residual, preconditioned))
+}
+
+fn turn_direction(
+    residual_product: f64,
+    next_residual_product: f64,
+    preconditioned: &[f64],
+    direction: &mut [f64],
+) -> Scale
+    requires { ⌜ length (now preconditioned) ≡ length (now direction) ⌝ }
+    ensures { λ r. ⌜ next (betaOf «next_residual_product» «residual_product») (turnedOf (now (preconditioned .entry)) (now (direction .entry)) «next_residual_product») ≡ carriedOut r (now (direction .exit)) ⌝ }
+{
+    match beta(next_residual_product, residual_product) {
+        Scale::Value(scale) => {
+            update_direction(direction, preconditioned, scale);
+            if !all_finite(direction) {
+                return Scale::Refused(16);
+            }
+            Scale::Value(next_residual_product)
+        }
+        Scale::Refused(number) => Scale::Refused(number),
+    }
+}
+
+// The direction after a step that missed.
+fn next_direction(
+    residual: &[f64],
+    residual_product: f64,
+    preconditioned: &[f64],
+    direction: &mut [f64],
+) -> Scale
+    requires { ⌜ (length (now preconditioned) ≡ length (now residual)) × (length (now direction) ≡ length (now residual)) ⌝ }
+    ensures { λ r. ⌜ renewFrom (going (now (preconditioned .entry))) (now (residual .entry)) record { direction = now (direction .entry); s = «residual_product» } ≡ carriedOut r (now (direction .exit)) ⌝ }
+{
+    match fit_product(dot_product(residual, preconditioned)) {
+        Scale::Value(s) => turn_direction(residual_product, s, preconditioned, direction),
+        Scale::Refused(number) => Scale::Refused(number),
+    }
+}
+
+// z, s and direction of step 0. After a refusal z and direction are left free.
+pub fn first(
+    preconditioner: Preconditioner,
+    diagonal: &[f64],
+    starts: &[u32],
+    columns: &[u32],
+    heads: &[u32],
+    nexts: &[u32],
+    homes: &[u32],
+    values: &[f64],
+    pivots: &[f64],
+    owners: &[u32],
+    blocks: &[f64],
+    residual: &[f64],
+    preconditioned: &mut [f64],
+    direction: &mut [f64],
+) -> Scale
+    requires { ⌜ Ready preconditioner (now starts) (now columns) (now heads) (now nexts) (now homes) (ownerIn (now owners)) (length (now owners)) ⌝ }
+    requires { ⌜ (length (now values) ≡ length (now columns)) × (length (now nexts) ≡ length (now columns)) × (length (now homes) ≡ length (now columns)) × (36 * length (now residual) ≤ length (now blocks)) ⌝ }
+    requires { ⌜ (length (now heads) ≡ length (now residual)) × (length (now diagonal) ≡ length (now residual)) × (length (now pivots) ≡ length (now residual)) × (length (now owners) ≡ length (now residual)) ⌝ }
+    requires { ⌜ (length (now preconditioned) ≡ length (now residual)) × (length (now direction) ≡ length (now residual)) ⌝ }
+    ensures { λ r. ⌜ firstFrom (zIn preconditioner (now (diagonal .entry)) record { starts = now (starts .entry); columns = now (columns .entry); values = now (values .entry); pivots = now (pivots .entry); index = record { heads = now (heads .entry); nexts = now (nexts .entry); homes = now (homes .entry) }; blocks = now (blocks .entry) } (ownerIn (now (owners .entry))) (now (residual .entry))) (now (residual .entry))
+        ≡ carriedOut r (now (direction .exit)) ⌝ }
+{
+    let Solved::Done = apply_preconditioner(
+        preconditioner,
+        diagonal,
+        starts,
+        columns,
+        heads,
+        nexts,
+        homes,
+        values,
+        pivots,
+        owners,
+        blocks,
+        residual,
+        preconditioned,
+    ) else {
+        return Scale::Refused(16);
+    };
+    first_direction(residual, preconditioned, direction)
+}
+
+// z, s and direction of a later step. After a refusal z and direction are left free.
+pub fn renew(
+    preconditioner: Preconditioner,
+    diagonal: &[f64],
+    starts: &[u32],
+    columns: &[u32],
+    heads: &[u32],
+    nexts: &[u32],
+    homes: &[u32],
+    values: &[f64],
+    pivots: &[f64],
+    owners: &[u32],
+    blocks: &[f64],
+    residual: &[f64],
+    residual_product: f64,
+    preconditioned: &mut [f64],
+    direction: &mut [f64],
+) -> Scale
+    requires { ⌜ Ready preconditioner (now starts) (now columns) (now heads) (now nexts) (now homes) (ownerIn (now owners)) (length (now owners)) ⌝ }
+    requires { ⌜ (length (now values) ≡ length (now columns)) × (length (now nexts) ≡ length (now columns)) × (length (now homes) ≡ length (now columns)) × (36 * length (now residual) ≤ length (now blocks)) ⌝ }
+    requires { ⌜ (length (now heads) ≡ length (now residual)) × (length (now diagonal) ≡ length (now residual)) × (length (now pivots) ≡ length (now residual)) × (length (now owners) ≡ length (now residual)) ⌝ }
+    requires { ⌜ (length (now preconditioned) ≡ length (now residual)) × (length (now direction) ≡ length (now residual)) ⌝ }
+    ensures { λ r. ⌜ renewFrom (zIn preconditioner (now (diagonal .entry)) record { starts = now (starts .entry); columns = now (columns .entry); values = now (values .entry); pivots = now (pivots .entry); index = record { heads = now (heads .entry); nexts = now (nexts .entry); homes = now (homes .entry) }; blocks = now (blocks .entry) } (ownerIn (now (owners .entry))) (now (residual .entry))) (now (residual .entry)) record { direction = now (direction .entry); s = «residual_product» }
+        ≡ carriedOut r (now (direction .exit)) ⌝ }
+{
+    let Solved::Done = apply_preconditioner(
+        preconditioner,
+        diagonal,
+        starts,
+        columns,
+        heads,
+        nexts,
+        homes,
+        values,
+        pivots,
+        owners,
+        blocks,
+        residual,
+        preconditioned,
+    ) else {
+        return Scale::Refused(16);
+    };
+    next_direction(residual, residual_product, preconditioned, direction)
+}

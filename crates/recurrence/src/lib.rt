@@ -1,0 +1,12 @@
+// The recurrence of preconditioned conjugate gradients over lent vectors: it knows residuals, a factor and the operator, and nothing of positions.
+pub mod direction; // direction.rt: z, s and direction, at first and anew
+pub mod ratio; // ratio.rt: alpha, s and beta, with refusals 14, 15 and 16
+pub mod step; // step.rt: a step's solution and residual
+pub mod vector; // vector.rt: dot product and updates
+
+pub use direction::first;
+pub use direction::renew;
+pub use ratio::Scale;
+pub use step::Advanced;
+pub use step::advance;
+pub use vector::dot_product;

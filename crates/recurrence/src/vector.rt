@@ -1,0 +1,55 @@
+// The vector operations of the recurrence. None tests on the way: a number that went not finite stays so (proofs/Overflow.antt).
+ghost use mathlib.Core.Path.{_≡_};
+ghost use Prim.Native.Nat.{_≤_};
+ghost use lib.ListN.{length};
+ghost use Rattle.recurrence.specs.Vectors.{dotProductOf, plusScaled, lessScaled};
+
+// checked_dot_product of pcg.rs, untested.
+pub fn dot_product(left: &[f64], right: &[f64]) -> f64
+    requires { ⌜ length (now left) ≡ length (now right) ⌝ }
+    ensures { λ r. ⌜ r ≡ dotProductOf (now (left .entry)) (now (right .entry)) ⌝ }
+{
+    let mut sum = 0.0;
+    let mut i = 0;
+    while i < left.len() {
+        sum = sum + left[i] * right[i];
+        i += 1;
+    }
+    sum
+}
+
+// `out` gains `scale` times `vector`.
+pub fn scaled_add(out: &mut [f64], scale: f64, vector: &[f64])
+    requires { ⌜ length (now vector) ≡ length (now out) ⌝ }
+    ensures { λ _. ⌜ now (out .exit) ≡ plusScaled (now (out .entry)) scale (now (vector .entry)) ⌝ }
+{
+    let mut i = 0;
+    while i < out.len() {
+        out[i] = out[i] + scale * vector[i];
+        i += 1;
+    }
+}
+
+// `out` loses `scale` times `vector`.
+pub fn scaled_subtract(out: &mut [f64], scale: f64, vector: &[f64])
+    requires { ⌜ length (now vector) ≡ length (now out) ⌝ }
+    ensures { λ _. ⌜ now (out .exit) ≡ lessScaled (now (out .entry)) scale (now (vector .entry)) ⌝ }
+{
+    let mut i = 0;
+    while i < out.len() {
+        out[i] = out[i] - scale * vector[i];
+        i += 1;
+    }
+}
+
+// `direction` becomes `preconditioned` plus `scale` times itself.
+pub fn update_direction(direction: &mut [f64], preconditioned: &[f64], scale: f64)
+    requires { ⌜ length (now preconditioned) ≡ length (now direction) ⌝ }
+    ensures { λ _. ⌜ now (direction .exit) ≡ plusScaled (now (preconditioned .entry)) scale (now (direction .entry)) ⌝ }
+{
+    let mut i = 0;
+    while i < direction.len() {
+        direction[i] = preconditioned[i] + scale * direction[i];
+        i += 1;
+    }
+}

@@ -1,0 +1,2 @@
+-- P1 to P9.
+pub mod Proved
