@@ -1,5 +1,6 @@
 //! Times of a solve: the reference as published and without its timer lines, and an
-//! implementation if one is given. Buffers stay warm; nothing but the solve is timed.
+//! implementation if one is given; and of an implementation's closing check. Buffers stay
+//! warm; nothing but the solve or the check is timed.
 
 use crate::generator::{Shape, joined};
 use crate::implementation::Implementation;
@@ -7,6 +8,8 @@ use crate::job::*;
 use crate::random::Random;
 use std::hint::black_box;
 use std::time::{Duration, Instant};
+
+pub mod operator;
 
 /// Name, shape, joints and rows a joint.
 const FAMILIES: [(&str, Shape, usize, usize); 15] = [
@@ -144,6 +147,9 @@ const OWN_HEAD: &str = " port min | median | port / published | port / untimed |
 /// One table: minimum and median in µs for each, and ratios of minima.
 pub fn table(library: Option<&str>) -> Result<bool, String> {
     let implementation = library.map(Implementation::open).transpose()?;
+    if implementation.as_ref().is_some_and(|own| !own.solves()) {
+        return Err("the library has no function oracle_solve_position".to_string());
+    }
     let head = format!("{HEAD}{}", implementation.as_ref().map_or("", |_| OWN_HEAD));
     println!("{head}\n|{}", "---|".repeat(head.matches('|').count() - 1));
     for mode in [0, INCOMPLETE_CHOLESKY] {
@@ -177,4 +183,40 @@ fn print_row(label: &str, job: &Job, implementation: Option<&Implementation>) {
 fn short(value: f64) -> String {
     let places = if value < 10.0 { 2 } else { usize::from(value < 100.0) };
     format!("{value:.places$}")
+}
+
+/// The closing check of 512 rows on 256 bodies, with the solve's own multipliers, beside
+/// three products of the reference's operator on the same table and list, and of the
+/// port's if its library is given.
+pub fn closing(library: &str, operator_library: Option<&str>) -> Result<bool, String> {
+    let own = Implementation::open(library)?;
+    let job = mechanism(Shape::Loop, 256, 2, INCOMPLETE_CHOLESKY);
+    let list = crate::model::solve(&job).solution;
+    let [refusal, closed] = own.close(&job, &list);
+    if refusal != 0 {
+        return Err(format!("the check is refused by {refusal}: no time of a verdict"));
+    }
+    let mut operator = reference::Operator::new(&job.numbers, &job.words, &job.masses);
+    let product = operator.product(&list).map_err(|error| format!("{error:?}"))?.to_vec();
+    let mut solves: Vec<Solve> = vec![
+        Box::new(|| {
+            black_box(own.close(&job, black_box(&list)));
+        }),
+        Box::new(|| {
+            for _ in 0..3 {
+                let _ = black_box(operator.product(black_box(&list)));
+            }
+        }),
+    ];
+    if let Some(path) = operator_library {
+        let [mut apply, _] = operator::ported(path, &job, &list, &product)?;
+        solves.push(Box::new(move || (0..3).for_each(|_| apply())));
+    }
+    let verdict = if closed == 1 { "closed" } else { "open" };
+    println!("{} rows, {} bodies: {verdict}; µs, minimum and median", job.rows, job.bodies);
+    let names = ["closing check", "three products of the Rust", "three products of the port"];
+    for (name, times) in names.iter().zip(&times(solves)) {
+        println!("{name}: {} {}", short(times.minimum), short(times.median));
+    }
+    Ok(true)
 }

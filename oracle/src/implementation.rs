@@ -1,4 +1,5 @@
-//! An implementation under test: its two C functions, out of a shared library.
+//! An implementation under test: its C functions, out of a shared library. It may lack the
+//! solve, and may tell whether its work memory is cleared.
 
 use crate::job::Job;
 use std::ffi::{CString, c_char, c_int, c_void};
@@ -23,9 +24,12 @@ unsafe extern "C" {
 
 const RTLD_NOW: c_int = 2;
 
+type Cleared = unsafe extern "C" fn() -> c_int;
+
 pub struct Implementation {
-    solve: Solve,
+    solve: Option<Solve>,
     close: Close,
+    cleared: Option<Cleared>,
 }
 
 impl Implementation {
@@ -36,30 +40,37 @@ impl Implementation {
             return Err(format!("'{path}' cannot be opened as a shared library"));
         }
         let symbol = |name: &str| {
-            let symbol = CString::new(name).map_err(|error| error.to_string())?;
+            let symbol = CString::new(name).expect("no zero byte in a name");
             let found = unsafe { dlsym(library, symbol.as_ptr()) };
-            if found.is_null() {
-                Err(format!("'{path}' has no function {name}"))
-            } else {
-                Ok(found)
-            }
+            (!found.is_null()).then_some(found)
         };
+        let close = symbol("oracle_closing_check")
+            .ok_or_else(|| format!("'{path}' has no function oracle_closing_check"))?;
         Ok(Self {
-            solve: unsafe {
-                std::mem::transmute::<*mut c_void, Solve>(symbol("oracle_solve_position")?)
-            },
-            close: unsafe {
-                std::mem::transmute::<*mut c_void, Close>(symbol("oracle_closing_check")?)
-            },
+            solve: symbol("oracle_solve_position")
+                .map(|found| unsafe { std::mem::transmute::<*mut c_void, Solve>(found) }),
+            close: unsafe { std::mem::transmute::<*mut c_void, Close>(close) },
+            cleared: symbol("oracle_work_cleared")
+                .map(|found| unsafe { std::mem::transmute::<*mut c_void, Cleared>(found) }),
         })
+    }
+
+    pub fn solves(&self) -> bool {
+        self.solve.is_some()
+    }
+
+    /// Whether the work memory is +0.0; true where the implementation does not tell.
+    pub fn cleared(&self) -> bool {
+        self.cleared.is_none_or(|cleared| unsafe { cleared() } != 0)
     }
 
     #[rustfmt::skip]
     /// Writes into the job's multipliers, solution and impulses as the function does.
     pub fn solve(&self, job: &mut Job, solution: &mut [f64], impulses: &mut [f64]) -> [u64; 5] {
         let mut answer = [u64::MAX; 5];
+        let solve = self.solve.expect("the implementation solves");
         unsafe {
-            (self.solve)(
+            solve(
                 job.numbers.as_mut_ptr(), job.numbers.len(),
                 job.words.as_ptr(), job.words.len(),
                 job.masses.as_ptr(), job.masses.len(),

@@ -11,10 +11,12 @@ mod implementation;
 mod job;
 mod job_file;
 mod judge;
+mod library;
 mod listing;
 mod model;
 mod operator_list;
 mod packing;
+mod preconditioner_list;
 mod random;
 mod recorded;
 mod tally;
@@ -29,8 +31,11 @@ const USAGE: &str = "usage: oracle/run COMMAND
   replay                          judges the recorded jobs anew
   blocks [JOBS] [SEED]            mode 2 of the model against the Rust's velocity side
   operator                        the list that crates/operator_recorded replays, to standard output
+  bench-operator [LIBRARY]        time of the reference's operator, and of an implementation's
+  preconditioner                  the list that crates/preconditioner_recorded replays, likewise
   differences                     docs/DIFFERENCES.md's inputs on the reference
   bench [LIBRARY]                 times of the reference, and of an implementation
+  bench-closing LIBRARY [OPERATOR] time of an implementation's closing check at 512 rows
   job FILE                        what the job program prints of a job file
   files FOLDER [JOBS] [SEED]      job files in every placement, with what the program prints
   examples                        document 01's P1 to P9 as job files, in target/examples";
@@ -62,9 +67,14 @@ fn command(words: &[&str]) -> Result<bool, String> {
         ["replay"] => recorded::replay(&home()),
         ["blocks", ..] => Ok(blocks::run(number(1, 100_000)?, number(2, 1)?)),
         ["operator"] => operator_list::write(),
+        ["bench-operator"] => bench::operator::table(None),
+        ["bench-operator", library] => bench::operator::table(Some(library)),
+        ["preconditioner"] => preconditioner_list::write(),
         ["differences"] => Ok(differences::run()),
         ["bench"] => bench::table(None),
         ["bench", library] => bench::table(Some(library)),
+        ["bench-closing", library] => bench::closing(library, None),
+        ["bench-closing", library, operator] => bench::closing(library, Some(operator)),
         ["job", file] => {
             let bytes = std::fs::read(file).map_err(|error| format!("{file}: {error}"))?;
             print!("{}", listing::of_file(&bytes));

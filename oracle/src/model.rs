@@ -47,6 +47,11 @@ fn attempt(job: &Job) -> Judged<Solved> {
     Ok(Solved { answer, solution: ended.solution, multipliers, impulses })
 }
 
+/// What turns back the factor of the job's mode, 0 where nothing does. The diagonal is given.
+pub fn factor_refusal(job: &Job, diagonal: &[f64]) -> u32 {
+    Preconditioner::build(job.mode, &Table::of(job), diagonal).err().unwrap_or(0)
+}
+
 /// Count 0: multipliers keep their bits, solution and impulses are +0.0.
 fn at_step_zero(job: &Job, table: &Table, residual: &[f64]) -> Solved {
     Solved {

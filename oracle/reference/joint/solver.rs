@@ -15,6 +15,7 @@ mod pcg {
     include!(env!("ORACLE_PCG"));
 
     pub mod operator;
+    pub mod preconditioner;
 }
 
 pub mod harness;
