@@ -115,7 +115,7 @@ fn summary(mut times: Vec<f64>) -> Times {
     Times { minimum: times[0], median: times[times.len() / 2] }
 }
 
-/// Multipliers go on renewal_overflow from run to run; nothing that a solve does depends on them.
+/// Multipliers go on growing from run to run; nothing that a solve does depends on them.
 fn published(job: &Job) -> Solve<'_> {
     let mut prepared = reference::Prepared::new(&job.numbers, &job.words, &job.masses);
     let cholesky = job.mode == INCOMPLETE_CHOLESKY;
