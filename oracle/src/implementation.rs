@@ -2,7 +2,8 @@
 //! solve, and may tell whether its work memory is cleared.
 
 use crate::job::Job;
-use std::ffi::{CString, c_char, c_int, c_void};
+use crate::library::Library;
+use std::ffi::{c_int, c_void};
 
 #[rustfmt::skip]
 type Solve = unsafe extern "C" fn(
@@ -16,14 +17,6 @@ type Close = unsafe extern "C" fn(
     f64, f64, u32, u32, *const f64, usize, *mut u64, usize,
 );
 
-#[link(name = "dl")]
-unsafe extern "C" {
-    fn dlopen(file: *const c_char, flags: c_int) -> *mut c_void;
-    fn dlsym(library: *mut c_void, name: *const c_char) -> *mut c_void;
-}
-
-const RTLD_NOW: c_int = 2;
-
 type Cleared = unsafe extern "C" fn() -> c_int;
 
 pub struct Implementation {
@@ -34,23 +27,17 @@ pub struct Implementation {
 
 impl Implementation {
     pub fn open(path: &str) -> Result<Self, String> {
-        let file = CString::new(path).map_err(|error| error.to_string())?;
-        let library = unsafe { dlopen(file.as_ptr(), RTLD_NOW) };
-        if library.is_null() {
-            return Err(format!("'{path}' cannot be opened as a shared library"));
-        }
-        let symbol = |name: &str| {
-            let symbol = CString::new(name).expect("no zero byte in a name");
-            let found = unsafe { dlsym(library, symbol.as_ptr()) };
-            (!found.is_null()).then_some(found)
-        };
-        let close = symbol("oracle_closing_check")
-            .ok_or_else(|| format!("'{path}' has no function oracle_closing_check"))?;
+        let library = Library::open(path)?;
+        let close = library.function("oracle_closing_check")?;
         Ok(Self {
-            solve: symbol("oracle_solve_position")
+            solve: library
+                .function("oracle_solve_position")
+                .ok()
                 .map(|found| unsafe { std::mem::transmute::<*mut c_void, Solve>(found) }),
             close: unsafe { std::mem::transmute::<*mut c_void, Close>(close) },
-            cleared: symbol("oracle_work_cleared")
+            cleared: library
+                .function("oracle_work_cleared")
+                .ok()
                 .map(|found| unsafe { std::mem::transmute::<*mut c_void, Cleared>(found) }),
         })
     }
