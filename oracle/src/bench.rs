@@ -10,6 +10,7 @@ use std::hint::black_box;
 use std::time::{Duration, Instant};
 
 pub mod operator;
+pub mod preconditioner;
 
 /// Name, shape, joints and rows a joint.
 const FAMILIES: [(&str, Shape, usize, usize); 15] = [

@@ -103,3 +103,7 @@ module _ (case : List ℕ) (s : System) (owner : ℕ → ℕ) (residual l b y : 
 
 pub fit-runs : (s : System) (owner : ℕ → ℕ) (l b : List Float) (answer : Blocked) → 36 * s .rows ≤ length l → blocksRun s owner l ≡ blockedOut answer b → answer ≡ blocked.Done → RunsFit owner (s .rows)
 fit-runs s owner l b answer room called t = runs-fit s owner l room b (called ∙ rw t)
+
+-- `blocks_worked`
+pub blocks-told : (case : List ℕ) (s : System) (owner : ℕ → ℕ) (residual l u y z : List Float) (r : Seen) → r ≡ blocksSeen case s owner residual l y → l ≡ u → y ≡ z → r ≡ blocksSeen case s owner residual u z
+blocks-told case s owner residual l u y z r e el ey = rw (el, ey) at e

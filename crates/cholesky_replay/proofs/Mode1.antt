@@ -1,9 +1,8 @@
 -- The ways through the functions that build mode 1's factor and solve with it. Assumes nothing.
-use Prim.Native.Nat.{ℕ, _≤_}
+use Prim.Native.Nat.{ℕ}
 use mathlib.Core.Path.{_≡_, _∙_}
 use mathlib.Core.Bool.{Bool}
 use mathlib.Core.List.{List}
-use lib.ListN.{length}
 use lib.Ieee.{Float}
 use Rattle.loops.specs.Run.{Run}
 use Rattle.mass_operator.specs.System.{System}
@@ -20,9 +19,6 @@ use Rattle.factor_replay.specs.declared.seen.Seen.{Seen}
 
 pub indexed-kept : (starts columns heads nexts homes : List ℕ) (count : ℕ) → Indexed starts columns heads nexts homes count → Kept starts columns
 indexed-kept starts columns heads nexts homes count h = h .kept
-
-pub indexed-places : (starts columns heads nexts homes : List ℕ) (count : ℕ) → Indexed starts columns heads nexts homes count → count ≤ length columns
-indexed-places starts columns heads nexts homes count h = rw (h .all) (h .kept .inside (length heads))
 
 -- `factored_seen`: o is what the solve leaves
 pub solve-told : (case : List ℕ) (n m : ℕ) (residual : List Float) (L : Sparse) (pivots y : List Float) (same : Bool) (o : Run (List Float) (List Float)) (r : Seen)
@@ -46,3 +42,7 @@ module _ (s : System) (diagonal : List Float) (answer : Built) (starts columns :
         → r ≡ choleskySeen case s diagonal residual y
     unfolding choleskySeen builtSeen
     seen-built w count t ew er = er ∙ rw (ew, held .answered, t)
+
+-- `cholesky_worked`
+pub cholesky-told : (case : List ℕ) (s : System) (diagonal residual y z : List Float) (r : Seen) → r ≡ choleskySeen case s diagonal residual y → y ≡ z → r ≡ choleskySeen case s diagonal residual z
+cholesky-told case s diagonal residual y z r e ey = rw ey at e

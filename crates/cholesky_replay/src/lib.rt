@@ -1,4 +1,5 @@
 // Mode 1 on a case of the recorded list of preconditioners.
 pub mod cholesky; // cholesky.rt: the incomplete factor and its solve beside the recorded ones
+pub mod work; // work.rt: work memory
 
-pub use cholesky::cholesky_seen;
+pub use work::cholesky_worked;

@@ -4,16 +4,12 @@ ghost use mathlib.Core.Path.{_≡_};
 ghost use Prim.Native.Nat.{_+_, _<_, _≤_};
 ghost use lib.ListN.{length};
 
-mod links; // links.rt: body numbers below the body count
-mod replay; // replay.rt: one case
-mod table; // table.rt: the table of a case
 mod tally; // tally.rt: the counts
-mod work; // work.rt: work memory
 
 use libc::STDIN_FILENO;
 use libc::STDOUT_FILENO;
+use preconditioner_replay::case_seen;
 use recorded_list::word;
-use replay::replay;
 use tally::Count;
 
 // A case begins with its length. Where that is none, the rest of the list is one malformed case.
@@ -41,7 +37,7 @@ fn list_counted(mode: u64, list: &[u8]) -> Count
         let end = at + case_size(list, at);
         let case = &list[at..end];
         if word(case, 8) == mode {
-            count = count.with(replay(case));
+            count = count.with(case_seen(case));
         }
         at = end;
     }

@@ -1,4 +1,5 @@
 -- Laws of the index by column, and of the loops along a row and along a column.
-pub mod Chain
-pub mod Link
+pub mod Order
+pub mod Building
+pub mod Down
 pub mod Solves

@@ -1,27 +1,25 @@
 -- The ways through the functions of the triangular solves. Assumes nothing.
-use Prim.Native.Nat.{ℕ, zero, suc, _+_, _-_, _<_, _≤_}
-use mathlib.Core.Path.{_≡_, refl, ap, sym, _∙_}
+use Prim.Native.Nat.{ℕ, _-_, _<_, _≤_}
+use mathlib.Core.Path.{_≡_, refl, _∙_}
 use mathlib.Core.Bool.{Bool, true, false, not}
 use mathlib.Core.List.{List}
-use mathlib.Core.Option.{Option, none, some}
-use native.Mathlib.Omega.{arith}
 use lib.ListN.{getD, set, length}
 use lib.Ieee.{Float, nan, binary64, sub, mul, div}
 use lib.Ieee.Scale.{finite}
-use Rattle.loops.specs.Run.{Run, going, ended, on, turns, check}
-use Rattle.loops.proofs.Loop.{loops, check-pass, check-fail}
+use Rattle.loops.specs.Run.{Run, going, ended, on}
+use Rattle.loops.proofs.Loop.{check-pass, check-fail}
 use Rattle.sparse.specs.Count.{count}
 use Rattle.sparse.specs.Triangle.{Sparse}
 use Rattle.sparse.specs.Cholesky.{less}
 use Rattle.triangular.specs.Triangular.{transposed, alongTurn, written, forwardTurn, forwardRun, backwardOf, backwardTurn, backwardRun, solveRun}
-use Rattle.sparse.specs.Kept.{start, Kept, Row, numbers}
-use Rattle.triangular.specs.Column.{Next, Placed, Indexed}
+use Rattle.sparse.specs.Kept.{Row, numbers}
+use Rattle.triangular.specs.Index.{Spread}
 use Rattle.triangular.specs.Answers.{solveOut}
 use Rattle.triangular.specs.declared.substitution.Solved.{Solved}
 use Rattle.triangular.specs.declared.substitution.Solved.the-variants.{Done, Overflow}
-use Rattle.sparse.proofs.Hop.{plain, counted, Skips}
+use Rattle.sparse.proofs.Hop.{plain, Skips}
 use Rattle.sparse.proofs.Rows.{numbers-some, numbers-none}
-use Rattle.triangular.proofs.Chain.{Absent, Passes, Links, Chain, chain-none, chain-more, chain-end, linked, column-some, column-none}
+use Rattle.triangular.proofs.Down.{down-some, down-none}
 
 module _ {starts columns : List ℕ} {i a b : ℕ} (row : Row starts columns i a b) where
   pub along-skip : (values y : List Float) (v : Float) → Skips (plain (alongTurn (numbers starts columns values i) y)) columns a b v
@@ -56,41 +54,15 @@ module _ {f : Run (List Float) (List Float)} (r : Solved) (y : List Float) (call
   solved-out told = called ∙ rw told
 
 -- ---- along a column
-pub next-head : (starts columns heads nexts rows : List ℕ) (count j : ℕ) → Indexed starts columns heads nexts rows count → j < length heads → Next columns j 0 count (getD heads j 0)
-next-head starts columns heads nexts rows count j index h = index .head j h
-
-pub next-follow : (starts columns heads nexts rows : List ℕ) (count p w : ℕ) → Indexed starts columns heads nexts rows count → p < count → w ≡ p
-    → Next columns (getD columns p 0) (p + 1) count (getD nexts w 0)
-next-follow starts columns heads nexts rows count p w index h e = rw e (index .follow p h)
-
-pub home-below : (starts columns heads nexts rows : List ℕ) (count p r : ℕ) → Indexed starts columns heads nexts rows count → p < count → r ≡ getD rows p 0 → r < length heads
-home-below starts columns heads nexts rows count p r index h e = omega (arith, index .placed p h .one, index .long)
-
-column-way : {starts columns heads nexts rows : List ℕ} {count : ℕ} (index : Indexed starts columns heads nexts rows count) (values y : List Float) (j p r : ℕ) (v x : Float)
-    → p < count → getD columns p 0 ≡ j → x ≡ getD values p nan → r ≡ getD rows p 0
-    → plain (alongTurn (transposed (numbers starts columns values) j) y) (getD rows p 0) v ≡ going (sub binary64 v (mul binary64 x (getD y r nan)))
-unfolding plain alongTurn transposed less
-column-way index values y j p r v x l e ex er = rw (column-some index values p j l e, ex, er)
-
-module _ {starts columns heads nexts rows : List ℕ} {count : ℕ} (index : Indexed starts columns heads nexts rows count) where
-  column-skip : (values y : List Float) (j : ℕ) (v : Float) → Passes (plain (alongTurn (transposed (numbers starts columns values) j) y)) columns rows j count (length heads) v
+module _ {starts columns heads nexts rows : List ℕ} {count j a b : ℕ} (spread : Spread starts columns heads nexts rows count j a b) where
+  pub down-skip : (values y : List Float) (v : Float) → Skips (plain (alongTurn (transposed (numbers starts columns values) j) y)) rows a b v
   unfolding plain alongTurn transposed less
-  column-skip values y j v = record { skip = λ r l m. rw (column-none index values r j l m) }
+  down-skip values y v = record { skip = λ k m. rw (down-none spread values k m) }
 
-  pub column-first : (values y : List Float) (j p : ℕ) (s : Float) → Next columns j 0 count p
-      → Chain (plain (alongTurn (transposed (numbers starts columns values) j) y)) s columns rows j count (length heads) p s
-  column-first values y j p s nx = chain-none (linked index j) (column-skip values y j s) nx
-
-  pub column-more : (values y : List Float) (j p p′ r : ℕ) (s v x : Float)
-      → Chain (plain (alongTurn (transposed (numbers starts columns values) j) y)) s columns rows j count (length heads) p v
-      → p < count → Next columns (getD columns p 0) (p + 1) count p′ → x ≡ getD values p nan → r ≡ getD rows p 0
-      → Chain (plain (alongTurn (transposed (numbers starts columns values) j) y)) s columns rows j count (length heads) p′ (sub binary64 v (mul binary64 x (getD y r nan)))
-  column-more values y j p p′ r s v x h l nx ex er = chain-more h l way (column-skip values y j _) nx
-    where
-      way : plain (alongTurn (transposed (numbers starts columns values) j) y) (getD rows p 0) v ≡ going (sub binary64 v (mul binary64 x (getD y r nan)))
-      way = column-way index values y j p r v x l (h .hit l) ex er
-
-pub ruleset chains = (chain-end, counted, loops)
+  pub down-way : (values y : List Float) (q p r : ℕ) (v x : Float) → a ≤ q → q < b → p ≡ getD nexts q 0 → r ≡ getD rows q 0 → x ≡ mul binary64 (getD values p nan) (getD y r nan)
+      → plain (alongTurn (transposed (numbers starts columns values) j) y) (getD rows q 0) v ≡ going (sub binary64 v x)
+  unfolding plain alongTurn transposed less
+  down-way values y q p r v x l h ep er ex = rw (down-some spread values q l h, ex, ep, er)
 
 pub backward-way : (L : Sparse) (pivots y : List Float) (i n : ℕ) (v : Float) {o : Run (List Float) (List Float)}
     → v ≡ count (alongTurn (transposed L i) y) (getD y i nan) n → n ≡ length pivots → written y i (div binary64 v (getD pivots i nan)) ≡ o → backwardOf L pivots i y ≡ o

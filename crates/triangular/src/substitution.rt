@@ -2,11 +2,14 @@
 ghost use mathlib.Core.Path.{_≡_};
 ghost use Prim.Native.Nat.{_+_, _-_, _<_, _≤_};
 ghost use lib.ListN.{length, getD, set};
+ghost use lib.Ieee.{nan, binary64, mul};
 ghost use Rattle.sparse.specs.Count.{count as down};
 ghost use Rattle.sparse.specs.Kept.{Kept, numbers};
-ghost use Rattle.triangular.specs.Column.{Next, Indexed};
+ghost use Rattle.triangular.specs.Column.{Indexed};
+ghost use Rattle.triangular.specs.Index.{Spread};
 ghost use Rattle.triangular.specs.Triangular.{transposed, alongTurn, forwardTurn, forwardRun, backwardOf, backwardRun, solveRun};
 ghost use Rattle.triangular.specs.Answers.{solveOut};
+use sparse::Stretch;
 use sparse::column;
 use sparse::earlier;
 use sparse::number;
@@ -99,8 +102,8 @@ pub fn forward(
     Solved::Done
 }
 
-// the first place of column `j`
-fn head(
+// Column `j` in the order by column.
+fn column_stretch(
     starts: &[u32],
     columns: &[u32],
     heads: &[u32],
@@ -108,33 +111,40 @@ fn head(
     rows: &[u32],
     count: u32,
     j: usize,
-) -> u32
+) -> Stretch
     requires { ⌜ Indexed (now starts) (now columns) (now heads) (now nexts) (now rows) count ⌝ }
     requires { ⌜ j < length (now heads) ⌝ }
-    ensures { λ r. ⌜ Next (now (columns .entry)) j 0 count r ⌝ }
+    ensures { λ r. ⌜ Spread (now (starts .entry)) (now (columns .entry)) (now (heads .entry)) (now (nexts .entry)) (now (rows .entry)) count j (r .first) (r .end) ⌝ }
 {
-    heads[j]
+    let end = heads[j];
+    if j == 0 {
+        return Stretch { first: 0, end };
+    }
+    let first = heads[j - 1];
+    Stretch { first, end }
 }
 
-// the next place of the same column
-fn follow(
+// The place at `q` of that order.
+fn place_at(
     starts: &[u32],
     columns: &[u32],
     heads: &[u32],
     nexts: &[u32],
     rows: &[u32],
     count: u32,
-    p: u32,
+    j: usize,
+    first: u32,
+    end: u32,
+    q: u32,
 ) -> u32
-    requires { ⌜ Indexed (now starts) (now columns) (now heads) (now nexts) (now rows) count ⌝ }
-    requires { ⌜ p < count ⌝ }
-    requires { ⌜ count ≤ length (now nexts) ⌝ }
-    ensures { λ r. ⌜ Next (now (columns .entry)) (getD (now (columns .entry)) p 0) (p + 1) count r ⌝ }
+    requires { ⌜ Spread (now starts) (now columns) (now heads) (now nexts) (now rows) count j first end ⌝ }
+    requires { ⌜ (first ≤ q) × (q < end) × (count ≤ length (now nexts)) ⌝ }
+    ensures { λ r. ⌜ (r ≡ getD (now (nexts .entry)) q 0) × (r < count) ⌝ }
 {
-    nexts[wide(p)]
+    nexts[wide(q)]
 }
 
-// the row of a place
+// Its row.
 fn home(
     starts: &[u32],
     columns: &[u32],
@@ -142,15 +152,24 @@ fn home(
     nexts: &[u32],
     rows: &[u32],
     count: u32,
-    p: u32,
+    j: usize,
+    first: u32,
+    end: u32,
+    q: u32,
 ) -> usize
-    requires { ⌜ Indexed (now starts) (now columns) (now heads) (now nexts) (now rows) count ⌝ }
-    requires { ⌜ p < count ⌝ }
-    requires { ⌜ count ≤ length (now rows) ⌝ }
-    ensures { λ r. ⌜ r ≡ getD (now (rows .entry)) p 0 ⌝ }
-    ensures { λ r. ⌜ r < length (now (heads .entry)) ⌝ }
+    requires { ⌜ Spread (now starts) (now columns) (now heads) (now nexts) (now rows) count j first end ⌝ }
+    requires { ⌜ (first ≤ q) × (q < end) × (count ≤ length (now rows)) ⌝ }
+    ensures { λ r. ⌜ (r ≡ getD (now (rows .entry)) q 0) × (r < length (now (heads .entry))) ⌝ }
 {
-    column(rows, p)
+    column(rows, q)
+}
+
+// The factor at place `p` times the output of row `r`.
+fn term(values: &[f64], output: &[f64], p: u32, r: usize) -> f64
+    requires { ⌜ (p < length (now values)) × (r < length (now output)) ⌝ }
+    ensures { λ x. ⌜ x ≡ mul binary64 (getD (now (values .entry)) p nan) (getD (now (output .entry)) r nan) ⌝ }
+{
+    number(values, p) * output[r]
 }
 
 // `value` less the products of column `j` with `output`
@@ -174,13 +193,16 @@ fn along_column(
     requires { ⌜ j < length (now heads) ⌝ }
     ensures { λ r. ⌜ r ≡ down (alongTurn (transposed (numbers (now (starts .entry)) (now (columns .entry)) (now (values .entry))) j) (now (output .entry))) value (length (now (heads .entry))) ⌝ }
 {
+    let column = column_stretch(starts, columns, heads, nexts, rows, count, j);
+    let first = column.first;
+    let end = column.end;
     let mut rest = value;
-    let mut p = head(starts, columns, heads, nexts, rows, count, j);
-    while p < count {
-        let r = home(starts, columns, heads, nexts, rows, count, p);
-        let factor = number(values, p);
-        rest = rest - factor * output[r];
-        p = follow(starts, columns, heads, nexts, rows, count, p);
+    let mut q = first;
+    while q < end {
+        let p = place_at(starts, columns, heads, nexts, rows, count, j, first, end, q);
+        let r = home(starts, columns, heads, nexts, rows, count, j, first, end, q);
+        rest = rest - term(values, output, p, r);
+        q += 1;
     }
     rest
 }

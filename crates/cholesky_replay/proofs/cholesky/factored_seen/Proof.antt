@@ -1,6 +1,7 @@
 -- `cholesky_replay::cholesky::factored_seen` meets its contract. Assumes nothing.
 use native.Mathlib.Omega.{arith}
-use Rattle.cholesky_replay.proofs.Mode1.{indexed-kept, indexed-places, solve-told}
+use Rattle.triangular.proofs.Down.{indexed-places}
+use Rattle.cholesky_replay.proofs.Mode1.{indexed-kept, solve-told}
 use Rattle.cholesky_replay.proofs.cholesky.factored_seen.Statement.{statement}
 use Rattle.cholesky_replay.proofs.cholesky.factored_seen.Tie as tie
 

@@ -1,0 +1,2 @@
+-- The ways through the functions for C.
+pub mod Ways
