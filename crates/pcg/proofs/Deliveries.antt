@@ -30,23 +30,11 @@ use Rattle.pcg.specs.Outcome.{Lent, Outcome, withMultipliers, resultOf, 
 use Rattle.pcg.specs.Delivery.{Judged, Handed, acceptedOf, finishedOf}
 use Rattle.incomplete_cholesky.specs.Build.{zeros}
 use Rattle.pcg.specs.declared.answer.PositionPcg.{PositionPcg}
-use Rattle.pcg.specs.Lengths.{vectorLengths, factorLengths}
-use Rattle.pcg.specs.Work.{Vectors, Places, noVectors, noPlaces}
 use Rattle.pcg.specs.declared.answer.PositionPcg.the-variants as answers
-use Rattle.loops.specs.Cleared.{cleared, clearedWords}
 use Rattle.kapitsa_joint.specs.Tolerance.{dimensionOf}
 use Rattle.position.specs.Residual.{maximaOf}
 use Rattle.recurrence.specs.Step.{Iterate}
 use Rattle.position.specs.declared.residual.Maxima.{Maxima}
-
--- ---- `clear_vectors`, `clear_factor`
-pub vectors-cleared : (jacobians₀ jacobians : List Float) (links₀ links : List ℕ) (owners₀ owners : List ℕ) (diagonal₀ diagonal : List Float) (residual₀ residual : List Float) (pending₀ pending : List Float) (preconditioned₀ preconditioned : List Float) (direction₀ direction : List Float) (product₀ product : List Float) (bodyImpulses₀ bodyImpulses : List Float) (bodyResponses₀ bodyResponses : List Float) → jacobians ≡ cleared jacobians₀ → links ≡ clearedWords links₀ → owners ≡ clearedWords owners₀ → diagonal ≡ cleared diagonal₀ → residual ≡ cleared residual₀ → pending ≡ cleared pending₀ → preconditioned ≡ cleared preconditioned₀ → direction ≡ cleared direction₀ → product ≡ cleared product₀ → bodyImpulses ≡ cleared bodyImpulses₀ → bodyResponses ≡ cleared bodyResponses₀
-    → _≡_ {A = Vectors} (record { jacobians = jacobians; links = links; owners = owners; diagonal = diagonal; residual = residual; pending = pending; preconditioned = preconditioned; direction = direction; product = product; bodyImpulses = bodyImpulses; bodyResponses = bodyResponses }) (noVectors (vectorLengths jacobians₀ links₀ owners₀ diagonal₀ residual₀ pending₀ preconditioned₀ direction₀ product₀ bodyImpulses₀ bodyResponses₀))
-vectors-cleared jacobians₀ jacobians links₀ links owners₀ owners diagonal₀ diagonal residual₀ residual pending₀ pending preconditioned₀ preconditioned direction₀ direction product₀ product bodyImpulses₀ bodyImpulses bodyResponses₀ bodyResponses e0 e1 e2 e3 e4 e5 e6 e7 e8 e9 e10 = rw (e0, e1, e2, e3, e4, e5, e6, e7, e8, e9, e10)
-
-pub places-cleared : (starts₀ starts : List ℕ) (columns₀ columns : List ℕ) (values₀ values : List Float) (pivots₀ pivots : List Float) (marks₀ marks : List ℕ) (heads₀ heads : List ℕ) (nexts₀ nexts : List ℕ) (homes₀ homes : List ℕ) (blocks₀ blocks : List Float) → starts ≡ clearedWords starts₀ → columns ≡ clearedWords columns₀ → values ≡ cleared values₀ → pivots ≡ cleared pivots₀ → marks ≡ clearedWords marks₀ → heads ≡ clearedWords heads₀ → nexts ≡ clearedWords nexts₀ → homes ≡ clearedWords homes₀ → blocks ≡ cleared blocks₀
-    → _≡_ {A = Places} (record { starts = starts; columns = columns; values = values; pivots = pivots; marks = marks; heads = heads; nexts = nexts; homes = homes; blocks = blocks }) (noPlaces (factorLengths starts₀ columns₀ values₀ pivots₀ marks₀ heads₀ nexts₀ homes₀ blocks₀))
-places-cleared starts₀ starts columns₀ columns values₀ values pivots₀ pivots marks₀ marks heads₀ heads nexts₀ nexts homes₀ homes blocks₀ blocks e0 e1 e2 e3 e4 e5 e6 e7 e8 = rw (e0, e1, e2, e3, e4, e5, e6, e7, e8)
 
 -- ---- `accept`
 pub accepts : (flag : Bool) (count : ℕ) (words : List ℕ) (residual : List Float) (m : Maxima) → m ≡ maximaOf (λ i. dimensionOf (getD words (8 * i + 1) 0)) residual (length residual)

@@ -6,7 +6,7 @@ use mathlib.Core.List.{List, [], _∷_}
 use native.Mathlib.Omega.{arith}
 use lib.Ieee.{Float}
 use borrow.Author.Tests.{not-true, not-false}
-use Rattle.loops.specs.Run.{Run, going, ended, next}
+use Rattle.loops.specs.Run.{Run, going, ended, next, on}
 use Rattle.loops.specs.Judge.{judge}
 use Rattle.loops.proofs.Loop.{on-going, on-ended}
 use Rattle.kapitsa_joint.specs.Table.{Table}
@@ -19,16 +19,14 @@ use Rattle.steps.specs.Solve.{counting, deliver, solve}
 use Rattle.steps.proofs.Answer.{means}
 use Rattle.position_steps.specs.Method.{passes5, openingOf, positionMethod, Delivered}
 use Rattle.position_steps.specs.Standing.{iteratedOut}
-use Rattle.position_steps.specs.Counting.{countingOf}
+use Rattle.position_steps.specs.Counting.{countingOf, Counted}
 use Rattle.position_steps.specs.declared.iteration.Iterated.{Iterated}
 use Rattle.position_steps.specs.declared.iteration.Iterated.the-variants as iterated
 use Rattle.pcg.specs.Delivery.{finishedOf}
 use Rattle.pcg.specs.Outcome.{Lent, Outcome, Answer, outcomeOf, resultOf, lentOf, AcceptedAs, RefusedAs, SolveMeaning}
-use Rattle.pcg.specs.Work.{Vectors, Places, noVectors, noPlaces, After}
+use Rattle.pcg.specs.Opening.{countedOf}
 use Rattle.pcg.specs.declared.answer.PositionPcg.{PositionPcg}
 use Rattle.pcg.specs.declared.answer.PositionPcg.the-variants as answers
-use Rattle.pcg.specs.declared.fit.VectorLengths.{VectorLengths}
-use Rattle.pcg.specs.declared.fit.FactorLengths.{FactorLengths}
 
 abbrev outcome : PositionPcg → Lent → Outcome
 outcome r l = record { answer = r; lent = l }
@@ -48,16 +46,27 @@ pub counted-refused : (t : Table) (n limit : ℕ) (before : Lent) (pending resid
 unfolding outcomeOf
 counted-refused t n limit before pending residual a k e = ap (outcomeOf n before) (on-ended _ _ _ {a = k} (rw e))
 
--- ---- `work_out`
-module _ (t : Table) (mode : Mode) (n limit : ℕ) (before : Lent) where
-  pub work-refused : (k : ℕ) → openingOf true t limit ≡ ended k → outcomeOf n before (solve (positionMethod true t mode) limit) ≡ outcome (answers.Refused k) before
-  unfolding solve outcomeOf
-  work-refused k e = ap (outcomeOf n before) (on-ended _ _ _ {a = k} e)
+-- ---- `open_and_count`
+module _ (t : Table) (mode : Mode) (limit : ℕ) where
+  pub opening-refused : (k : ℕ) → openingOf true t limit ≡ ended k → countedOf mode t limit ≡ ended k
+  unfolding countedOf
+  opening-refused k e = on-ended _ _ _ {a = k} e
 
-  pub work-on : (a : Iterated) (pending residual : List Float) (o : Outcome) → openingOf true t limit ≡ going tt → countingOf mode t limit ≡ iteratedOut a limit pending residual
-      → outcomeOf n before (next (iteratedOut a limit pending residual) (finishedOf t)) ≡ o → outcomeOf n before (solve (positionMethod true t mode) limit) ≡ o
-  unfolding solve finishedOf
-  work-on a pending residual o e c h = ap (outcomeOf n before) (on-going _ _ _ {s = tt} e ∙ ap (λ (x : Run (Bool × ℕ × Iterate) ℕ). next x (deliver (positionMethod true t mode))) c) ∙ h
+  pub opening-passed : (m : Mode) (x : Run (Bool × ℕ × Iterate) ℕ) → m ≡ mode → openingOf true t limit ≡ going tt → countingOf m t limit ≡ x → countedOf mode t limit ≡ x
+  unfolding countedOf
+  opening-passed m x h e c = on-going _ _ _ {s = tt} e ∙ ap (λ (k : Mode). countingOf k t limit) (sym h) ∙ c
+
+pub counted-none : (t : Table) (masses jacobians : List Float) (links : List ℕ) (k : ℕ) → Counted t masses (iterated.Refused k) jacobians links
+counted-none t masses jacobians links k = record { met = λ count e. absurd (let z : _≡_ {A = ℕ} 0 1 = cc in omega arith); spent = λ e. absurd (let z : _≡_ {A = ℕ} 0 1 = cc in omega arith) }
+
+-- ---- `work_out`: what is delivered of what is counted
+pub worked-out : (t : Table) (mode : Mode) (n limit : ℕ) (before : Lent) (x : Run (Bool × ℕ × Iterate) ℕ) (o : Outcome) → countedOf mode t limit ≡ x → outcomeOf n before (next x (finishedOf t)) ≡ o → outcomeOf n before (solve (positionMethod true t mode) limit) ≡ o
+unfolding solve finishedOf countedOf on
+worked-out t mode n limit before x o e h = ap (outcomeOf n before) (joined (openingOf true t limit) ∙ ap (λ (y : Run (Bool × ℕ × Iterate) ℕ). next y (deliver (positionMethod true t mode))) e) ∙ h
+  where
+    joined : (p : Run Unit ℕ) → next p (λ _. next (countingOf mode t limit) (deliver (positionMethod true t mode))) ≡ next (next p (λ _. countingOf mode t limit)) (deliver (positionMethod true t mode))
+    joined (going _) = refl
+    joined (ended k) = refl
 
 -- ---- the entry
 module _ (t : Table) (mode : Mode) (n limit : ℕ) (before : Lent) (b fits : Bool) (e : b ≡ fits) where
@@ -80,14 +89,3 @@ module _ (m : Method Iterate Carried Delivered) (limit n : ℕ) (before after : 
     where
       told : (o : Outcome) → outcomeOf n before (solve m limit) ≡ o → SolveMeaning m limit n before (o .answer) (o .lent)
       told o q = rw (← q) (said (solve m limit) refl)
-
--- the work memory afterwards
-module _ (b fits : Bool) (e : b ≡ fits) (vl : VectorLengths) (fl : FactorLengths) (v : Vectors) (p : Places) where
-  pub after-three : not b ≡ true → After fits vl fl v p v p
-  after-three h = record { cleared = λ t. absurd (let z : true ≡ false = sym t ∙ sym e ∙ not-true b h in let y : _≡_ {A = ℕ} 0 1 = cc in omega arith); untouched = λ _. (refl, refl) }
-
-  pub after-cleared : (v′ : Vectors) (p′ : Places) (vl′ : VectorLengths) (fl′ : FactorLengths) → not b ≡ false → v′ ≡ noVectors vl′ → vl′ ≡ vl → p′ ≡ noPlaces fl′ → fl′ ≡ fl → After fits vl fl v p v′ p′
-  after-cleared v′ p′ vl′ fl′ h ev evl ep efl = record {
-    cleared = λ _. (ev ∙ ap noVectors evl, ep ∙ ap noPlaces efl);
-    untouched = λ t. absurd (let z : true ≡ false = sym (not-false b h) ∙ e ∙ t in let y : _≡_ {A = ℕ} 0 1 = cc in omega arith);
-  }

@@ -3,3 +3,4 @@ pub mod Openings
 pub mod Deliveries
 pub mod Roomy
 pub mod Entry
+pub mod Cleared

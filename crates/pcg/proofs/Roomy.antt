@@ -230,10 +230,3 @@ module _ (n b mode : ℕ) (t : TableLengths) (v : VectorLengths) (f : FactorLeng
 
   pub impulses-room : t .impulses ≡ 6 * b
   impulses-room = impulses-fits n b t table-passed
-
--- ---- the lengths are kept
-pub vector-lengths-kept : (jacobians₀ jacobians : List Float) (links₀ links : List ℕ) (owners₀ owners : List ℕ) (diagonal₀ diagonal : List Float) (residual₀ residual : List Float) (pending₀ pending : List Float) (preconditioned₀ preconditioned : List Float) (direction₀ direction : List Float) (product₀ product : List Float) (bodyImpulses₀ bodyImpulses : List Float) (bodyResponses₀ bodyResponses : List Float) → length jacobians ≡ length jacobians₀ → length links ≡ length links₀ → length owners ≡ length owners₀ → length diagonal ≡ length diagonal₀ → length residual ≡ length residual₀ → length pending ≡ length pending₀ → length preconditioned ≡ length preconditioned₀ → length direction ≡ length direction₀ → length product ≡ length product₀ → length bodyImpulses ≡ length bodyImpulses₀ → length bodyResponses ≡ length bodyResponses₀ → vectorLengths jacobians links owners diagonal residual pending preconditioned direction product bodyImpulses bodyResponses ≡ vectorLengths jacobians₀ links₀ owners₀ diagonal₀ residual₀ pending₀ preconditioned₀ direction₀ product₀ bodyImpulses₀ bodyResponses₀
-vector-lengths-kept jacobians₀ jacobians links₀ links owners₀ owners diagonal₀ diagonal residual₀ residual pending₀ pending preconditioned₀ preconditioned direction₀ direction product₀ product bodyImpulses₀ bodyImpulses bodyResponses₀ bodyResponses e0 e1 e2 e3 e4 e5 e6 e7 e8 e9 e10 = rw (e0, e1, e2, e3, e4, e5, e6, e7, e8, e9, e10)
-
-pub factor-lengths-kept : (starts₀ starts : List ℕ) (columns₀ columns : List ℕ) (values₀ values : List Float) (pivots₀ pivots : List Float) (marks₀ marks : List ℕ) (heads₀ heads : List ℕ) (nexts₀ nexts : List ℕ) (homes₀ homes : List ℕ) (blocks₀ blocks : List Float) → length starts ≡ length starts₀ → length columns ≡ length columns₀ → length values ≡ length values₀ → length pivots ≡ length pivots₀ → length marks ≡ length marks₀ → length heads ≡ length heads₀ → length nexts ≡ length nexts₀ → length homes ≡ length homes₀ → length blocks ≡ length blocks₀ → factorLengths starts columns values pivots marks heads nexts homes blocks ≡ factorLengths starts₀ columns₀ values₀ pivots₀ marks₀ heads₀ nexts₀ homes₀ blocks₀
-factor-lengths-kept starts₀ starts columns₀ columns values₀ values pivots₀ pivots marks₀ marks heads₀ heads nexts₀ nexts homes₀ homes blocks₀ blocks e0 e1 e2 e3 e4 e5 e6 e7 e8 = rw (e0, e1, e2, e3, e4, e5, e6, e7, e8)

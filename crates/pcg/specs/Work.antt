@@ -3,27 +3,17 @@ use Prim.Native.Nat.{ℕ}
 use mathlib.Core.Path.{_≡_}
 use mathlib.Core.Bool.{Bool, true, false}
 use mathlib.Core.List.{List}
-use lib.ListN.{replicate}
 use lib.Ieee.{Float}
-use Rattle.loops.specs.Cleared.{plusZero}
-use Rattle.pcg.specs.declared.fit.VectorLengths.{VectorLengths}
-use Rattle.pcg.specs.declared.fit.FactorLengths.{FactorLengths}
+use Rattle.loops.specs.Cleared.{cleared, clearedWords}
 
--- the vectors and the factor's memory as they stand
-pub record Vectors : Type 0 where
-  pub jacobians : List Float
-  pub links : List ℕ
+-- what the steps alone use, the factor's memory with it
+pub record StepMemory : Type 0 where
   pub owners : List ℕ
   pub diagonal : List Float
-  pub residual : List Float
-  pub pending : List Float
   pub preconditioned : List Float
   pub direction : List Float
   pub product : List Float
-  pub bodyImpulses : List Float
   pub bodyResponses : List Float
-
-pub record Places : Type 0 where
   pub starts : List ℕ
   pub columns : List ℕ
   pub values : List Float
@@ -34,35 +24,47 @@ pub record Places : Type 0 where
   pub homes : List ℕ
   pub blocks : List Float
 
--- of these lengths, cleared
-abbrev pub noVectors : VectorLengths → Vectors
-noVectors l = record {
-  jacobians = replicate (l .jacobians) plusZero;
-  links = replicate (l .links) 0;
-  owners = replicate (l .owners) 0;
-  diagonal = replicate (l .diagonal) plusZero;
-  residual = replicate (l .residual) plusZero;
-  pending = replicate (l .pending) plusZero;
-  preconditioned = replicate (l .preconditioned) plusZero;
-  direction = replicate (l .direction) plusZero;
-  product = replicate (l .product) plusZero;
-  bodyImpulses = replicate (l .«body_impulses») plusZero;
-  bodyResponses = replicate (l .«body_responses») plusZero;
+-- what the delivery reads as well
+pub record TableMemory : Type 0 where
+  pub jacobians : List Float
+  pub links : List ℕ
+  pub residual : List Float
+  pub pending : List Float
+  pub bodyImpulses : List Float
+
+pub record WorkMemory : Type 0 where
+  pub steps : StepMemory
+  pub table : TableMemory
+
+-- cleared, as long as they are
+abbrev pub clearedSteps : StepMemory → StepMemory
+clearedSteps m = record {
+  owners = clearedWords (m .owners);
+  diagonal = cleared (m .diagonal);
+  preconditioned = cleared (m .preconditioned);
+  direction = cleared (m .direction);
+  product = cleared (m .product);
+  bodyResponses = cleared (m .bodyResponses);
+  starts = clearedWords (m .starts);
+  columns = clearedWords (m .columns);
+  values = cleared (m .values);
+  pivots = cleared (m .pivots);
+  marks = clearedWords (m .marks);
+  heads = clearedWords (m .heads);
+  nexts = clearedWords (m .nexts);
+  homes = clearedWords (m .homes);
+  blocks = cleared (m .blocks);
 }
 
-abbrev pub noPlaces : FactorLengths → Places
-noPlaces l = record {
-  starts = replicate (l .starts) 0;
-  columns = replicate (l .columns) 0;
-  values = replicate (l .values) plusZero;
-  pivots = replicate (l .pivots) plusZero;
-  marks = replicate (l .marks) 0;
-  heads = replicate (l .heads) 0;
-  nexts = replicate (l .nexts) 0;
-  homes = replicate (l .homes) 0;
-  blocks = replicate (l .blocks) plusZero;
+abbrev pub clearedTable : TableMemory → TableMemory
+clearedTable m = record {
+  jacobians = cleared (m .jacobians);
+  links = clearedWords (m .links);
+  residual = cleared (m .residual);
+  pending = cleared (m .pending);
+  bodyImpulses = cleared (m .bodyImpulses);
 }
 
-pub record After (fits : Bool) (vectorLengths : VectorLengths) (factorLengths : FactorLengths) (vectors : Vectors) (places : Places) (vectorsAfter : Vectors) (placesAfter : Places) : Type 0 where
-  pub cleared : fits ≡ true → (vectorsAfter ≡ noVectors vectorLengths) × (placesAfter ≡ noPlaces factorLengths)
-  pub untouched : fits ≡ false → (vectorsAfter ≡ vectors) × (placesAfter ≡ places)
+pub record After (fits : Bool) (before after : WorkMemory) : Type 0 where
+  pub emptied : fits ≡ true → after ≡ record { steps = clearedSteps (before .steps); table = clearedTable (before .table) }
+  pub untouched : fits ≡ false → after ≡ before

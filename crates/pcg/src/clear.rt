@@ -1,33 +1,38 @@
 // The work memory after a call: +0.0, integers 0.
 ghost use mathlib.Core.Path.{_≡_};
-ghost use Rattle.pcg.specs.Lengths.{vectorLengths, factorLengths};
-ghost use Rattle.pcg.specs.Work.{Vectors, Places, noVectors, noPlaces};
+ghost use Rattle.loops.specs.Cleared.{cleared, clearedWords};
 
-pub fn clear_vectors(
+pub fn clear_table(
     jacobians: &mut [f64],
     links: &mut [u32],
-    owners: &mut [u32],
-    diagonal: &mut [f64],
     residual: &mut [f64],
     pending: &mut [f64],
-    preconditioned: &mut [f64],
-    direction: &mut [f64],
-    product: &mut [f64],
     body_impulses: &mut [f64],
-    body_responses: &mut [f64],
 )
-    ensures { λ _. ⌜ _≡_ {A = Vectors} record { jacobians = now (jacobians .exit); links = now (links .exit); owners = now (owners .exit); diagonal = now (diagonal .exit); residual = now (residual .exit); pending = now (pending .exit); preconditioned = now (preconditioned .exit); direction = now (direction .exit); product = now (product .exit); bodyImpulses = now («body_impulses» .exit); bodyResponses = now («body_responses» .exit) } (noVectors (vectorLengths (now (jacobians .entry)) (now (links .entry)) (now (owners .entry)) (now (diagonal .entry)) (now (residual .entry)) (now (pending .entry)) (now (preconditioned .entry)) (now (direction .entry)) (now (product .entry)) (now («body_impulses» .entry)) (now («body_responses» .entry)))) ⌝ }
+    ensures { λ _. ⌜ (now (jacobians .exit) ≡ cleared (now (jacobians .entry))) × (now (links .exit) ≡ clearedWords (now (links .entry))) × (now (residual .exit) ≡ cleared (now (residual .entry))) × (now (pending .exit) ≡ cleared (now (pending .entry))) × (now («body_impulses» .exit) ≡ cleared (now («body_impulses» .entry))) ⌝ }
 {
     loops::clear(jacobians);
     loops::clear_words(links);
-    loops::clear_words(owners);
-    loops::clear(diagonal);
     loops::clear(residual);
     loops::clear(pending);
+    loops::clear(body_impulses);
+}
+
+pub fn clear_vectors(
+    owners: &mut [u32],
+    diagonal: &mut [f64],
+    preconditioned: &mut [f64],
+    direction: &mut [f64],
+    product: &mut [f64],
+    body_responses: &mut [f64],
+)
+    ensures { λ _. ⌜ (now (owners .exit) ≡ clearedWords (now (owners .entry))) × (now (diagonal .exit) ≡ cleared (now (diagonal .entry))) × (now (preconditioned .exit) ≡ cleared (now (preconditioned .entry))) × (now (direction .exit) ≡ cleared (now (direction .entry))) × (now (product .exit) ≡ cleared (now (product .entry))) × (now («body_responses» .exit) ≡ cleared (now («body_responses» .entry))) ⌝ }
+{
+    loops::clear_words(owners);
+    loops::clear(diagonal);
     loops::clear(preconditioned);
     loops::clear(direction);
     loops::clear(product);
-    loops::clear(body_impulses);
     loops::clear(body_responses);
 }
 
@@ -42,7 +47,7 @@ pub fn clear_factor(
     homes: &mut [u32],
     blocks: &mut [f64],
 )
-    ensures { λ _. ⌜ _≡_ {A = Places} record { starts = now (starts .exit); columns = now (columns .exit); values = now (values .exit); pivots = now (pivots .exit); marks = now (marks .exit); heads = now (heads .exit); nexts = now (nexts .exit); homes = now (homes .exit); blocks = now (blocks .exit) } (noPlaces (factorLengths (now (starts .entry)) (now (columns .entry)) (now (values .entry)) (now (pivots .entry)) (now (marks .entry)) (now (heads .entry)) (now (nexts .entry)) (now (homes .entry)) (now (blocks .entry)))) ⌝ }
+    ensures { λ _. ⌜ (now (starts .exit) ≡ clearedWords (now (starts .entry))) × (now (columns .exit) ≡ clearedWords (now (columns .entry))) × (now (values .exit) ≡ cleared (now (values .entry))) × (now (pivots .exit) ≡ cleared (now (pivots .entry))) × (now (marks .exit) ≡ clearedWords (now (marks .entry))) × (now (heads .exit) ≡ clearedWords (now (heads .entry))) × (now (nexts .exit) ≡ clearedWords (now (nexts .entry))) × (now (homes .exit) ≡ clearedWords (now (homes .entry))) × (now (blocks .exit) ≡ cleared (now (blocks .entry))) ⌝ }
 {
     loops::clear_words(starts);
     loops::clear_words(columns);

@@ -1,0 +1,224 @@
+// The position solve over lent tables: solve_position_pcg_prepared of pcg.rs, with every refusal of document 01.
+ghost use mathlib.Core.Path.{_≡_};
+ghost use mathlib.Core.Bool.{true};
+ghost use Prim.Native.Nat.{_*_};
+ghost use lib.ListN.{length};
+ghost use Rattle.kapitsa_joint.specs.Table.{tableOf};
+ghost use Rattle.pairs.specs.Pairs.{pairRoom};
+ghost use Rattle.preconditioner.specs.Mode.{modeOf};
+ghost use Rattle.steps.specs.Solve.{solve};
+ghost use Rattle.position_steps.specs.Method.{positionMethod};
+ghost use Rattle.position_steps.specs.Counting.{CountRoom};
+ghost use Rattle.pcg.specs.Lengths.{passes3, tableLengths, vectorLengths, factorLengths};
+ghost use Rattle.pcg.specs.Work.{After, StepMemory, TableMemory, clearedSteps, clearedTable};
+ghost use Rattle.pcg.specs.Outcome.{outcomeOf, SolveMeaning};
+use crate::answer::PositionPcg;
+use crate::clear::clear_table;
+use crate::counted::count_and_clear;
+use crate::deliver::finish_counted;
+use crate::fit::FactorLengths;
+use crate::fit::TableLengths;
+use crate::fit::VectorLengths;
+use crate::fit::lengths_fit;
+use kapitsa_joint::JointTolerance;
+
+// Once refusal 3 has passed.
+fn work_out(
+    numbers: &mut [f64],
+    words: &[u32],
+    masses: &[f64],
+    rows: u32,
+    bodies: u32,
+    tolerance: JointTolerance,
+    limit: u32,
+    mode: u32,
+    solution: &mut [f64],
+    impulses: &mut [f64],
+    jacobians: &mut [f64],
+    links: &mut [u32],
+    owners: &mut [u32],
+    diagonal: &mut [f64],
+    residual: &mut [f64],
+    pending: &mut [f64],
+    preconditioned: &mut [f64],
+    direction: &mut [f64],
+    product: &mut [f64],
+    body_impulses: &mut [f64],
+    body_responses: &mut [f64],
+    starts: &mut [u32],
+    columns: &mut [u32],
+    values: &mut [f64],
+    pivots: &mut [f64],
+    marks: &mut [u32],
+    heads: &mut [u32],
+    nexts: &mut [u32],
+    homes: &mut [u32],
+    blocks: &mut [f64],
+) -> PositionPcg
+    requires { ⌜ CountRoom rows bodies (pairRoom rows) (length (now numbers)) (length (now words)) (length (now masses)) (length (now jacobians)) (length (now links)) (length (now owners)) (length (now diagonal)) (length (now residual)) (length (now pending)) (length (now preconditioned)) (length (now direction)) (length (now product)) (length (now «body_impulses»)) (length (now «body_responses»)) (length (now starts)) (length (now columns)) (length (now values)) (length (now pivots)) (length (now marks)) (length (now heads)) (length (now nexts)) (length (now homes)) (length (now blocks)) ⌝ }
+    requires { ⌜ (length (now solution) ≡ rows) × (length (now impulses) ≡ 6 * bodies) ⌝ }
+    ensures { λ r. ⌜ outcomeOf rows record { numbers = now (numbers .entry); solution = now (solution .entry); impulses = now (impulses .entry) } (solve (positionMethod true (tableOf rows bodies (now (numbers .entry)) (now (words .entry)) (now (masses .entry)) tolerance) (modeOf mode)) limit) ≡ record { answer = r; lent = record { numbers = now (numbers .exit); solution = now (solution .exit); impulses = now (impulses .exit) } } ⌝ }
+    ensures { λ _. ⌜ _≡_ {A = StepMemory} record { owners = now (owners .exit); diagonal = now (diagonal .exit); preconditioned = now (preconditioned .exit); direction = now (direction .exit); product = now (product .exit); bodyResponses = now («body_responses» .exit); starts = now (starts .exit); columns = now (columns .exit); values = now (values .exit); pivots = now (pivots .exit); marks = now (marks .exit); heads = now (heads .exit); nexts = now (nexts .exit); homes = now (homes .exit); blocks = now (blocks .exit) } (clearedSteps record { owners = now (owners .entry); diagonal = now (diagonal .entry); preconditioned = now (preconditioned .entry); direction = now (direction .entry); product = now (product .entry); bodyResponses = now («body_responses» .entry); starts = now (starts .entry); columns = now (columns .entry); values = now (values .entry); pivots = now (pivots .entry); marks = now (marks .entry); heads = now (heads .entry); nexts = now (nexts .entry); homes = now (homes .entry); blocks = now (blocks .entry) }) ⌝ }
+    ensures { λ _. ⌜ _≡_ {A = TableMemory} record { jacobians = now (jacobians .exit); links = now (links .exit); residual = now (residual .exit); pending = now (pending .exit); bodyImpulses = now («body_impulses» .exit) } (clearedTable record { jacobians = now (jacobians .entry); links = now (links .entry); residual = now (residual .entry); pending = now (pending .entry); bodyImpulses = now («body_impulses» .entry) }) ⌝ }
+{
+    let counted = count_and_clear(
+        numbers,
+        words,
+        masses,
+        rows,
+        bodies,
+        tolerance,
+        limit,
+        mode,
+        jacobians,
+        links,
+        owners,
+        diagonal,
+        residual,
+        pending,
+        preconditioned,
+        direction,
+        product,
+        body_impulses,
+        body_responses,
+        starts,
+        columns,
+        values,
+        pivots,
+        marks,
+        heads,
+        nexts,
+        homes,
+        blocks,
+    );
+    let answer = finish_counted(
+        counted,
+        limit,
+        numbers,
+        words,
+        masses,
+        rows,
+        bodies,
+        tolerance,
+        jacobians,
+        links,
+        pending,
+        residual,
+        body_impulses,
+        solution,
+        impulses,
+    );
+    clear_table(jacobians, links, residual, pending, body_impulses);
+    answer
+}
+
+// Solution, impulses and accumulated multipliers are written only where the answer is accepted; the work memory is +0.0 (integers 0) afterwards, except after refusal 3, which writes nothing.
+pub fn solve_position_pcg_prepared(
+    numbers: &mut [f64],
+    words: &[u32],
+    masses: &[f64],
+    rows: u32,
+    bodies: u32,
+    tolerance: JointTolerance,
+    limit: u32,
+    mode: u32,
+    solution: &mut [f64],
+    impulses: &mut [f64],
+    jacobians: &mut [f64],
+    links: &mut [u32],
+    owners: &mut [u32],
+    diagonal: &mut [f64],
+    residual: &mut [f64],
+    pending: &mut [f64],
+    preconditioned: &mut [f64],
+    direction: &mut [f64],
+    product: &mut [f64],
+    body_impulses: &mut [f64],
+    body_responses: &mut [f64],
+    starts: &mut [u32],
+    columns: &mut [u32],
+    values: &mut [f64],
+    pivots: &mut [f64],
+    marks: &mut [u32],
+    heads: &mut [u32],
+    nexts: &mut [u32],
+    homes: &mut [u32],
+    blocks: &mut [f64],
+) -> PositionPcg
+    ensures { λ r. ⌜ outcomeOf rows record { numbers = now (numbers .entry); solution = now (solution .entry); impulses = now (impulses .entry) } (solve (positionMethod (passes3 rows bodies mode (tableLengths (now (numbers .entry)) (now (words .entry)) (now (masses .entry)) (now (solution .entry)) (now (impulses .entry))) (vectorLengths (now (jacobians .entry)) (now (links .entry)) (now (owners .entry)) (now (diagonal .entry)) (now (residual .entry)) (now (pending .entry)) (now (preconditioned .entry)) (now (direction .entry)) (now (product .entry)) (now («body_impulses» .entry)) (now («body_responses» .entry))) (factorLengths (now (starts .entry)) (now (columns .entry)) (now (values .entry)) (now (pivots .entry)) (now (marks .entry)) (now (heads .entry)) (now (nexts .entry)) (now (homes .entry)) (now (blocks .entry)))) (tableOf rows bodies (now (numbers .entry)) (now (words .entry)) (now (masses .entry)) tolerance) (modeOf mode)) limit) ≡ record { answer = r; lent = record { numbers = now (numbers .exit); solution = now (solution .exit); impulses = now (impulses .exit) } } ⌝ }
+    ensures { λ r. ⌜ SolveMeaning (positionMethod (passes3 rows bodies mode (tableLengths (now (numbers .entry)) (now (words .entry)) (now (masses .entry)) (now (solution .entry)) (now (impulses .entry))) (vectorLengths (now (jacobians .entry)) (now (links .entry)) (now (owners .entry)) (now (diagonal .entry)) (now (residual .entry)) (now (pending .entry)) (now (preconditioned .entry)) (now (direction .entry)) (now (product .entry)) (now («body_impulses» .entry)) (now («body_responses» .entry))) (factorLengths (now (starts .entry)) (now (columns .entry)) (now (values .entry)) (now (pivots .entry)) (now (marks .entry)) (now (heads .entry)) (now (nexts .entry)) (now (homes .entry)) (now (blocks .entry)))) (tableOf rows bodies (now (numbers .entry)) (now (words .entry)) (now (masses .entry)) tolerance) (modeOf mode)) limit rows record { numbers = now (numbers .entry); solution = now (solution .entry); impulses = now (impulses .entry) } r record { numbers = now (numbers .exit); solution = now (solution .exit); impulses = now (impulses .exit) } ⌝ }
+    ensures { λ _. ⌜ After (passes3 rows bodies mode (tableLengths (now (numbers .entry)) (now (words .entry)) (now (masses .entry)) (now (solution .entry)) (now (impulses .entry))) (vectorLengths (now (jacobians .entry)) (now (links .entry)) (now (owners .entry)) (now (diagonal .entry)) (now (residual .entry)) (now (pending .entry)) (now (preconditioned .entry)) (now (direction .entry)) (now (product .entry)) (now («body_impulses» .entry)) (now («body_responses» .entry))) (factorLengths (now (starts .entry)) (now (columns .entry)) (now (values .entry)) (now (pivots .entry)) (now (marks .entry)) (now (heads .entry)) (now (nexts .entry)) (now (homes .entry)) (now (blocks .entry))))
+        record { steps = record { owners = now (owners .entry); diagonal = now (diagonal .entry); preconditioned = now (preconditioned .entry); direction = now (direction .entry); product = now (product .entry); bodyResponses = now («body_responses» .entry); starts = now (starts .entry); columns = now (columns .entry); values = now (values .entry); pivots = now (pivots .entry); marks = now (marks .entry); heads = now (heads .entry); nexts = now (nexts .entry); homes = now (homes .entry); blocks = now (blocks .entry) }; table = record { jacobians = now (jacobians .entry); links = now (links .entry); residual = now (residual .entry); pending = now (pending .entry); bodyImpulses = now («body_impulses» .entry) } }
+        record { steps = record { owners = now (owners .exit); diagonal = now (diagonal .exit); preconditioned = now (preconditioned .exit); direction = now (direction .exit); product = now (product .exit); bodyResponses = now («body_responses» .exit); starts = now (starts .exit); columns = now (columns .exit); values = now (values .exit); pivots = now (pivots .exit); marks = now (marks .exit); heads = now (heads .exit); nexts = now (nexts .exit); homes = now (homes .exit); blocks = now (blocks .exit) }; table = record { jacobians = now (jacobians .exit); links = now (links .exit); residual = now (residual .exit); pending = now (pending .exit); bodyImpulses = now («body_impulses» .exit) } } ⌝ }
+{
+    if !lengths_fit(
+        rows,
+        bodies,
+        mode,
+        TableLengths {
+            numbers: numbers.len(),
+            words: words.len(),
+            masses: masses.len(),
+            solution: solution.len(),
+            impulses: impulses.len(),
+        },
+        VectorLengths {
+            jacobians: jacobians.len(),
+            links: links.len(),
+            owners: owners.len(),
+            diagonal: diagonal.len(),
+            residual: residual.len(),
+            pending: pending.len(),
+            preconditioned: preconditioned.len(),
+            direction: direction.len(),
+            product: product.len(),
+            body_impulses: body_impulses.len(),
+            body_responses: body_responses.len(),
+        },
+        FactorLengths {
+            starts: starts.len(),
+            columns: columns.len(),
+            values: values.len(),
+            pivots: pivots.len(),
+            marks: marks.len(),
+            heads: heads.len(),
+            nexts: nexts.len(),
+            homes: homes.len(),
+            blocks: blocks.len(),
+        },
+    ) {
+        return PositionPcg::Refused(3);
+    }
+    work_out(
+        numbers,
+        words,
+        masses,
+        rows,
+        bodies,
+        tolerance,
+        limit,
+        mode,
+        solution,
+        impulses,
+        jacobians,
+        links,
+        owners,
+        diagonal,
+        residual,
+        pending,
+        preconditioned,
+        direction,
+        product,
+        body_impulses,
+        body_responses,
+        starts,
+        columns,
+        values,
+        pivots,
+        marks,
+        heads,
+        nexts,
+        homes,
+        blocks,
+    )
+}
