@@ -2,49 +2,35 @@
 use Prim.Native.Nat.{ℕ}
 use mathlib.Core.Path.{_≡_, refl, sym, ap, _∙_}
 use mathlib.Core.Bool.{Bool, true, false, not}
-use mathlib.Core.List.{List, [], _∷_}
+use mathlib.Core.List.{List}
 use native.Mathlib.Omega.{arith}
 use lib.Ieee.{Float}
-use borrow.Author.Tests.{not-true, not-false}
+use borrow.Author.Tests.{not-false}
 use Rattle.loops.specs.Run.{Run, going, ended, next, on}
 use Rattle.loops.specs.Judge.{judge}
 use Rattle.loops.proofs.Loop.{on-going, on-ended}
 use Rattle.kapitsa_joint.specs.Table.{Table}
-use Rattle.joint_refusals.specs.Refusals.{passes4, passes6}
 use Rattle.preconditioner.specs.declared.mode.Mode.{Mode}
 use Rattle.recurrence.specs.Step.{Iterate, Carried}
 use Rattle.recurrence.proofs.Ways.{test-fail}
 use Rattle.steps.specs.Method.{Method}
-use Rattle.steps.specs.Solve.{counting, deliver, solve}
+use Rattle.steps.specs.Solve.{deliver, solve}
 use Rattle.steps.proofs.Answer.{means}
-use Rattle.position_steps.specs.Method.{passes5, openingOf, positionMethod, Delivered}
-use Rattle.position_steps.specs.Standing.{iteratedOut}
-use Rattle.position_steps.specs.Counting.{countingOf, Counted}
-use Rattle.position_steps.specs.declared.iteration.Iterated.{Iterated}
-use Rattle.position_steps.specs.declared.iteration.Iterated.the-variants as iterated
-use Rattle.pcg.specs.Delivery.{finishedOf}
-use Rattle.pcg.specs.Outcome.{Lent, Outcome, Answer, outcomeOf, resultOf, lentOf, AcceptedAs, RefusedAs, SolveMeaning}
+use Rattle.position_iteration.specs.Method.{openingOf, positionMethod, Delivered}
+use Rattle.position_iteration.specs.Stands.{Counted}
+use Rattle.position_steps.specs.Counting.{countingOf}
+use Rattle.position_iteration.specs.declared.iteration.Iterated.the-variants as iterated
+use Rattle.position_delivery.specs.Delivery.{finishedOf}
+use Rattle.position_delivery.specs.Outcome.{Lent, Outcome, Answer, outcomeOf, SolveMeaning}
 use Rattle.pcg.specs.Opening.{countedOf}
-use Rattle.pcg.specs.declared.answer.PositionPcg.{PositionPcg}
-use Rattle.pcg.specs.declared.answer.PositionPcg.the-variants as answers
+use Rattle.position_delivery.specs.declared.answer.PositionPcg.{PositionPcg}
+use Rattle.position_delivery.specs.declared.answer.PositionPcg.the-variants as answers
 
 abbrev outcome : PositionPcg → Lent → Outcome
 outcome r l = record { answer = r; lent = l }
 
 abbrev step : List Float → List Float → Iterate
 step x r = record { solution = x; residual = r }
-
--- ---- `finish_counted`
-module _ (t : Table) (n limit : ℕ) (before : Lent) (pending residual : List Float) (a : Iterated) (o : Outcome) where
-  pub counted-met : (k : ℕ) → a ≡ iterated.Met k → outcomeOf n before (finishedOf t (true, k, step pending residual)) ≡ o → outcomeOf n before (next (iteratedOut a limit pending residual) (finishedOf t)) ≡ o
-  counted-met k e h = ap (outcomeOf n before) (on-going _ _ _ {s = (true, k, step pending residual)} (rw e)) ∙ h
-
-  pub counted-spent : a ≡ iterated.Limit → outcomeOf n before (finishedOf t (false, limit, step pending residual)) ≡ o → outcomeOf n before (next (iteratedOut a limit pending residual) (finishedOf t)) ≡ o
-  counted-spent e h = ap (outcomeOf n before) (on-going _ _ _ {s = (false, limit, step pending residual)} (rw e)) ∙ h
-
-pub counted-refused : (t : Table) (n limit : ℕ) (before : Lent) (pending residual : List Float) (a : Iterated) (k : ℕ) → a ≡ iterated.Refused k → outcomeOf n before (next (iteratedOut a limit pending residual) (finishedOf t)) ≡ outcome (answers.Refused k) before
-unfolding outcomeOf
-counted-refused t n limit before pending residual a k e = ap (outcomeOf n before) (on-ended _ _ _ {a = k} (rw e))
 
 -- ---- `open_and_count`
 module _ (t : Table) (mode : Mode) (limit : ℕ) where

@@ -1,6 +1,5 @@
 -- Laws of the position solve.
 pub mod Openings
-pub mod Deliveries
 pub mod Roomy
 pub mod Entry
 pub mod Cleared

@@ -1,17 +1,16 @@
 -- The ways through refusals 4, 5 and 6. Assumes nothing.
 use Prim.Native.Nat.{ℕ}
-use mathlib.Core.Path.{_≡_, refl, sym, ap, _∙_}
-use mathlib.Core.Bool.{Bool, true, false, not, _&&_, cond}
+use mathlib.Core.Path.{_≡_, refl}
+use mathlib.Core.Bool.{Bool, true, false, not, _&&_}
 use mathlib.Core.List.{List, [], _∷_}
 use Prim.Native.Nat.{_+_, _*_}
-use lib.Dec.{eqb}
 use lib.Ieee.{Float}
 use Rattle.loops.specs.Every.{every}
 use Rattle.kapitsa_joint.specs.Row.{rowOf, scalarsOf, wordsOf}
 use Rattle.kapitsa_joint.specs.declared.tolerance.JointTolerance.{JointTolerance}
 use borrow.Author.Tests.{eq-eqb, ne-eqb}
 use Rattle.loops.specs.Run.{Run, going, ended}
-use Rattle.loops.specs.Judge.{judge, test}
+use Rattle.loops.specs.Judge.{judge}
 use Rattle.kapitsa_joint.specs.Table.{Table, tableOf}
 use Rattle.joint_refusals.specs.Refusals.{wordsFitOf, massFiniteOf, passes4, opensOf, rowsOpen, passes6}
 use Rattle.kapitsa_joint.specs.Mass.{massOf}
@@ -21,7 +20,7 @@ use Rattle.pcg.specs.declared.fit.TableLengths.{TableLengths}
 use Rattle.pcg.specs.declared.fit.VectorLengths.{VectorLengths}
 use Rattle.pcg.specs.declared.fit.FactorLengths.{FactorLengths}
 use Rattle.recurrence.proofs.Ways.{test-pass, test-fail}
-use Rattle.position_steps.specs.Method.{passes5, openingOf}
+use Rattle.position_iteration.specs.Method.{passes5, openingOf}
 
 -- ---- `opens`
 module _ (t : Table) (limit : ℕ) where

@@ -1,16 +1,14 @@
 -- What refusal 3 has passed: every length is what the counts call for. Assumes nothing.
 use Prim.Native.Nat.{ℕ, _+_, _*_}
-use mathlib.Core.Path.{_≡_, refl, sym, ap, _∙_}
+use mathlib.Core.Path.{_≡_, refl}
 use mathlib.Core.Bool.{Bool, true, false, _&&_}
-use mathlib.Core.List.{List}
 use native.Mathlib.Omega.{arith}
-use lib.Dec.{leb, eqb}
+use lib.Dec.{eqb}
 use lib.ListN.{length}
-use lib.Ieee.{Float}
 use borrow.Author.Tests.{eqb-true}
 use Rattle.pairs.specs.Pairs.{pairRoom}
 use Rattle.position_steps.specs.Counting.{CountRoom}
-use Rattle.pcg.specs.Lengths.{countsFit, tableFits, vectorsFit, factorFits, passes3, vectorLengths, factorLengths}
+use Rattle.pcg.specs.Lengths.{countsFit, tableFits, vectorsFit, factorFits, passes3}
 use Rattle.pcg.specs.declared.fit.TableLengths.{TableLengths}
 use Rattle.pcg.specs.declared.fit.VectorLengths.{VectorLengths}
 use Rattle.pcg.specs.declared.fit.FactorLengths.{FactorLengths}

@@ -1,5 +1,3 @@
 pub mod Lengths
 pub mod Work
 pub mod Opening
-pub mod Outcome
-pub mod Delivery

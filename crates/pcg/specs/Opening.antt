@@ -8,10 +8,11 @@ use Rattle.loops.specs.Run.{Run, going, ended, next}
 use Rattle.kapitsa_joint.specs.Table.{Table}
 use Rattle.preconditioner.specs.declared.mode.Mode.{Mode}
 use Rattle.recurrence.specs.Step.{Iterate}
-use Rattle.position_steps.specs.Method.{openingOf}
-use Rattle.position_steps.specs.Standing.{iteratedOut}
-use Rattle.position_steps.specs.Counting.{countingOf, Counted}
-use Rattle.position_steps.specs.declared.iteration.Iterated.{Iterated}
+use Rattle.position_iteration.specs.Method.{openingOf}
+use Rattle.position_iteration.specs.Standing.{iteratedOut}
+use Rattle.position_iteration.specs.Stands.{Counted}
+use Rattle.position_steps.specs.Counting.{countingOf}
+use Rattle.position_iteration.specs.declared.iteration.Iterated.{Iterated}
 use Rattle.pcg.specs.declared.opening.Opened.{Opened}
 use Rattle.pcg.specs.declared.opening.Opened.the-variants as opened
 

@@ -13,7 +13,7 @@ use crate::opening::Opened;
 use crate::opening::open_table;
 use kapitsa_joint::JointTolerance;
 use pairs::pair_room;
-use position_steps::Iterated;
+use position_iteration::Iterated;
 use position_steps::count_steps;
 use preconditioner::mode_of;
 

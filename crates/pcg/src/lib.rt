@@ -1,12 +1,8 @@
 // The position solve: refusals 3 to 6 before step 0, the step that is counted, what is delivered of it with refusal 17, and the clearing of the work memory.
-pub mod answer; // answer.rt: flag, count and maxima, or a refusal
 pub mod clear; // clear.rt: the work memory afterwards
 pub mod counted; // counted.rt: the step that is counted
-pub mod deliver; // deliver.rt: multipliers, solution and impulses, with refusal 17
 pub mod fit; // fit.rt: refusal 3
 pub mod opening; // opening.rt: refusals 4, 5 and 6
 pub mod solve; // solve.rt: the entry
 
-pub use answer::PositionPcg;
-pub use answer::PositionPcgResult;
 pub use solve::solve_position_pcg_prepared;

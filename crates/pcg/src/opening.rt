@@ -4,7 +4,7 @@ ghost use mathlib.Core.Bool.{true};
 ghost use Prim.Native.Nat.{_+_, _*_, _≤_};
 ghost use lib.ListN.{length};
 ghost use Rattle.kapitsa_joint.specs.Table.{tableOf};
-ghost use Rattle.position_steps.specs.Method.{passes5, openingOf};
+ghost use Rattle.position_iteration.specs.Method.{passes5, openingOf};
 ghost use Rattle.pcg.specs.Opening.{openedOut};
 use joint_refusals::masses_finite;
 use joint_refusals::rows_open;

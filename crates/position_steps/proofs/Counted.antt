@@ -21,13 +21,14 @@ use Rattle.position.specs.Residual.{meetsOf}
 use Rattle.position.specs.declared.prepare.Begun.{Begun}
 use Rattle.position.specs.declared.prepare.Begun.the-variants as begun
 use Rattle.steps.specs.Solve.{counting}
-use Rattle.position_steps.specs.Method.{ownerOf, beginOf}
-use Rattle.position_steps.specs.Standing.{iteratedOut}
+use Rattle.position_iteration.specs.Method.{ownerOf, beginOf}
+use Rattle.position_iteration.specs.Standing.{iteratedOut}
 use Rattle.position_steps.specs.Start.{StartHeld, startOut}
 use Rattle.position_steps.specs.Running.{loopingOf, runningOf}
-use Rattle.position_steps.specs.Counting.{Stands, CountHeld}
-use Rattle.position_steps.specs.declared.iteration.Iterated.{Iterated}
-use Rattle.position_steps.specs.declared.iteration.Iterated.the-variants as iterated
+use Rattle.position_iteration.specs.Stands.{Stands}
+use Rattle.position_steps.specs.Counting.{CountHeld}
+use Rattle.position_iteration.specs.declared.iteration.Iterated.{Iterated}
+use Rattle.position_iteration.specs.declared.iteration.Iterated.the-variants as iterated
 
 module _ (numbers : List Float) (words : List ℕ) (masses : List Float) (n rows bodies : ℕ) (same : n ≡ rows) (tolerance : JointTolerance) (a : Begun) (jacobians : List Float) (links owners : List ℕ) (diagonal pending residual : List Float)
     (held : StartHeld (tableOf n bodies numbers words masses tolerance) masses a jacobians links owners diagonal pending residual) where

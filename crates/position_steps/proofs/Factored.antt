@@ -14,7 +14,7 @@ use Rattle.preconditioner.specs.declared.apply.Preconditioner.{Preconditioner}
 use Rattle.preconditioner.specs.declared.prepare.Prepared.{Prepared}
 use Rattle.preconditioner.specs.declared.prepare.Prepared.the-variants as prepared
 use Rattle.preconditioner.proofs.Means.{built-answered, built-holds, built-ready}
-use Rattle.position_steps.specs.Standing.{Rooms, Standing}
+use Rattle.position_iteration.specs.Standing.{Rooms, Standing}
 
 module _ (n bodies : ℕ) (words : List ℕ) (masses jacobians : List Float) (links owners : List ℕ) (diagonal : List Float) (m : Memory) (rooms : Rooms n bodies words masses jacobians links owners diagonal m) (linked : Linked links n bodies) (k : ℕ) (e : k ≡ n) where
   -- what `build_preconditioner` asks, for k rows

@@ -8,7 +8,7 @@ use lib.Ieee.{Float}
 use Rattle.compact_table.specs.Compact.{Linked}
 use Rattle.pairs.specs.Pairs.{pairRoom}
 use Rattle.preconditioner.specs.Held.{Memory}
-use Rattle.position_steps.specs.Standing.{Rooms}
+use Rattle.position_iteration.specs.Standing.{Rooms}
 use Rattle.position_steps.specs.Counting.{CountRoom}
 
 module _ (rows bodies room numbers : ℕ) (words : List ℕ) (masses : List Float) (jacobians links owners diagonal residual pending preconditioned direction product impulses responses : ℕ) (m : Memory) (marks : ℕ)

@@ -1,8 +1,7 @@
 -- Laws of the position solve's steps.
 pub mod Tables
 pub mod StepZero
-pub mod Fits
-pub mod Turning
+pub mod Stepping
 pub mod Factored
 pub mod Lent
 pub mod Counted

@@ -19,7 +19,7 @@ use Rattle.position.specs.Answers.{BegunHeld}
 use Rattle.position.specs.Prepare.{rowJudged}
 use Rattle.position.specs.declared.prepare.Begun.{Begun}
 use Rattle.position.specs.declared.prepare.Begun.the-variants as begun
-use Rattle.position_steps.specs.Method.{beginOf}
+use Rattle.position_iteration.specs.Method.{beginOf}
 use Rattle.position_steps.specs.Start.{StartHeld}
 use Rattle.position_steps.proofs.Tables.{system-same, owner-same, table-linked}
 

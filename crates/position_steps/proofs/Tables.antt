@@ -28,7 +28,7 @@ use Rattle.mass_operator.specs.System.{System, systemOf, compactSystem}
 use Rattle.block_jacobi.specs.Runs.{ownerIn}
 use Rattle.block_jacobi.proofs.Turned.{turned}
 use Rattle.position.specs.Prepare.{rowJudged}
-use Rattle.position_steps.specs.Method.{ownerOf}
+use Rattle.position_iteration.specs.Method.{ownerOf}
 
 -- ---- beyond a list's end
 beyond : {X : Type 0} (l : List X) (k : ℕ) (d : X) → length l ≤ k → getD l k d ≡ d

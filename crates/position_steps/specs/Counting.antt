@@ -6,16 +6,14 @@ use mathlib.Core.List.{List}
 use lib.Ieee.{Float}
 use Rattle.loops.specs.Run.{Run}
 use Rattle.kapitsa_joint.specs.Table.{Table}
-use Rattle.compact_table.specs.Compact.{Linked}
-use Rattle.mass_operator.specs.System.{systemOf, compactSystem}
 use Rattle.pairs.specs.Pairs.{pairRoom}
 use Rattle.preconditioner.specs.declared.mode.Mode.{Mode}
 use Rattle.recurrence.specs.Step.{Iterate}
 use Rattle.steps.specs.Solve.{counting}
-use Rattle.position_steps.specs.Method.{positionMethod}
-use Rattle.position_steps.specs.Standing.{iteratedOut}
-use Rattle.position_steps.specs.declared.iteration.Iterated.{Iterated}
-use Rattle.position_steps.specs.declared.iteration.Iterated.the-variants as iterated
+use Rattle.position_iteration.specs.Method.{positionMethod}
+use Rattle.position_iteration.specs.Standing.{iteratedOut}
+use Rattle.position_iteration.specs.Stands.{Counted}
+use Rattle.position_iteration.specs.declared.iteration.Iterated.{Iterated}
 
 -- what is judged before has passed: only the opening reads whether refusal 3 does
 abbrev pub countingOf : Mode → Table → ℕ → Run (Bool × ℕ × Iterate) ℕ
@@ -47,16 +45,6 @@ pub record CountRoom (rows bodies room : ℕ) (numbers words masses jacobians li
   pub homes-long : homes ≡ pairRoom rows
   pub blocks-long : blocks ≡ 36 * rows
   pub room-long : room ≡ pairRoom rows
-
--- what stands in the compact table: it is the system of the table
-pub record Stands (t : Table) (masses jacobians : List Float) (links : List ℕ) : Type 0 where
-  pub system : compactSystem (t .rows) (t .bodies) jacobians links masses ≡ systemOf t
-  pub linked : Linked links (t .rows) (t .bodies)
-
--- of an answer that is not refused the compact table stands
-pub record Counted (t : Table) (masses : List Float) (answer : Iterated) (jacobians : List Float) (links : List ℕ) : Type 0 where
-  pub met : (count : ℕ) → answer ≡ iterated.Met count → Stands t masses jacobians links
-  pub spent : answer ≡ iterated.Limit → Stands t masses jacobians links
 
 pub record CountHeld (mode : Mode) (t : Table) (limit : ℕ) (masses : List Float) (answer : Iterated) (jacobians : List Float) (links : List ℕ) (pending residual : List Float) : Type 0 where
   pub answered : countingOf mode t limit ≡ iteratedOut answer limit pending residual

@@ -9,7 +9,7 @@ use Rattle.preconditioner.specs.Apply.{preconditioned}
 use Rattle.preconditioner.specs.declared.mode.Mode.{Mode}
 use Rattle.recurrence.specs.Step.{Iterate, Carried, firstFrom}
 use Rattle.steps.specs.Solve.{turn, afterLoop}
-use Rattle.position_steps.specs.Method.{positionSteps, firstOf}
+use Rattle.position_iteration.specs.Method.{positionSteps, firstOf}
 
 -- from what is carried
 unfoldable pub loopingOf : Mode → System → (ℕ → ℕ) → List Float → (ℕ → Float) → ℕ → Iterate → Carried → Run (Bool × ℕ × Iterate) ℕ

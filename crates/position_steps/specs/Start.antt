@@ -12,7 +12,7 @@ use Rattle.recurrence.specs.Step.{Iterate}
 use Rattle.position.specs.Prepare.{diagonals}
 use Rattle.position.specs.declared.prepare.Begun.{Begun}
 use Rattle.position.specs.declared.prepare.Begun.the-variants as begun
-use Rattle.position_steps.specs.Method.{ownerOf, beginOf}
+use Rattle.position_iteration.specs.Method.{ownerOf, beginOf}
 
 abbrev pub startOut : Begun → List Float → List Float → Run Iterate ℕ
 startOut begun.Done pending residual = going (record { solution = pending; residual = residual })

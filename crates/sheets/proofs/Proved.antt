@@ -33,7 +33,7 @@ use Rattle.check_range.specs.Range.{inRange, vecInRange, matInRange, jacobianIn
 use Rattle.check_measure.specs.Verdict.{sizeOfRow, sizeOfMass, measuredOf, weightOf, radiusFactor, radiusOf, reachOf, valueOf, sizeOf, radius, reach, closes}
 use Rattle.check_answer.specs.Answer.{judgements, verdictOf, checkOf}
 use Rattle.steps.specs.Solve.{turn, counting, solve}
-use Rattle.position_steps.specs.Method.{passes5, openingOf, beginOf, firstOf, gainsOf, maximaIn, finishOf}
+use Rattle.position_iteration.specs.Method.{passes5, openingOf, beginOf, firstOf, gainsOf, maximaIn, finishOf}
 use Rattle.sheets.specs.Sheets.{AllSame, sheets}
 
 pub all-same : AllSame sheets

@@ -15,7 +15,7 @@ use Rattle.check_answer.specs.Answer.{checkOf}
 use Rattle.check_answer.specs.declared.CheckAnswer.{CheckAnswer}
 use Rattle.check_answer.specs.declared.CheckAnswer.the-variants.{Closed, Open}
 use Rattle.steps.specs.Solve.{solve}
-use Rattle.position_steps.specs.Method.{positionMethod}
+use Rattle.position_iteration.specs.Method.{positionMethod}
 
 abbrev pub nought : Float
 nought = ofBits binary64 0

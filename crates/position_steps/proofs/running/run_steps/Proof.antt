@@ -3,7 +3,7 @@ use mathlib.Core.Path.{sym, ap, _∙_}
 use Rattle.loops.specs.Run.{ended}
 use Rattle.loops.proofs.Loop.{loops}
 use Rattle.position_steps.proofs.Factored.{build-table, build-linked, build-heads, build-diagonal, build-pivots, factor-told, factor-stands}
-use Rattle.position_steps.proofs.Turning.{running-refused, running-on}
+use Rattle.position_steps.proofs.Stepping.{running-refused, running-on}
 use Rattle.position_steps.proofs.running.run_steps.Statement.{statement}
 use Rattle.position_steps.proofs.running.run_steps.Tie as tie
 

@@ -1,8 +1,8 @@
 -- `position_steps::running::step_on` meets its contract. Assumes nothing.
 use mathlib.Core.Path.{refl, sym, _∙_}
 use Rattle.loops.proofs.Loop.{loops}
-use Rattle.position_steps.proofs.Fits.{ready-fits, places-fit, rows-fit, still-standing}
-use Rattle.position_steps.proofs.Turning.{same-loop, stepping-refused, stepping-on}
+use Rattle.position_iteration.proofs.Fits.{ready-fits, places-fit, rows-fit, still-standing}
+use Rattle.position_steps.proofs.Stepping.{same-loop, stepping-refused, stepping-on}
 use Rattle.position_steps.proofs.running.step_on.Statement.{statement}
 use Rattle.position_steps.proofs.running.step_on.Tie as tie
 

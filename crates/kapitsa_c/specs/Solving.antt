@@ -1,0 +1,34 @@
+-- What a solve tells C: 0 with count, flag and maxima, or the refusal's number, and then nothing else.
+use Prim.Native.Nat.{ℕ}
+use mathlib.Core.Path.{_≡_}
+use mathlib.Core.Bool.{Bool, cond, _&&_}
+use mathlib.Core.List.{List, [], _∷_}
+use lib.Dec.{eqb}
+use lib.ListN.{length}
+use lib.Ieee.{Float}
+use Rattle.recurrence.specs.Step.{Iterate, Carried}
+use Rattle.steps.specs.Method.{Method}
+use Rattle.steps.specs.Solve.{solve}
+use Rattle.position_iteration.specs.Method.{Delivered}
+use Rattle.position_delivery.specs.Outcome.{Lent, outcomeOf, SolveMeaning}
+use Rattle.position_delivery.specs.declared.answer.PositionPcg.{PositionPcg}
+use Rattle.position_delivery.specs.declared.answer.PositionPcg.the-variants as answers
+
+pub record Told : Type 0 where
+  pub number : ℕ
+  pub counts : List ℕ  -- count and flag
+  pub maxima : List Float  -- linear and angular
+
+unfoldable pub toldOf : PositionPcg → List ℕ → List Float → Told
+toldOf (answers.Accepted r) counts maxima = record { number = 0; counts = r .iterations ∷ cond (r .converged) 1 0 ∷ []; maxima = r .«linear_residual_m» ∷ r .«angular_residual_rad» ∷ [] }
+toldOf (answers.Refused number) counts maxima = record { number = number; counts = counts; maxima = maxima }
+
+-- "3. … a lent slice has not the length the counts call for", of the two slices that take the answer
+unfoldable pub toldFits : List ℕ → List Float → Bool
+toldFits counts maxima = eqb (length counts) 2 && eqb (length maxima) 2
+
+-- The answer is the definition's, what is lent is as the definition leaves it, and the answer means what demand 3 says.
+pub record SolveTold (m : Method Iterate Carried Delivered) (limit n : ℕ) (before after : Lent) (counts : List ℕ) (maxima : List Float) (told : Told) : Type 0 where
+  pub answered : told ≡ toldOf (outcomeOf n before (solve m limit) .answer) counts maxima
+  pub delivered : after ≡ outcomeOf n before (solve m limit) .lent
+  pub means : SolveMeaning m limit n before (outcomeOf n before (solve m limit) .answer) after

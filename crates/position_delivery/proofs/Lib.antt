@@ -1,0 +1,3 @@
+-- Laws of what is delivered.
+pub mod Deliveries
+pub mod Counted

@@ -1,0 +1,39 @@
+-- What the functions that deliver hand to one another.
+use Prim.Native.Nat.{ℕ, _+_, _*_}
+use mathlib.Core.Path.{_≡_}
+use mathlib.Core.Bool.{Bool, true, false, _&&_}
+use mathlib.Core.List.{List}
+use lib.ListN.{getD, length}
+use lib.Ieee.{Float}
+use Rattle.loops.specs.Run.{going, next}
+use Rattle.kapitsa_joint.specs.Table.{Table}
+use Rattle.kapitsa_joint.specs.Tolerance.{dimensionOf}
+use Rattle.mass_operator.specs.Applied.{allFiniteOf}
+use Rattle.recurrence.specs.Step.{Iterate}
+use Rattle.position.specs.Residual.{maximaOf}
+use Rattle.position.specs.Multipliers.{gainsFinite, gained}
+use Rattle.position_iteration.specs.Method.{finishOf}
+use Rattle.position_delivery.specs.Outcome.{Lent, Answer}
+use Rattle.position_delivery.specs.declared.answer.PositionPcg.{PositionPcg}
+use Rattle.position_delivery.specs.declared.answer.PositionPcg.the-variants as answers
+
+-- refusal 17, and the impulses in work memory
+pub record Judged (r : Bool) (numbers impulses pending bodyImpulses : List Float) : Type 0 where
+  pub passed : r ≡ (allFiniteOf impulses && gainsFinite numbers pending (length pending))
+  pub summed : bodyImpulses ≡ impulses
+
+-- all of it, or nothing
+pub record Handed (r : Bool) (impulses pending : List Float) (before after : Lent) : Type 0 where
+  pub passed : r ≡ (allFiniteOf impulses && gainsFinite (before .numbers) pending (length pending))
+  pub delivered : r ≡ true → after ≡ record { numbers = gained (before .numbers) pending (length pending); solution = pending; impulses = impulses }
+  pub kept : r ≡ false → after ≡ before
+
+-- the answer by the rows' words and the residual
+unfoldable pub acceptedOf : Bool → ℕ → List ℕ → List Float → PositionPcg
+acceptedOf flag count words residual =
+    let m = maximaOf (λ i. dimensionOf (getD words (8 * i + 1) 0)) residual (length residual) in
+    answers.Accepted (record { converged = flag; iterations = count; «linear_residual_m» = m .linear; «angular_residual_rad» = m .angular })
+
+-- flag, count and the step counted, with what is delivered of it
+unfoldable pub finishedOf : Table → Bool × ℕ × Iterate → Answer
+finishedOf t a = next (finishOf t (a .1) (a .2)) (λ f. going (a, f))

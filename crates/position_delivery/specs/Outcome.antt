@@ -1,0 +1,64 @@
+-- The answer with what is delivered: "An accepted answer carries the flag, the count and two residual maxima"; "A refusal returns its number and nothing else", and touches nothing.
+use Prim.Native.Nat.{ℕ, zero, suc, _+_, _*_}
+use mathlib.Core.Path.{_≡_}
+use mathlib.Core.Bool.{Bool}
+use mathlib.Core.List.{List}
+use lib.ListN.{getD, set}
+use lib.Ieee.{Float, nan}
+use Rattle.loops.specs.Run.{Run, going, ended}
+use Rattle.recurrence.specs.Step.{Iterate, Carried}
+use Rattle.position_iteration.specs.Method.{Delivered}
+use Rattle.steps.specs.Method.{Method}
+use Rattle.steps.specs.Meaning.{Accepted, TurnsBack}
+use Rattle.position_delivery.specs.declared.answer.PositionPcg.{PositionPcg}
+use Rattle.position_delivery.specs.declared.answer.PositionPcg.the-variants as answers
+use Rattle.position_delivery.specs.declared.answer.PositionPcgResult.{PositionPcgResult}
+
+-- the lent numbers that an accepted answer writes: the rows, for their accumulated multipliers, solution and impulses
+pub record Lent : Type 0 where
+  pub numbers : List Float
+  pub solution : List Float
+  pub impulses : List Float
+
+pub record Outcome : Type 0 where
+  pub answer : PositionPcg
+  pub lent : Lent
+
+-- the rows' numbers with these accumulated multipliers in the first k rows
+unfoldable pub withMultipliers : List Float → List Float → ℕ → List Float
+withMultipliers numbers multipliers zero = numbers
+withMultipliers numbers multipliers (suc k) = set (withMultipliers numbers multipliers k) (27 * k + 24) (getD multipliers k nan)
+
+abbrev pub Answer : Type 0
+Answer = Run ((Bool × ℕ × Iterate) × Delivered) ℕ
+
+-- of n rows
+abbrev pub resultOf : Bool → ℕ → Delivered → PositionPcgResult
+resultOf flag count f = record { converged = flag; iterations = count; «linear_residual_m» = f .maxima .linear; «angular_residual_rad» = f .maxima .angular }
+
+abbrev pub lentOf : ℕ → Lent → Iterate → Delivered → Lent
+lentOf n before v f = record { numbers = withMultipliers (before .numbers) (f .multipliers) n; solution = v .solution; impulses = f .impulses }
+
+unfoldable pub outcomeOf : ℕ → Lent → Answer → Outcome
+outcomeOf n before (going ((flag, count, v), f)) = record { answer = answers.Accepted (resultOf flag count f); lent = lentOf n before v f }
+outcomeOf n before (ended number) = record { answer = answers.Refused number; lent = before }
+
+-- ---- what an answer means, told by document 01's steps: demand 3
+module _ (m : Method Iterate Carried Delivered) (limit n : ℕ) (before : Lent) where
+  -- Its count is the first step that meets, or the limit; its flag, solution and maxima are those of that step (`Accepted`, `Counted` in steps/specs/Meaning.antt); nothing turns the job back.
+  pub record AcceptedAs (r : PositionPcgResult) (after : Lent) : Type 0 where
+    pub step : Iterate
+    pub delivered : Delivered
+    pub accepted : Accepted m limit (r .converged) (r .iterations) step delivered
+    pub result-is : r ≡ resultOf (r .converged) (r .iterations) delivered
+    pub lent-is : after ≡ lentOf n before step delivered
+    pub none-turns-back : (number : ℕ) → ¬ TurnsBack m limit number
+
+  -- Its number turns the job back, in its place and none judged before it, and nothing lent is touched.
+  pub record RefusedAs (number : ℕ) (after : Lent) : Type 0 where
+    pub turned : TurnsBack m limit number
+    pub kept : after ≡ before
+
+  abbrev pub SolveMeaning : PositionPcg → Lent → Type 0
+  SolveMeaning (answers.Accepted r) after = AcceptedAs r after
+  SolveMeaning (answers.Refused number) after = RefusedAs number after

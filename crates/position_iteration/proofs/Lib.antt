@@ -1,0 +1,3 @@
+-- Laws of the loop over the steps.
+pub mod Fits
+pub mod Turning
