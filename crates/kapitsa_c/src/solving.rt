@@ -10,8 +10,8 @@ ghost use Rattle.pcg.specs.Work.{After};
 ghost use Rattle.kapitsa_c.specs.Closing.{tolerances};
 ghost use Rattle.kapitsa_c.specs.Solving.{toldOf, toldFits, SolveTold};
 use kapitsa_joint::JointTolerance;
-use position_delivery::PositionPcg;
 use pcg::solve_position_pcg_prepared;
+use position_delivery::PositionPcg;
 
 // Refusal 3, of the slices that take the answer: true where it does not apply.
 fn told_fits(counts: &[u32], maxima: &[f64]) -> bool

@@ -8,7 +8,7 @@ use lib.ListN.{length, replicate}
 use lib.Ieee.{Float}
 use borrow.Author.Tests.{not-true, not-false}
 use Rattle.loops.specs.Cleared.{plusZero, cleared, clearedWords}
-use Rattle.pcg.specs.Work.{StepMemory, TableMemory, WorkMemory, clearedSteps, clearedTable, After}
+use Rattle.pcg.specs.Work.{StepMemory, TableMemory, WorkMemory, clearedSteps, clearedTable, clearedWork, After}
 
 -- ---- cleared after a call that kept its length
 pub cleared-since : (x₀ x : List Float) (n : ℕ) → n ≡ length x₀ → x ≡ replicate n plusZero → x ≡ cleared x₀
@@ -26,13 +26,13 @@ pub table-cleared : (jacobians₀ jacobians : List Float) (links₀ links : List
     → _≡_ {A = TableMemory} (record { jacobians = jacobians; links = links; residual = residual; pending = pending; bodyImpulses = bodyImpulses }) (clearedTable (record { jacobians = jacobians₀; links = links₀; residual = residual₀; pending = pending₀; bodyImpulses = bodyImpulses₀ }))
 table-cleared jacobians₀ jacobians links₀ links residual₀ residual pending₀ pending bodyImpulses₀ bodyImpulses e0 e1 e2 e3 e4 = rw (e0, e1, e2, e3, e4)
 
+pub work-cleared : (before after : WorkMemory) → after .steps ≡ clearedSteps (before .steps) → after .table ≡ clearedTable (before .table) → after ≡ clearedWork before
+work-cleared before after es et = rw (← es, ← et)
+
 -- ---- of the entry
 module _ (b fits : Bool) (e : b ≡ fits) (before : WorkMemory) where
   pub after-three : not b ≡ true → After fits before before
   after-three h = record { emptied = λ t. absurd (let z : true ≡ false = sym t ∙ sym e ∙ not-true b h in let y : _≡_ {A = ℕ} 0 1 = cc in omega arith); untouched = λ _. refl }
 
-  pub after-cleared : (after : WorkMemory) → not b ≡ false → after .steps ≡ clearedSteps (before .steps) → after .table ≡ clearedTable (before .table) → After fits before after
-  after-cleared after h es et = record {
-    emptied = λ _. rw (← es, ← et);
-    untouched = λ t. absurd (let z : true ≡ false = sym (not-false b h) ∙ e ∙ t in let y : _≡_ {A = ℕ} 0 1 = cc in omega arith);
-  }
+  pub after-cleared : (after : WorkMemory) → not b ≡ false → after ≡ clearedWork before → After fits before after
+  after-cleared after h ew = record { emptied = λ _. ew; untouched = λ t. absurd (let z : true ≡ false = sym (not-false b h) ∙ e ∙ t in let y : _≡_ {A = ℕ} 0 1 = cc in omega arith) }

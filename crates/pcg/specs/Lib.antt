@@ -1,3 +1,4 @@
 pub mod Lengths
 pub mod Work
 pub mod Opening
+pub mod Solved

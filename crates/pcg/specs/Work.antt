@@ -65,6 +65,9 @@ clearedTable m = record {
   bodyImpulses = cleared (m .bodyImpulses);
 }
 
+abbrev pub clearedWork : WorkMemory → WorkMemory
+clearedWork m = record { steps = clearedSteps (m .steps); table = clearedTable (m .table) }
+
 pub record After (fits : Bool) (before after : WorkMemory) : Type 0 where
-  pub emptied : fits ≡ true → after ≡ record { steps = clearedSteps (before .steps); table = clearedTable (before .table) }
+  pub emptied : fits ≡ true → after ≡ clearedWork before
   pub untouched : fits ≡ false → after ≡ before

@@ -1,26 +1,22 @@
 // The position solve over lent tables: solve_position_pcg_prepared of pcg.rs, with every refusal of document 01.
 ghost use mathlib.Core.Path.{_≡_};
-ghost use mathlib.Core.Bool.{true};
 ghost use Prim.Native.Nat.{_*_};
 ghost use lib.ListN.{length};
 ghost use Rattle.kapitsa_joint.specs.Table.{tableOf};
 ghost use Rattle.pairs.specs.Pairs.{pairRoom};
 ghost use Rattle.preconditioner.specs.Mode.{modeOf};
-ghost use Rattle.steps.specs.Solve.{solve};
-ghost use Rattle.position_iteration.specs.Method.{positionMethod};
 ghost use Rattle.position_steps.specs.Counting.{CountRoom};
 ghost use Rattle.pcg.specs.Lengths.{passes3, tableLengths, vectorLengths, factorLengths};
-ghost use Rattle.pcg.specs.Work.{After, StepMemory, TableMemory, clearedSteps, clearedTable};
-ghost use Rattle.position_delivery.specs.Outcome.{outcomeOf, SolveMeaning};
-use position_delivery::PositionPcg;
+ghost use Rattle.pcg.specs.Solved.{WorkedOut, Solved};
 use crate::clear::clear_table;
 use crate::counted::count_and_clear;
-use position_delivery::finish_counted;
 use crate::fit::FactorLengths;
 use crate::fit::TableLengths;
 use crate::fit::VectorLengths;
 use crate::fit::lengths_fit;
 use kapitsa_joint::JointTolerance;
+use position_delivery::PositionPcg;
+use position_delivery::finish_counted;
 
 // Once refusal 3 has passed.
 fn work_out(
@@ -57,9 +53,10 @@ fn work_out(
 ) -> PositionPcg
     requires { ⌜ CountRoom rows bodies (pairRoom rows) (length (now numbers)) (length (now words)) (length (now masses)) (length (now jacobians)) (length (now links)) (length (now owners)) (length (now diagonal)) (length (now residual)) (length (now pending)) (length (now preconditioned)) (length (now direction)) (length (now product)) (length (now «body_impulses»)) (length (now «body_responses»)) (length (now starts)) (length (now columns)) (length (now values)) (length (now pivots)) (length (now marks)) (length (now heads)) (length (now nexts)) (length (now homes)) (length (now blocks)) ⌝ }
     requires { ⌜ (length (now solution) ≡ rows) × (length (now impulses) ≡ 6 * bodies) ⌝ }
-    ensures { λ r. ⌜ outcomeOf rows record { numbers = now (numbers .entry); solution = now (solution .entry); impulses = now (impulses .entry) } (solve (positionMethod true (tableOf rows bodies (now (numbers .entry)) (now (words .entry)) (now (masses .entry)) tolerance) (modeOf mode)) limit) ≡ record { answer = r; lent = record { numbers = now (numbers .exit); solution = now (solution .exit); impulses = now (impulses .exit) } } ⌝ }
-    ensures { λ _. ⌜ _≡_ {A = StepMemory} record { owners = now (owners .exit); diagonal = now (diagonal .exit); preconditioned = now (preconditioned .exit); direction = now (direction .exit); product = now (product .exit); bodyResponses = now («body_responses» .exit); starts = now (starts .exit); columns = now (columns .exit); values = now (values .exit); pivots = now (pivots .exit); marks = now (marks .exit); heads = now (heads .exit); nexts = now (nexts .exit); homes = now (homes .exit); blocks = now (blocks .exit) } (clearedSteps record { owners = now (owners .entry); diagonal = now (diagonal .entry); preconditioned = now (preconditioned .entry); direction = now (direction .entry); product = now (product .entry); bodyResponses = now («body_responses» .entry); starts = now (starts .entry); columns = now (columns .entry); values = now (values .entry); pivots = now (pivots .entry); marks = now (marks .entry); heads = now (heads .entry); nexts = now (nexts .entry); homes = now (homes .entry); blocks = now (blocks .entry) }) ⌝ }
-    ensures { λ _. ⌜ _≡_ {A = TableMemory} record { jacobians = now (jacobians .exit); links = now (links .exit); residual = now (residual .exit); pending = now (pending .exit); bodyImpulses = now («body_impulses» .exit) } (clearedTable record { jacobians = now (jacobians .entry); links = now (links .entry); residual = now (residual .entry); pending = now (pending .entry); bodyImpulses = now («body_impulses» .entry) }) ⌝ }
+    ensures { λ r. ⌜ WorkedOut (tableOf rows bodies (now (numbers .entry)) (now (words .entry)) (now (masses .entry)) tolerance) (modeOf mode) limit rows
+        record { numbers = now (numbers .entry); solution = now (solution .entry); impulses = now (impulses .entry) } record { numbers = now (numbers .exit); solution = now (solution .exit); impulses = now (impulses .exit) } r
+        record { steps = record { owners = now (owners .entry); diagonal = now (diagonal .entry); preconditioned = now (preconditioned .entry); direction = now (direction .entry); product = now (product .entry); bodyResponses = now («body_responses» .entry); starts = now (starts .entry); columns = now (columns .entry); values = now (values .entry); pivots = now (pivots .entry); marks = now (marks .entry); heads = now (heads .entry); nexts = now (nexts .entry); homes = now (homes .entry); blocks = now (blocks .entry) }; table = record { jacobians = now (jacobians .entry); links = now (links .entry); residual = now (residual .entry); pending = now (pending .entry); bodyImpulses = now («body_impulses» .entry) } }
+        record { steps = record { owners = now (owners .exit); diagonal = now (diagonal .exit); preconditioned = now (preconditioned .exit); direction = now (direction .exit); product = now (product .exit); bodyResponses = now («body_responses» .exit); starts = now (starts .exit); columns = now (columns .exit); values = now (values .exit); pivots = now (pivots .exit); marks = now (marks .exit); heads = now (heads .exit); nexts = now (nexts .exit); homes = now (homes .exit); blocks = now (blocks .exit) }; table = record { jacobians = now (jacobians .exit); links = now (links .exit); residual = now (residual .exit); pending = now (pending .exit); bodyImpulses = now («body_impulses» .exit) } } ⌝ }
 {
     let counted = count_and_clear(
         numbers,
@@ -145,9 +142,11 @@ pub fn solve_position_pcg_prepared(
     homes: &mut [u32],
     blocks: &mut [f64],
 ) -> PositionPcg
-    ensures { λ r. ⌜ outcomeOf rows record { numbers = now (numbers .entry); solution = now (solution .entry); impulses = now (impulses .entry) } (solve (positionMethod (passes3 rows bodies mode (tableLengths (now (numbers .entry)) (now (words .entry)) (now (masses .entry)) (now (solution .entry)) (now (impulses .entry))) (vectorLengths (now (jacobians .entry)) (now (links .entry)) (now (owners .entry)) (now (diagonal .entry)) (now (residual .entry)) (now (pending .entry)) (now (preconditioned .entry)) (now (direction .entry)) (now (product .entry)) (now («body_impulses» .entry)) (now («body_responses» .entry))) (factorLengths (now (starts .entry)) (now (columns .entry)) (now (values .entry)) (now (pivots .entry)) (now (marks .entry)) (now (heads .entry)) (now (nexts .entry)) (now (homes .entry)) (now (blocks .entry)))) (tableOf rows bodies (now (numbers .entry)) (now (words .entry)) (now (masses .entry)) tolerance) (modeOf mode)) limit) ≡ record { answer = r; lent = record { numbers = now (numbers .exit); solution = now (solution .exit); impulses = now (impulses .exit) } } ⌝ }
-    ensures { λ r. ⌜ SolveMeaning (positionMethod (passes3 rows bodies mode (tableLengths (now (numbers .entry)) (now (words .entry)) (now (masses .entry)) (now (solution .entry)) (now (impulses .entry))) (vectorLengths (now (jacobians .entry)) (now (links .entry)) (now (owners .entry)) (now (diagonal .entry)) (now (residual .entry)) (now (pending .entry)) (now (preconditioned .entry)) (now (direction .entry)) (now (product .entry)) (now («body_impulses» .entry)) (now («body_responses» .entry))) (factorLengths (now (starts .entry)) (now (columns .entry)) (now (values .entry)) (now (pivots .entry)) (now (marks .entry)) (now (heads .entry)) (now (nexts .entry)) (now (homes .entry)) (now (blocks .entry)))) (tableOf rows bodies (now (numbers .entry)) (now (words .entry)) (now (masses .entry)) tolerance) (modeOf mode)) limit rows record { numbers = now (numbers .entry); solution = now (solution .entry); impulses = now (impulses .entry) } r record { numbers = now (numbers .exit); solution = now (solution .exit); impulses = now (impulses .exit) } ⌝ }
-    ensures { λ _. ⌜ After (passes3 rows bodies mode (tableLengths (now (numbers .entry)) (now (words .entry)) (now (masses .entry)) (now (solution .entry)) (now (impulses .entry))) (vectorLengths (now (jacobians .entry)) (now (links .entry)) (now (owners .entry)) (now (diagonal .entry)) (now (residual .entry)) (now (pending .entry)) (now (preconditioned .entry)) (now (direction .entry)) (now (product .entry)) (now («body_impulses» .entry)) (now («body_responses» .entry))) (factorLengths (now (starts .entry)) (now (columns .entry)) (now (values .entry)) (now (pivots .entry)) (now (marks .entry)) (now (heads .entry)) (now (nexts .entry)) (now (homes .entry)) (now (blocks .entry))))
+    ensures { λ r. ⌜ Solved (passes3 rows bodies mode (tableLengths (now (numbers .entry)) (now (words .entry)) (now (masses .entry)) (now (solution .entry)) (now (impulses .entry)))
+        (vectorLengths (now (jacobians .entry)) (now (links .entry)) (now (owners .entry)) (now (diagonal .entry)) (now (residual .entry)) (now (pending .entry)) (now (preconditioned .entry)) (now (direction .entry)) (now (product .entry)) (now («body_impulses» .entry)) (now («body_responses» .entry)))
+        (factorLengths (now (starts .entry)) (now (columns .entry)) (now (values .entry)) (now (pivots .entry)) (now (marks .entry)) (now (heads .entry)) (now (nexts .entry)) (now (homes .entry)) (now (blocks .entry))))
+        (tableOf rows bodies (now (numbers .entry)) (now (words .entry)) (now (masses .entry)) tolerance) (modeOf mode) limit rows
+        record { numbers = now (numbers .entry); solution = now (solution .entry); impulses = now (impulses .entry) } record { numbers = now (numbers .exit); solution = now (solution .exit); impulses = now (impulses .exit) } r
         record { steps = record { owners = now (owners .entry); diagonal = now (diagonal .entry); preconditioned = now (preconditioned .entry); direction = now (direction .entry); product = now (product .entry); bodyResponses = now («body_responses» .entry); starts = now (starts .entry); columns = now (columns .entry); values = now (values .entry); pivots = now (pivots .entry); marks = now (marks .entry); heads = now (heads .entry); nexts = now (nexts .entry); homes = now (homes .entry); blocks = now (blocks .entry) }; table = record { jacobians = now (jacobians .entry); links = now (links .entry); residual = now (residual .entry); pending = now (pending .entry); bodyImpulses = now («body_impulses» .entry) } }
         record { steps = record { owners = now (owners .exit); diagonal = now (diagonal .exit); preconditioned = now (preconditioned .exit); direction = now (direction .exit); product = now (product .exit); bodyResponses = now («body_responses» .exit); starts = now (starts .exit); columns = now (columns .exit); values = now (values .exit); pivots = now (pivots .exit); marks = now (marks .exit); heads = now (heads .exit); nexts = now (nexts .exit); homes = now (homes .exit); blocks = now (blocks .exit) }; table = record { jacobians = now (jacobians .exit); links = now (links .exit); residual = now (residual .exit); pending = now (pending .exit); bodyImpulses = now («body_impulses» .exit) } } ⌝ }
 {

@@ -6,11 +6,11 @@ ghost use Rattle.kapitsa_joint.specs.Table.{tableOf};
 ghost use Rattle.pairs.specs.Pairs.{pairRoom};
 ghost use Rattle.position_steps.specs.Counting.{CountRoom, CountHeld};
 use crate::beginning::start;
-use position_iteration::Iterated;
 use crate::running::run_steps;
 use kapitsa_joint::JointTolerance;
 use position::Begun;
 use position::position_vector_converged;
+use position_iteration::Iterated;
 use preconditioner::Mode;
 use sparse::wide;
 
