@@ -22,7 +22,7 @@ type Cholesky = unsafe extern "C" fn(
     u32, usize,
     *mut u32, usize, *mut u32, usize, *mut f64, usize, *mut f64, usize, *mut u32, usize,
     *mut u32, usize, *mut u32, usize, *mut u32, usize, *mut f64, usize,
-    u32, u32,
+    u32,
 ) -> u32;
 
 /// Rows on a few bodies that many of them share, and on many that few share.
@@ -98,7 +98,7 @@ impl Port {
                 self.values.as_mut_ptr(), self.values.len(), self.pivots.as_mut_ptr(), self.pivots.len(),
                 marks.as_mut_ptr(), marks.len(), heads.as_mut_ptr(), heads.len(),
                 nexts.as_mut_ptr(), nexts.len(), homes.as_mut_ptr(), homes.len(),
-                self.output.as_mut_ptr(), self.output.len(), self.values.len() as u32, solves,
+                self.output.as_mut_ptr(), self.output.len(), solves,
             )
         }
     }
