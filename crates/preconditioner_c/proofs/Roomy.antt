@@ -5,9 +5,10 @@ use mathlib.Core.Bool.{Bool, true, false, not, _&&_, false≢true}
 use borrow.Author.Tests.{eqb-true, leb-true, not-true, not-false}
 use lib.Dec.{leb, eqb}
 use Rattle.pairs.specs.Pairs.{pairRoom}
-use Rattle.preconditioner_c.specs.Fit.{countsFit, tableFits, workFits, passes3}
+use Rattle.preconditioner_c.specs.Fit.{countsFit, tableFits, workFits, passes3, blocksFit, blocksPass3}
 use Rattle.preconditioner_c.specs.declared.fit.TableLengths.{TableLengths}
 use Rattle.preconditioner_c.specs.declared.fit.WorkLengths.{WorkLengths}
+use Rattle.preconditioner_c.specs.declared.fit.BlockLengths.{BlockLengths}
 
 both : {a b : Bool} → (a && b) ≡ true → (a ≡ true) × (b ≡ true)
 both {a} {b} h = split a b h
@@ -33,6 +34,15 @@ module _ (rows bodies : ℕ) {r : Bool} (e : r ≡ countsFit rows bodies) where
       → (s && u) ≡ passes3 rows bodies t w
   unfolding passes3
   lengths-way t w n p q h k m l x y = rw (← e, not-false r h, ← m, ← l, ← k, ← x, ← y)
+
+  -- `block_lengths_fit`
+  pub block-counts-out : (l : BlockLengths) → not r ≡ true → false ≡ blocksPass3 rows bodies l
+  unfolding blocksPass3
+  block-counts-out l h = rw (← e, not-true r h)
+
+  pub block-lengths-way : (l : BlockLengths) (n : ℕ) {s : Bool} → not r ≡ false → n ≡ rows → s ≡ blocksFit n bodies l → s ≡ blocksPass3 rows bodies l
+  unfolding blocksPass3
+  block-lengths-way l n h k x = rw (← e, not-false r h, ← k, ← x)
 
 -- ---- what follows where they pass
 module _ (n b room : ℕ) where
@@ -69,3 +79,16 @@ lengths-room n b t w {r} e h =
     let (c, l) = both {a = countsFit n b} (sym e ∙ not-false r h) in
     let (p, q) = both {a = tableFits n b t} l in
     (table-lengths n b 0 t p, (work-lengths n b (pairRoom n) w q, counts n b c .0))
+
+pub block-lengths-room : (n b : ℕ) (l : BlockLengths) {r : Bool} → r ≡ blocksPass3 n b l → not r ≡ false
+    → ((l .jacobians ≡ 12 * n) × (l .links ≡ 2 * n) × (l .masses ≡ 10 * b) × (l .owners ≡ n) × (l .residual ≡ n) × (l .blocks ≡ 36 * n) × (l .output ≡ n)) × (n ≤ 512)
+unfolding blocksPass3 blocksFit
+block-lengths-room n b l {r} e h =
+    let (c, h7) = both {a = countsFit n b} (sym e ∙ not-false r h) in
+    let (h6, o) = both h7 in
+    let (h5, k) = both h6 in
+    let (h4, d) = both h5 in
+    let (h3, w) = both h4 in
+    let (h2, m) = both h3 in
+    let (j, i) = both h2 in
+    ((eqb-true _ _ j, eqb-true _ _ i, eqb-true _ _ m, eqb-true _ _ w, eqb-true _ _ d, eqb-true _ _ k, eqb-true _ _ o), counts n b c .0)

@@ -8,6 +8,7 @@ use lib.Ieee.{Float}
 use Rattle.pairs.specs.Pairs.{pairRoom}
 use Rattle.preconditioner_c.specs.declared.fit.TableLengths.{TableLengths}
 use Rattle.preconditioner_c.specs.declared.fit.WorkLengths.{WorkLengths}
+use Rattle.preconditioner_c.specs.declared.fit.BlockLengths.{BlockLengths}
 
 unfoldable pub countsFit : ℕ → ℕ → Bool
 countsFit rows bodies = leb rows 512 && leb bodies 256
@@ -24,9 +25,20 @@ workFits n room l =
 unfoldable pub passes3 : ℕ → ℕ → TableLengths → WorkLengths → Bool
 passes3 n b t w = countsFit n b && (tableFits n b t && workFits n (pairRoom n) w)
 
+-- mode 2
+unfoldable pub blocksFit : ℕ → ℕ → BlockLengths → Bool
+blocksFit n b l =
+    (((((eqb (l .jacobians) (12 * n) && eqb (l .links) (2 * n)) && eqb (l .masses) (10 * b)) && eqb (l .owners) n) && eqb (l .residual) n) && eqb (l .blocks) (36 * n)) && eqb (l .output) n
+
+unfoldable pub blocksPass3 : ℕ → ℕ → BlockLengths → Bool
+blocksPass3 n b l = countsFit n b && blocksFit n b l
+
 -- ---- the lengths of the lent lists
 abbrev pub tableLengths : List Float → List ℕ → List Float → List Float → List Float → List Float → TableLengths
 tableLengths jacobians links masses diagonal residual output = record { jacobians = length jacobians; links = length links; masses = length masses; diagonal = length diagonal; residual = length residual; output = length output }
 
 abbrev pub workLengths : List ℕ → List ℕ → List Float → List Float → List ℕ → List ℕ → List ℕ → List ℕ → WorkLengths
 workLengths starts columns values pivots marks heads nexts homes = record { starts = length starts; columns = length columns; values = length values; pivots = length pivots; marks = length marks; heads = length heads; nexts = length nexts; homes = length homes }
+
+abbrev pub blockLengths : List Float → List ℕ → List Float → List ℕ → List Float → List Float → List Float → BlockLengths
+blockLengths jacobians links masses owners residual blocks output = record { jacobians = length jacobians; links = length links; masses = length masses; owners = length owners; residual = length residual; blocks = length blocks; output = length output }
