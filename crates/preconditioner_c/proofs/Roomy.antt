@@ -3,7 +3,7 @@ use Prim.Native.Nat.{ℕ, _+_, _*_, _≤_}
 use mathlib.Core.Path.{_≡_, refl, sym, _∙_}
 use mathlib.Core.Bool.{Bool, true, false, not, _&&_, false≢true}
 use borrow.Author.Tests.{eqb-true, leb-true, not-true, not-false}
-use lib.Dec.{leb, eqb}
+use lib.Dec.{leb}
 use Rattle.pairs.specs.Pairs.{pairRoom}
 use Rattle.preconditioner_c.specs.Fit.{countsFit, tableFits, workFits, passes3, blocksFit, blocksPass3}
 use Rattle.preconditioner_c.specs.declared.fit.TableLengths.{TableLengths}
@@ -45,30 +45,29 @@ module _ (rows bodies : ℕ) {r : Bool} (e : r ≡ countsFit rows bodies) where
   block-lengths-way l n h k x = rw (← e, not-false r h, ← k, ← x)
 
 -- ---- what follows where they pass
-module _ (n b room : ℕ) where
-  table-lengths : (t : TableLengths) → tableFits n b t ≡ true
-      → (t .jacobians ≡ 12 * n) × (t .links ≡ 2 * n) × (t .masses ≡ 10 * b) × (t .diagonal ≡ n) × (t .residual ≡ n) × (t .output ≡ n)
-  unfolding tableFits
-  table-lengths t h =
-      let (h5, o) = both h in
-      let (h4, r) = both h5 in
-      let (h3, d) = both h4 in
-      let (h2, m) = both h3 in
-      let (j, l) = both h2 in
-      (eqb-true _ _ j, eqb-true _ _ l, eqb-true _ _ m, eqb-true _ _ d, eqb-true _ _ r, eqb-true _ _ o)
+table-lengths : (n b : ℕ) (t : TableLengths) → tableFits n b t ≡ true
+    → (t .jacobians ≡ 12 * n) × (t .links ≡ 2 * n) × (t .masses ≡ 10 * b) × (t .diagonal ≡ n) × (t .residual ≡ n) × (t .output ≡ n)
+unfolding tableFits
+table-lengths n b t h =
+    let (h5, o) = both h in
+    let (h4, r) = both h5 in
+    let (h3, d) = both h4 in
+    let (h2, m) = both h3 in
+    let (j, l) = both h2 in
+    (eqb-true _ _ j, eqb-true _ _ l, eqb-true _ _ m, eqb-true _ _ d, eqb-true _ _ r, eqb-true _ _ o)
 
-  work-lengths : (w : WorkLengths) → workFits n room w ≡ true
-      → (w .starts ≡ n + 1) × (w .columns ≡ room) × (w .values ≡ room) × (w .pivots ≡ n) × (w .marks ≡ n) × (w .heads ≡ n) × (w .nexts ≡ room) × (w .homes ≡ room)
-  unfolding workFits
-  work-lengths w h =
-      let (h7, z) = both h in
-      let (h6, x) = both h7 in
-      let (h5, d) = both h6 in
-      let (h4, m) = both h5 in
-      let (h3, p) = both h4 in
-      let (h2, v) = both h3 in
-      let (s, c) = both h2 in
-      (eqb-true _ _ s, eqb-true _ _ c, eqb-true _ _ v, eqb-true _ _ p, eqb-true _ _ m, eqb-true _ _ d, eqb-true _ _ x, eqb-true _ _ z)
+work-lengths : (n room : ℕ) (w : WorkLengths) → workFits n room w ≡ true
+    → (w .starts ≡ n + 1) × (w .columns ≡ room) × (w .values ≡ room) × (w .pivots ≡ n) × (w .marks ≡ n) × (w .heads ≡ n) × (w .nexts ≡ room) × (w .homes ≡ room)
+unfolding workFits
+work-lengths n room w h =
+    let (h7, z) = both h in
+    let (h6, x) = both h7 in
+    let (h5, d) = both h6 in
+    let (h4, m) = both h5 in
+    let (h3, p) = both h4 in
+    let (h2, v) = both h3 in
+    let (s, c) = both h2 in
+    (eqb-true _ _ s, eqb-true _ _ c, eqb-true _ _ v, eqb-true _ _ p, eqb-true _ _ m, eqb-true _ _ d, eqb-true _ _ x, eqb-true _ _ z)
 
 pub lengths-room : (n b : ℕ) (t : TableLengths) (w : WorkLengths) {r : Bool} → r ≡ passes3 n b t w → not r ≡ false
     → ((t .jacobians ≡ 12 * n) × (t .links ≡ 2 * n) × (t .masses ≡ 10 * b) × (t .diagonal ≡ n) × (t .residual ≡ n) × (t .output ≡ n))
@@ -78,7 +77,7 @@ unfolding passes3
 lengths-room n b t w {r} e h =
     let (c, l) = both {a = countsFit n b} (sym e ∙ not-false r h) in
     let (p, q) = both {a = tableFits n b t} l in
-    (table-lengths n b 0 t p, (work-lengths n b (pairRoom n) w q, counts n b c .0))
+    (table-lengths n b t p, (work-lengths n (pairRoom n) w q, counts n b c .0))
 
 pub block-lengths-room : (n b : ℕ) (l : BlockLengths) {r : Bool} → r ≡ blocksPass3 n b l → not r ≡ false
     → ((l .jacobians ≡ 12 * n) × (l .links ≡ 2 * n) × (l .masses ≡ 10 * b) × (l .owners ≡ n) × (l .residual ≡ n) × (l .blocks ≡ 36 * n) × (l .output ≡ n)) × (n ≤ 512)
