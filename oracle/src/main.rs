@@ -36,7 +36,7 @@ const USAGE: &str = "usage: oracle/run COMMAND
   differences                     docs/DIFFERENCES.md's inputs on the reference
   bench [LIBRARY]                 times of the reference, and of an implementation
   bench-closing LIBRARY [OPERATOR] time of an implementation's closing check at 512 rows
-  bench-preconditioner LIBRARY    times of mode 1's build and solve at 512 rows, reference and port
+  bench-preconditioner LIBRARY    times of the build and solve of modes 1 and 2 at 512 rows
   job FILE                        what the job program prints of a job file
   files FOLDER [JOBS] [SEED]      job files in every placement, with what the program prints
   examples                        document 01's P1 to P9 as job files, in target/examples";

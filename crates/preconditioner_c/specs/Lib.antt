@@ -1,1 +1,3 @@
-pub mod Number
+pub mod Fit
+pub mod Outcome
+pub mod Blocks

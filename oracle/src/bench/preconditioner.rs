@@ -1,9 +1,9 @@
-//! Times of mode 1 alone, at 512 rows and the most pairs: the build, and one solve with the
-//! factor, of the reference and of the port's archive (`rt staticlib preconditioner_c`).
+//! Times of modes 1 and 2 alone, of the reference and of the port's archive (`rt staticlib
+//! preconditioner_c`): the build, and one solve. Mode 1 has 512 rows and the most pairs.
 //! Buffers stay warm. The port reads the compact table that its solve gathers once; the
 //! reference reads its rows.
 
-use super::{Solve, short, times};
+use super::{Solve, blocks, short, times};
 use crate::job::*;
 use crate::library::Library;
 use crate::model::factor_refusal;
@@ -14,7 +14,7 @@ use std::hint::black_box;
 const ROWS: usize = 512;
 const MAX_PAIRS: usize = 16_384;
 /// Solves in one call, of which the build's time is taken away.
-const SOLVES: u32 = 20;
+pub const SOLVES: u32 = 20;
 
 #[rustfmt::skip]
 type Cholesky = unsafe extern "C" fn(
@@ -22,7 +22,7 @@ type Cholesky = unsafe extern "C" fn(
     u32, usize,
     *mut u32, usize, *mut u32, usize, *mut f64, usize, *mut f64, usize, *mut u32, usize,
     *mut u32, usize, *mut u32, usize, *mut u32, usize, *mut f64, usize,
-    u32, u32,
+    u32,
 ) -> u32;
 
 /// Rows on a few bodies that many of them share, and on many that few share.
@@ -58,6 +58,16 @@ fn table(hubs: usize, leaves: usize) -> Job {
     job
 }
 
+/// The compact table: twelve numbers and two body numbers a row.
+pub fn compact(job: &Job) -> (Vec<f64>, Vec<u32>) {
+    let rows = job.rows as usize;
+    let twelve = |row| [LINEAR_A, ANGULAR_A, LINEAR_B, ANGULAR_B].map(|at| (row, at));
+    let three = |(row, at)| (0..3).map(move |part| job.number(row, at + part));
+    let jacobians = (0..rows).flat_map(twelve).flat_map(three).collect();
+    let links = (0..2 * rows).map(|end| job.word(end / 2, [BODY_A, BODY_B][end % 2])).collect();
+    (jacobians, links)
+}
+
 /// The port's function with the memory that it borrows.
 struct Port {
     function: Cholesky,
@@ -72,13 +82,12 @@ struct Port {
 impl Port {
     fn new(function: Cholesky, job: &Job) -> Self {
         let rows = job.rows as usize;
-        let twelve = |row| [LINEAR_A, ANGULAR_A, LINEAR_B, ANGULAR_B].map(|at| (row, at));
-        let three = |(row, at)| (0..3).map(move |part| job.number(row, at + part));
+        let (jacobians, links) = compact(job);
         let room = (rows * (rows - 1) / 2).min(MAX_PAIRS);
         Self {
             function,
-            jacobians: (0..rows).flat_map(twelve).flat_map(three).collect(),
-            links: (0..2 * rows).map(|end| job.word(end / 2, [BODY_A, BODY_B][end % 2])).collect(),
+            jacobians,
+            links,
             words: [rows + 1, room, rows, rows, room, room].map(|length| vec![0; length]),
             values: vec![0.0; room],
             pivots: vec![0.0; rows],
@@ -98,7 +107,7 @@ impl Port {
                 self.values.as_mut_ptr(), self.values.len(), self.pivots.as_mut_ptr(), self.pivots.len(),
                 marks.as_mut_ptr(), marks.len(), heads.as_mut_ptr(), heads.len(),
                 nexts.as_mut_ptr(), nexts.len(), homes.as_mut_ptr(), homes.len(),
-                self.output.as_mut_ptr(), self.output.len(), self.values.len() as u32, solves,
+                self.output.as_mut_ptr(), self.output.len(), solves,
             )
         }
     }
@@ -106,7 +115,14 @@ impl Port {
 
 /// The reference and the port take turns; both must have the same z, bit for bit.
 pub fn run(library: &str) -> Result<bool, String> {
-    let found = Library::open(library)?.function("kapitsa_incomplete_cholesky")?;
+    let library = Library::open(library)?;
+    cholesky(&library)?;
+    blocks::run(&library)?;
+    Ok(true)
+}
+
+fn cholesky(library: &Library) -> Result<(), String> {
+    let found = library.function("kapitsa_incomplete_cholesky")?;
     let function = unsafe { std::mem::transmute::<*mut std::ffi::c_void, Cholesky>(found) };
     let (hubs, leaves) = fullest();
     let job = table(hubs, leaves);
@@ -125,12 +141,12 @@ pub fn run(library: &str) -> Result<bool, String> {
     if told != (0, Ok(true)) || solved.is_err() || !same_bits(&z, &port.output) {
         return Err(format!("the port and the reference differ: {told:?}, {solved:?}"));
     }
-    println!("{ROWS} rows, {} bodies, {} pairs", hubs + leaves, pairs(hubs, leaves));
-    print_times(&job, &mut rust, &mut port, &diagonal, &residual);
-    Ok(true)
+    println!("mode 1: {ROWS} rows, {} bodies, {} pairs", hubs + leaves, pairs(hubs, leaves));
+    time_cholesky(&job, &mut rust, &mut port, &diagonal, &residual);
+    Ok(())
 }
 
-fn print_times(
+fn time_cholesky(
     job: &Job,
     rust: &mut Preconditioners,
     port: &mut Port,
@@ -159,6 +175,11 @@ fn print_times(
         Box::new(port_build),
         Box::new(port_all),
     ];
+    print_times(turns);
+}
+
+/// The reference's build and its `SOLVES` solves, the port's build and its build with them.
+pub fn print_times(turns: Vec<Solve>) {
     let found = times(turns);
     let [build, solves, own, all] = &found[..] else { return };
     let each = |all: f64, build: f64| (all - build) / f64::from(SOLVES);

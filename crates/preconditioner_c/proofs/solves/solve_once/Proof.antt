@@ -1,10 +1,10 @@
--- `preconditioner_c::cholesky::solve_once` meets its contract. Assumes nothing.
+-- `preconditioner_c::solves::solve_once` meets its contract. Assumes nothing.
 use native.Mathlib.Omega.{arith}
 use Rattle.loops.proofs.Loop.{loops}
 use Rattle.triangular.proofs.Down.{indexed-places}
 use Rattle.preconditioner_c.proofs.Ways.{once-done, once-refused}
-use Rattle.preconditioner_c.proofs.cholesky.solve_once.Statement.{statement}
-use Rattle.preconditioner_c.proofs.cholesky.solve_once.Tie as tie
+use Rattle.preconditioner_c.proofs.solves.solve_once.Statement.{statement}
+use Rattle.preconditioner_c.proofs.solves.solve_once.Tie as tie
 
 pub solve-once-spec : {M : Type 1} → statement M
 solve-once-spec =

@@ -1,17 +1,17 @@
--- `preconditioner_c::cholesky::solve_times` meets its contract. Assumes nothing.
+-- `preconditioner_c::solves::solve_times` meets its contract. Assumes nothing.
 use Prim.Native.Nat.{_-_, _≤_}
 use native.Mathlib.Omega.{arith}
 use Rattle.loops.proofs.Loop.{loops}
 use Rattle.preconditioner_c.proofs.Ways.{times-none, times-more, times-end}
-use Rattle.preconditioner_c.specs.Number.{solveNumber, timesNumber}
+use Rattle.preconditioner_c.specs.Outcome.{outcome, solveOutcome, timesOutcome}
 use Rattle.sparse.specs.Kept.{numbers}
 use lib.ListN.{length}
 use mathlib.Core.Path.{_≡_}
-use Rattle.preconditioner_c.proofs.cholesky.solve_times.Statement.{statement}
-use Rattle.preconditioner_c.proofs.cholesky.solve_times.Tie as tie
+use Rattle.preconditioner_c.proofs.solves.solve_times.Statement.{statement}
+use Rattle.preconditioner_c.proofs.solves.solve_times.Tie as tie
 
 abbrev Inv-loop : tie.InvT-loop
-Inv-loop starts columns heads nexts homes count values pivots residual output₀ times answer₀ k₀ output answer k = (length output ≡ length output₀) × (k ≤ times) × (answer ≡ timesNumber k (solveNumber (numbers starts columns values) pivots residual))
+Inv-loop starts columns heads nexts homes count values pivots residual output₀ times answer₀ k₀ output answer k = (length output ≡ length output₀) × (k ≤ times) × (outcome answer output ≡ timesOutcome k (solveOutcome (numbers starts columns values) pivots residual) output₀)
 
 abbrev μ-loop : tie.MeasureT-loop
 μ-loop starts columns heads nexts homes count values pivots residual output₀ times answer₀ k₀ output answer k = times - k
