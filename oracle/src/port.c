@@ -1,25 +1,104 @@
-/* The adapter of the port's archive (rt staticlib kapitsa_c), which takes its work memory
-   lent: for n rows and b bodies as many numbers as document 01's counts call for. It has no
-   solve yet, so the driver runs closing checks alone. adapter.c has what it stands in for. */
-#include <stddef.h>
-#include <stdint.h>
+/* The adapter of the port's archive (rt staticlib kapitsa_c) for the driver: it lends the work
+   memory, as much as document 01's counts call for. adapter.c has what it stands in for. */
+#include "kapitsa.h"
 
-enum { ROWS = 512, BODIES = 256 };
+enum { ROWS = 512, BODIES = 256, PAIRS = 16384 };
 
-static double jacobians[12 * ROWS], multiplier_sizes[ROWS], values[ROWS], sizes[ROWS];
-static double mass_sizes[10 * BODIES], impulses[6 * BODIES], responses[6 * BODIES];
-static uint32_t links[2 * ROWS];
+/* The most that kapitsa_doubles and kapitsa_words ask for. */
+static double doubles[55 * ROWS + 12 * BODIES + PAIRS];
+static uint32_t words_memory[6 * ROWS + 3 * PAIRS + 1];
 
-/* 0 open, 1 closed, or the refusal's number. */
-uint32_t kapitsa_closing_check(
-    const double *numbers, size_t numbers_len, const uint32_t *words, size_t words_len,
+void oracle_solve_position(
+    double *numbers, size_t numbers_len, const uint32_t *words, size_t words_len,
     const double *masses, size_t masses_len, double linear_tolerance, double angular_tolerance,
-    uint32_t rows, uint32_t bodies, const double *multipliers, size_t multipliers_len,
-    double *jacobians, size_t jacobians_len, uint32_t *links, size_t links_len,
-    double *mass_sizes, size_t mass_sizes_len,
-    double *multiplier_sizes, size_t multiplier_sizes_len,
-    double *impulses, size_t impulses_len, double *responses, size_t responses_len,
-    double *values, size_t values_len, double *sizes, size_t sizes_len);
+    uint32_t rows, uint32_t bodies, uint32_t limit, uint32_t mode,
+    double *solution, size_t solution_len, double *impulses, size_t impulses_len,
+    uint64_t *answer, size_t answer_len)
+{
+    size_t n = rows < ROWS ? rows : ROWS, b = bodies < BODIES ? bodies : BODIES;
+    size_t p = kapitsa_pairs(n);
+    uint32_t counts[2] = {0, 0};
+    union {
+        double number;
+        uint64_t bits;
+    } maximum[2] = {{0.0}, {0.0}};
+    double maxima[2] = {0.0, 0.0};
+    double *d = doubles;
+    uint32_t *w = words_memory;
+    double *jacobians = d;
+    d += 12 * n;
+    uint32_t *links = w;
+    w += 2 * n;
+    uint32_t *owners = w;
+    w += n;
+    double *diagonal = d;
+    d += n;
+    double *residual = d;
+    d += n;
+    double *pending = d;
+    d += n;
+    double *preconditioned = d;
+    d += n;
+    double *direction = d;
+    d += n;
+    double *product = d;
+    d += n;
+    double *body_impulses = d;
+    d += 6 * b;
+    double *body_responses = d;
+    d += 6 * b;
+    uint32_t *starts = w;
+    w += n + 1;
+    uint32_t *columns = w;
+    w += p;
+    double *values = d;
+    d += p;
+    double *pivots = d;
+    d += n;
+    uint32_t *marks = w;
+    w += n;
+    uint32_t *heads = w;
+    w += n;
+    uint32_t *nexts = w;
+    w += p;
+    uint32_t *homes = w;
+    w += p;
+    double *blocks = d;
+    d += 36 * n;
+    uint32_t refusal = kapitsa_solve_position(
+        numbers, numbers_len, words, words_len, masses, masses_len, linear_tolerance,
+        angular_tolerance, rows, bodies, limit, mode, solution, solution_len, impulses,
+        impulses_len, counts, 2, maxima, 2,
+        jacobians, 12 * n,
+        links, 2 * n,
+        owners, n,
+        diagonal, n,
+        residual, n,
+        pending, n,
+        preconditioned, n,
+        direction, n,
+        product, n,
+        body_impulses, 6 * b,
+        body_responses, 6 * b,
+        starts, n + 1,
+        columns, p,
+        values, p,
+        pivots, n,
+        marks, n,
+        heads, n,
+        nexts, p,
+        homes, p,
+        blocks, 36 * n);
+    maximum[0].number = maxima[0];
+    maximum[1].number = maxima[1];
+    if (answer_len == 5) {
+        answer[0] = refusal;
+        answer[1] = counts[0];
+        answer[2] = counts[1];
+        answer[3] = maximum[0].bits;
+        answer[4] = maximum[1].bits;
+    }
+}
 
 void oracle_closing_check(
     const double *numbers, size_t numbers_len, const uint32_t *words, size_t words_len,
@@ -28,10 +107,34 @@ void oracle_closing_check(
     uint64_t *answer, size_t answer_len)
 {
     size_t n = rows < ROWS ? rows : ROWS, b = bodies < BODIES ? bodies : BODIES;
+    double *d = doubles;
+    uint32_t *w = words_memory;
+    double *jacobians = d;
+    d += 12 * n;
+    uint32_t *links = w;
+    w += 2 * n;
+    double *mass_sizes = d;
+    d += 10 * b;
+    double *multiplier_sizes = d;
+    d += n;
+    double *impulses = d;
+    d += 6 * b;
+    double *responses = d;
+    d += 6 * b;
+    double *values = d;
+    d += n;
+    double *sizes = d;
+    d += n;
     uint32_t found = kapitsa_closing_check(
         numbers, numbers_len, words, words_len, masses, masses_len, linear_tolerance,
-        angular_tolerance, rows, bodies, multipliers, multipliers_len, jacobians, 12 * n, links,
-        2 * n, mass_sizes, 10 * b, multiplier_sizes, n, impulses, 6 * b, responses, 6 * b, values, n,
+        angular_tolerance, rows, bodies, multipliers, multipliers_len,
+        jacobians, 12 * n,
+        links, 2 * n,
+        mass_sizes, 10 * b,
+        multiplier_sizes, n,
+        impulses, 6 * b,
+        responses, 6 * b,
+        values, n,
         sizes, n);
     if (answer_len == 2) {
         answer[0] = found < 2 ? 0 : found;
@@ -51,9 +154,5 @@ static int all_zero(const void *memory, size_t size)
 /* Is all of the work memory +0.0 (integers 0)? */
 int oracle_work_cleared(void)
 {
-    return all_zero(jacobians, sizeof jacobians) && all_zero(links, sizeof links)
-        && all_zero(mass_sizes, sizeof mass_sizes)
-        && all_zero(multiplier_sizes, sizeof multiplier_sizes)
-        && all_zero(impulses, sizeof impulses) && all_zero(responses, sizeof responses)
-        && all_zero(values, sizeof values) && all_zero(sizes, sizeof sizes);
+    return all_zero(doubles, sizeof doubles) && all_zero(words_memory, sizeof words_memory);
 }

@@ -1,54 +1,83 @@
--- What a solve tells C, from the answer of the entry. Assumes nothing.
+-- What a solve tells C, from the promise of the entry. Assumes nothing.
 use Prim.Native.Nat.{ℕ}
 use mathlib.Core.Path.{_≡_, refl, sym, ap, _∙_}
-use mathlib.Core.Bool.{Bool, true, false, not, _&&_}
-use mathlib.Core.List.{List}
+use mathlib.Core.Bool.{Bool, true, false, not, _&&_, cond}
+use mathlib.Core.List.{List, [], _∷_}
 use native.Mathlib.Omega.{arith}
+use mir.Val.{boolByte}
+use lib.Dec.{eqb}
+use lib.ListN.{length, set}
 use lib.Ieee.{Float}
-use borrow.Author.Tests.{not-true, not-false}
+use borrow.Author.Tests.{not-true, not-false, eqb-true}
 use Rattle.kapitsa_joint.specs.Table.{Table}
 use Rattle.preconditioner.specs.declared.mode.Mode.{Mode}
-use Rattle.recurrence.specs.Step.{Iterate, Carried}
-use Rattle.steps.specs.Method.{Method}
 use Rattle.steps.specs.Solve.{solve}
-use Rattle.position_iteration.specs.Method.{positionMethod, Delivered}
+use Rattle.position_iteration.specs.Method.{positionMethod}
 use Rattle.position_delivery.specs.Outcome.{Lent, Outcome, outcomeOf}
-use Rattle.pcg.specs.Work.{WorkMemory, After}
-use Rattle.pcg.proofs.Entry.{entry-means, entry-refused}
 use Rattle.position_delivery.specs.declared.answer.PositionPcg.{PositionPcg}
 use Rattle.position_delivery.specs.declared.answer.PositionPcg.the-variants as answers
-use Rattle.kapitsa_c.specs.Solving.{Told, toldOf, SolveTold}
+use Rattle.position_delivery.specs.declared.answer.PositionPcgResult.{PositionPcgResult}
+use Rattle.pcg.specs.Work.{WorkMemory, After}
+use Rattle.pcg.specs.Solved.{Solved}
+use Rattle.pcg.proofs.Entry.{entry-means, entry-refused}
+use Rattle.check_answer.proofs.Meaning.{both}
+use Rattle.kapitsa_c.specs.Solving.{Told, toldOf, toldFits, SolveTold}
 
 abbrev outcome : PositionPcg → Lent → Outcome
 outcome r l = record { answer = r; lent = l }
 
--- of any method whose outcome this is
-pub told-so : (m : Method Iterate Carried Delivered) (limit n : ℕ) (before after : Lent) (counts : List ℕ) (maxima : List Float) (told : Told) (a : PositionPcg)
-    → outcomeOf n before (solve m limit) ≡ outcome a after → told ≡ toldOf a counts maxima → SolveTold m limit n before after counts maxima told
-told-so m limit n before after counts maxima told a e h =
-    record {
-      answered = h ∙ ap (λ (o : Outcome). toldOf (o .answer) counts maxima) (sym e);
-      delivered = sym (ap (λ (o : Outcome). o .lent) e);
-      means = rw e (entry-means m limit n before after a e);
-    }
+module _ (t : Table) (mode : Mode) (limit n : ℕ) (before : Lent) (counts : List ℕ) (maxima : List Float) (work : WorkMemory) where
+  told-so : (fits : Bool) (after : Lent) (told : Told) (a : PositionPcg) (workAfter : WorkMemory) → outcomeOf n before (solve (positionMethod fits t mode) limit) ≡ outcome a after → told ≡ toldOf a counts maxima → After fits work workAfter → SolveTold fits t mode limit n before after counts maxima told work workAfter
+  told-so fits after told a workAfter e h w =
+      record {
+        answered = h ∙ ap (λ (o : Outcome). toldOf (o .answer) counts maxima) (sym e);
+        delivered = sym (ap (λ (o : Outcome). o .lent) e);
+        means = rw e (entry-means (positionMethod fits t mode) limit n before after a e);
+        memory = w;
+      }
 
--- ---- the slices that take the answer
-module _ (t : Table) (mode : Mode) (n limit : ℕ) (before : Lent) (b told p : Bool) (e : b ≡ told) where
-  unfit : not b ≡ true → (told && p) ≡ false
-  unfit h = ap (λ (x : Bool). x && p) (sym e ∙ not-true b h)
+  -- ---- the slices that take the answer
+  module _ (b told p : Bool) (e : b ≡ told) where
+    unfit : not b ≡ true → (told && p) ≡ false
+    unfit h = ap (λ (x : Bool). x && p) (sym e ∙ not-true b h)
 
-  fit : not b ≡ false → (told && p) ≡ p
-  fit h = ap (λ (x : Bool). x && p) (sym e ∙ not-false b h)
+    fit : not b ≡ false → p ≡ (told && p)
+    fit h = sym (ap (λ (x : Bool). x && p) (sym e ∙ not-false b h))
 
-  pub untold : (counts : List ℕ) (maxima : List Float) → not b ≡ true → SolveTold (positionMethod (told && p) t mode) limit n before before counts maxima (record { number = 3; counts = counts; maxima = maxima })
+    untouched : not b ≡ true → After (told && p) work work
+    untouched h = record { emptied = λ q. absurd (let z : true ≡ false = sym q ∙ unfit h in let y : _≡_ {A = ℕ} 0 1 = cc in omega arith); untouched = λ _. refl }
+
+    pub untold : not b ≡ true → SolveTold (told && p) t mode limit n before before counts maxima (record { number = 3; counts = counts; maxima = maxima }) work work
+    unfolding toldOf
+    untold h = told-so (told && p) before (record { number = 3; counts = counts; maxima = maxima }) (answers.Refused 3) work (entry-refused t mode n limit before false (told && p) (sym (unfit h)) refl) refl (untouched h)
+
+    pub told-on : (after : Lent) (r : Told) (a : PositionPcg) (workAfter : WorkMemory) → not b ≡ false → Solved p t mode limit n before after a work workAfter → r ≡ toldOf a counts maxima → SolveTold (told && p) t mode limit n before after counts maxima r work workAfter
+    told-on after r a workAfter h s w = rw (← fit h) (told-so p after r a workAfter (s .answered) w (s .memory))
+
+-- where the two slices fit, each has two places
+pub told-lengths : (counts : List ℕ) (maxima : List Float) (b : Bool) → b ≡ toldFits counts maxima → not b ≡ false → (length counts ≡ 2) × (length maxima ≡ 2)
+unfolding toldFits
+told-lengths counts maxima b e h =
+    let (c, m) = both (eqb (length counts) 2) (eqb (length maxima) 2) (sym e ∙ not-false b h) in
+    (eqb-true (length counts) 2 c, eqb-true (length maxima) 2 m)
+
+-- ---- `tell`
+both-set : {X : Type 0} (xs : List X) (a b : X) → length xs ≡ 2 → set (set xs 0 a) 1 b ≡ a ∷ b ∷ []
+both-set [] a b e = absurd (omega arith)
+both-set (x ∷ []) a b e = absurd (omega arith)
+both-set (x ∷ y ∷ []) a b e = refl
+both-set (x ∷ y ∷ z ∷ zs) a b e = absurd (omega arith)
+
+flag-byte : (b : Bool) → boolByte b ≡ cond b 1 0
+flag-byte true = refl
+flag-byte false = refl
+
+module _ (a : PositionPcg) (counts : List ℕ) (maxima : List Float) where
+  pub told-accepted : (r : PositionPcgResult) → a ≡ answers.Accepted r → (length counts ≡ 2) × (length maxima ≡ 2)
+      → record { number = 0; counts = set (set counts 0 (r .iterations)) 1 (boolByte (r .converged)); maxima = set (set maxima 0 (r .«linear_residual_m»)) 1 (r .«angular_residual_rad») } ≡ toldOf a counts maxima
   unfolding toldOf
-  untold counts maxima h = told-so _ _ _ _ _ _ _ _ (answers.Refused 3) (entry-refused t mode n limit before false (told && p) (sym (unfit h)) refl) refl
+  told-accepted r e (hc, hm) = rw (e, flag-byte (r .converged), both-set counts (r .iterations) (cond (r .converged) 1 0) hc, both-set maxima (r .«linear_residual_m») (r .«angular_residual_rad») hm)
 
-  pub told-on : (after : Lent) (counts : List ℕ) (maxima : List Float) (r : Told) (a : PositionPcg) → not b ≡ false → outcomeOf n before (solve (positionMethod p t mode) limit) ≡ outcome a after → r ≡ toldOf a counts maxima → SolveTold (positionMethod (told && p) t mode) limit n before after counts maxima r
-  told-on after counts maxima r a h o w = told-so _ _ _ _ _ _ _ _ a (ap (λ (x : Bool). outcomeOf n before (solve (positionMethod x t mode) limit)) (fit h) ∙ o) w
-
-  pub after-untold : (m : WorkMemory) → not b ≡ true → After (told && p) m m
-  after-untold m h = record { emptied = λ q. absurd (let z : true ≡ false = sym q ∙ unfit h in let y : _≡_ {A = ℕ} 0 1 = cc in omega arith); untouched = λ _. refl }
-
-  pub after-told : (m m′ : WorkMemory) → not b ≡ false → After p m m′ → After (told && p) m m′
-  after-told m m′ h a = rw (fit h) a
+  pub told-refused : (number : ℕ) → a ≡ answers.Refused number → record { number = number; counts = counts; maxima = maxima } ≡ toldOf a counts maxima
+  unfolding toldOf
+  told-refused number e = rw e

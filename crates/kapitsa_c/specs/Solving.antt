@@ -6,13 +6,14 @@ use mathlib.Core.List.{List, [], _∷_}
 use lib.Dec.{eqb}
 use lib.ListN.{length}
 use lib.Ieee.{Float}
-use Rattle.recurrence.specs.Step.{Iterate, Carried}
-use Rattle.steps.specs.Method.{Method}
+use Rattle.kapitsa_joint.specs.Table.{Table}
+use Rattle.preconditioner.specs.declared.mode.Mode.{Mode}
 use Rattle.steps.specs.Solve.{solve}
-use Rattle.position_iteration.specs.Method.{Delivered}
+use Rattle.position_iteration.specs.Method.{positionMethod}
 use Rattle.position_delivery.specs.Outcome.{Lent, outcomeOf, SolveMeaning}
 use Rattle.position_delivery.specs.declared.answer.PositionPcg.{PositionPcg}
 use Rattle.position_delivery.specs.declared.answer.PositionPcg.the-variants as answers
+use Rattle.pcg.specs.Work.{WorkMemory, After}
 
 pub record Told : Type 0 where
   pub number : ℕ
@@ -27,8 +28,9 @@ toldOf (answers.Refused number) counts maxima = record { number = number; counts
 unfoldable pub toldFits : List ℕ → List Float → Bool
 toldFits counts maxima = eqb (length counts) 2 && eqb (length maxima) 2
 
--- The answer is the definition's, what is lent is as the definition leaves it, and the answer means what demand 3 says.
-pub record SolveTold (m : Method Iterate Carried Delivered) (limit n : ℕ) (before after : Lent) (counts : List ℕ) (maxima : List Float) (told : Told) : Type 0 where
-  pub answered : told ≡ toldOf (outcomeOf n before (solve m limit) .answer) counts maxima
-  pub delivered : after ≡ outcomeOf n before (solve m limit) .lent
-  pub means : SolveMeaning m limit n before (outcomeOf n before (solve m limit) .answer) after
+-- The answer is the definition's, what is lent is as the definition leaves it, the answer means what demand 3 says, and the work memory is cleared. `fits` is whether refusal 3 passes.
+pub record SolveTold (fits : Bool) (t : Table) (mode : Mode) (limit n : ℕ) (before after : Lent) (counts : List ℕ) (maxima : List Float) (told : Told) (work workAfter : WorkMemory) : Type 0 where
+  pub answered : told ≡ toldOf (outcomeOf n before (solve (positionMethod fits t mode) limit) .answer) counts maxima
+  pub delivered : after ≡ outcomeOf n before (solve (positionMethod fits t mode) limit) .lent
+  pub means : SolveMeaning (positionMethod fits t mode) limit n before (outcomeOf n before (solve (positionMethod fits t mode) limit) .answer) after
+  pub memory : After fits work workAfter

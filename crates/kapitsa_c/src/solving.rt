@@ -4,9 +4,7 @@ ghost use mathlib.Core.Bool.{_&&_};
 ghost use lib.ListN.{length};
 ghost use Rattle.kapitsa_joint.specs.Table.{tableOf};
 ghost use Rattle.preconditioner.specs.Mode.{modeOf};
-ghost use Rattle.position_iteration.specs.Method.{positionMethod};
 ghost use Rattle.pcg.specs.Lengths.{passes3, tableLengths, vectorLengths, factorLengths};
-ghost use Rattle.pcg.specs.Work.{After};
 ghost use Rattle.kapitsa_c.specs.Closing.{tolerances};
 ghost use Rattle.kapitsa_c.specs.Solving.{toldOf, toldFits, SolveTold};
 use kapitsa_joint::JointTolerance;
@@ -77,14 +75,12 @@ pub extern "C" fn kapitsa_solve_position(
     homes: &mut [u32],
     blocks: &mut [f64],
 ) -> u32
-    ensures { λ r. ⌜ SolveTold (positionMethod (toldFits (now (counts .entry)) (now (maxima .entry)) && passes3 rows bodies mode (tableLengths (now (numbers .entry)) (now (words .entry)) (now (masses .entry)) (now (solution .entry)) (now (impulses .entry)))
-        (vectorLengths (now (jacobians .entry)) (now (links .entry)) (now (owners .entry)) (now (diagonal .entry)) (now (residual .entry)) (now (pending .entry)) (now (preconditioned .entry)) (now (direction .entry)) (now (product .entry)) (now («body_impulses» .entry)) (now («body_responses» .entry)))
-        (factorLengths (now (starts .entry)) (now (columns .entry)) (now (values .entry)) (now (pivots .entry)) (now (marks .entry)) (now (heads .entry)) (now (nexts .entry)) (now (homes .entry)) (now (blocks .entry)))) (tableOf rows bodies (now (numbers .entry)) (now (words .entry)) (now (masses .entry)) (tolerances «linear_tolerance» «angular_tolerance»)) (modeOf mode)) limit rows
-        record { numbers = now (numbers .entry); solution = now (solution .entry); impulses = now (impulses .entry) } record { numbers = now (numbers .exit); solution = now (solution .exit); impulses = now (impulses .exit) }
-        (now (counts .entry)) (now (maxima .entry)) record { number = r; counts = now (counts .exit); maxima = now (maxima .exit) } ⌝ }
-    ensures { λ _. ⌜ After (toldFits (now (counts .entry)) (now (maxima .entry)) && passes3 rows bodies mode (tableLengths (now (numbers .entry)) (now (words .entry)) (now (masses .entry)) (now (solution .entry)) (now (impulses .entry)))
+    ensures { λ r. ⌜ SolveTold (toldFits (now (counts .entry)) (now (maxima .entry)) && passes3 rows bodies mode (tableLengths (now (numbers .entry)) (now (words .entry)) (now (masses .entry)) (now (solution .entry)) (now (impulses .entry)))
         (vectorLengths (now (jacobians .entry)) (now (links .entry)) (now (owners .entry)) (now (diagonal .entry)) (now (residual .entry)) (now (pending .entry)) (now (preconditioned .entry)) (now (direction .entry)) (now (product .entry)) (now («body_impulses» .entry)) (now («body_responses» .entry)))
         (factorLengths (now (starts .entry)) (now (columns .entry)) (now (values .entry)) (now (pivots .entry)) (now (marks .entry)) (now (heads .entry)) (now (nexts .entry)) (now (homes .entry)) (now (blocks .entry))))
+        (tableOf rows bodies (now (numbers .entry)) (now (words .entry)) (now (masses .entry)) (tolerances «linear_tolerance» «angular_tolerance»)) (modeOf mode) limit rows
+        record { numbers = now (numbers .entry); solution = now (solution .entry); impulses = now (impulses .entry) } record { numbers = now (numbers .exit); solution = now (solution .exit); impulses = now (impulses .exit) }
+        (now (counts .entry)) (now (maxima .entry)) record { number = r; counts = now (counts .exit); maxima = now (maxima .exit) }
         record { steps = record { owners = now (owners .entry); diagonal = now (diagonal .entry); preconditioned = now (preconditioned .entry); direction = now (direction .entry); product = now (product .entry); bodyResponses = now («body_responses» .entry); starts = now (starts .entry); columns = now (columns .entry); values = now (values .entry); pivots = now (pivots .entry); marks = now (marks .entry); heads = now (heads .entry); nexts = now (nexts .entry); homes = now (homes .entry); blocks = now (blocks .entry) }; table = record { jacobians = now (jacobians .entry); links = now (links .entry); residual = now (residual .entry); pending = now (pending .entry); bodyImpulses = now («body_impulses» .entry) } }
         record { steps = record { owners = now (owners .exit); diagonal = now (diagonal .exit); preconditioned = now (preconditioned .exit); direction = now (direction .exit); product = now (product .exit); bodyResponses = now («body_responses» .exit); starts = now (starts .exit); columns = now (columns .exit); values = now (values .exit); pivots = now (pivots .exit); marks = now (marks .exit); heads = now (heads .exit); nexts = now (nexts .exit); homes = now (homes .exit); blocks = now (blocks .exit) }; table = record { jacobians = now (jacobians .exit); links = now (links .exit); residual = now (residual .exit); pending = now (pending .exit); bodyImpulses = now («body_impulses» .exit) } } ⌝ }
 {

@@ -1,0 +1,30 @@
+//! Document 01's P1: two bodies, one row; solved, then checked.
+
+mod kapitsa;
+
+use kapitsa::{Mode, Tables, Tolerance, Verdict, Work, closing_check, solve_position};
+
+fn main() {
+    let mut numbers = [0.0; 27];
+    numbers[0] = 1.0; // linear_a
+    numbers[9] = -1.0; // linear_b
+    numbers[15] = -0.25; // error
+    numbers[20] = f64::NEG_INFINITY; // min_multiplier
+    numbers[21] = f64::INFINITY; // max_multiplier
+    let words = [0, 0, 0, 1, 0, 1, 0, 0];
+    let mut masses = [0.0; 20];
+    masses[0] = 0.5;
+    masses[10] = 0.5;
+    let tolerance = Tolerance { linear_m: 0.001, angular_rad: 0.001 };
+    let (mut solution, mut impulses) = ([0.0; 1], [0.0; 12]);
+    let mut work = Work::default();
+    let mut tables = Tables { numbers: &mut numbers, words: &words, masses: &masses };
+    let answer = solve_position(
+        &mut tables, tolerance, 4, Mode::Diagonal, &mut solution, &mut impulses, &mut work,
+    )
+    .expect("P1 is accepted");
+    let verdict = closing_check(&tables, tolerance, &solution, &mut work).expect("and checked");
+    println!("count {}, flag {}", answer.iterations, u32::from(answer.converged));
+    println!("multiplier {}, {verdict:?}", tables.numbers[24]);
+    assert_eq!((answer.iterations, answer.converged, verdict), (1, true, Verdict::Closed));
+}
