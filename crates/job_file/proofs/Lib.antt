@@ -1,0 +1,5 @@
+-- The ways through the tests that are judged in order and through the reading of a job.
+pub mod Counted
+pub mod Judgement
+pub mod Reading
+pub mod Meaning
