@@ -5,7 +5,6 @@ use mathlib.Core.Bool.{Bool, true, false, _&&_}
 use mathlib.Core.List.{List, [], _∷_}
 use mathlib.Core.Logic.{_↔_}
 use native.Mathlib.Omega.{arith}
-use lib.ListN.{length}
 use lib.Ieee.{Float}
 use Rattle.loops.specs.Run.{Run, going, ended, on, check}
 use Rattle.loops.specs.Judge.{judge, test, Fails, Rising}
@@ -13,10 +12,8 @@ use Rattle.loops.proofs.Loop.{on-going, on-ended}
 use Rattle.loops.proofs.Inverse.{apart, ended-inj}
 use Rattle.loops.proofs.Judge.{judge-least}
 use Rattle.job_file.specs.File.{trailerOf}
-use Rattle.job_file.specs.Refusals.{passes1, passes2, passes3, passes4, lengthsFit}
 use Rattle.job_file.specs.Job.{Job, jobWith, fileNumbers, fileWords, fileMasses, tests, jobOf, answerOf, judgedOf, readOf, lentAfter, Reads}
 use Rattle.job_file.specs.declared.trailer.Trailer.{Trailer}
-use Rattle.job_file.specs.declared.judge.FileJudged.{FileJudged}
 use Rattle.job_file.specs.declared.judge.FileJudged.the-variants.{Passed, Refused}
 
 -- ---- the answer and the judgement

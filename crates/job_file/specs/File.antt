@@ -1,5 +1,5 @@
 -- What stands in the bytes of a job file, at the places of Layout. A double has its 64 bits and, from them, its value.
-use Prim.Native.Nat.{ℕ, _+_, _*_, _/_, _%_}
+use Prim.Native.Nat.{ℕ, _*_, _/_, _%_}
 use mathlib.Core.List.{List}
 use lib.Ieee.{Float}
 use Rattle.loops.specs.Tabulate.{tabulate}

@@ -5,6 +5,7 @@ use crate::fit::counts_fit;
 use crate::fit::keys_fit;
 use crate::fit::sections_fit;
 use crate::fit::size_fits;
+use crate::layout::TRAILER_BYTES;
 use crate::trailer::Trailer;
 use crate::trailer::read_trailer;
 
@@ -18,14 +19,14 @@ pub fn judge_trailer(file: &[u8]) -> FileJudged
     ensures { λ r. ⌜ r ≡ openedOf (now (file .entry)) ⌝ }
 {
     let length = file.len();
-    if length < 48 {
+    if length < TRAILER_BYTES {
         return FileJudged::Refused(1);
     }
     let trailer = read_trailer(file);
     if !size_fits(trailer, length) {
         return FileJudged::Refused(1);
     }
-    if !sections_fit(trailer, length - 48) {
+    if !sections_fit(trailer, length - TRAILER_BYTES) {
         return FileJudged::Refused(2);
     }
     if !counts_fit(trailer) {

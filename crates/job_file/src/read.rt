@@ -1,5 +1,4 @@
 // The whole job into lent memory.
-ghost use mathlib.Core.Path.{_≡_};
 ghost use Rattle.job_file.specs.Job.{Reads};
 use crate::fit::keys_fit;
 use crate::fit::lengths_fit;

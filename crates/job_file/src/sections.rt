@@ -3,7 +3,11 @@
 ghost use mathlib.Core.Path.{_≡_};
 ghost use Prim.Native.Nat.{_+_, _*_, _≤_};
 ghost use lib.ListN.{length};
+ghost use Rattle.job_file.specs.Layout.{numberPlace, wordPlace, massPlace, rowsEnd, massesEnd};
 ghost use Rattle.job_file.specs.File.{rowBits, rowNumber, rowWord, rowWords, massBits, massNumber, numbersOf, wordsOf, massesOf};
+use crate::layout::MASS_BYTES;
+use crate::layout::ROW_BYTES;
+use crate::layout::ROW_DOUBLES;
 use kapitsa_joint::RowWords;
 use little_endian::double;
 use little_endian::half;
@@ -11,31 +15,31 @@ use little_endian::word;
 
 // Number j of 27 of row i, where the row section begins at `offset`: its bits,
 pub fn row_bits(file: &[u8], offset: usize, i: usize, j: usize) -> u64
-    requires { ⌜ offset + 248 * i + 8 * j + 8 ≤ length (now file) ⌝ }
+    requires { ⌜ numberPlace offset i j + 8 ≤ length (now file) ⌝ }
     ensures { λ r. ⌜ r ≡ rowBits (now (file .entry)) offset i j ⌝ }
 {
-    word(file, offset + 248 * i + 8 * j)
+    word(file, offset + ROW_BYTES * i + 8 * j)
 }
 
 // and the double that has them.
 pub fn row_number(file: &[u8], offset: usize, i: usize, j: usize) -> f64
-    requires { ⌜ offset + 248 * i + 8 * j + 8 ≤ length (now file) ⌝ }
+    requires { ⌜ numberPlace offset i j + 8 ≤ length (now file) ⌝ }
     ensures { λ r. ⌜ r ≡ rowNumber (now (file .entry)) offset i j ⌝ }
 {
-    double(file, offset + 248 * i + 8 * j)
+    double(file, offset + ROW_BYTES * i + 8 * j)
 }
 
 // Word j of 8 of row i.
 pub fn row_word(file: &[u8], offset: usize, i: usize, j: usize) -> u32
-    requires { ⌜ offset + 248 * i + 216 + 4 * j + 4 ≤ length (now file) ⌝ }
+    requires { ⌜ wordPlace offset i j + 4 ≤ length (now file) ⌝ }
     ensures { λ r. ⌜ r ≡ rowWord (now (file .entry)) offset i j ⌝ }
 {
-    half(file, offset + 248 * i + 216 + 4 * j)
+    half(file, offset + ROW_BYTES * i + ROW_DOUBLES + 4 * j)
 }
 
 // The words of row i.
 pub fn row_words(file: &[u8], offset: usize, i: usize) -> RowWords
-    requires { ⌜ offset + 248 * i + 248 ≤ length (now file) ⌝ }
+    requires { ⌜ rowsEnd offset (i + 1) ≤ length (now file) ⌝ }
     ensures { λ r. ⌜ r ≡ rowWords (now (file .entry)) offset i ⌝ }
 {
     RowWords {
@@ -52,22 +56,22 @@ pub fn row_words(file: &[u8], offset: usize, i: usize) -> RowWords
 
 // Number j of 10 of body b, where the mass section begins at `offset`.
 pub fn mass_bits(file: &[u8], offset: usize, b: usize, j: usize) -> u64
-    requires { ⌜ offset + 80 * b + 8 * j + 8 ≤ length (now file) ⌝ }
+    requires { ⌜ massPlace offset b j + 8 ≤ length (now file) ⌝ }
     ensures { λ r. ⌜ r ≡ massBits (now (file .entry)) offset b j ⌝ }
 {
-    word(file, offset + 80 * b + 8 * j)
+    word(file, offset + MASS_BYTES * b + 8 * j)
 }
 
 pub fn mass_number(file: &[u8], offset: usize, b: usize, j: usize) -> f64
-    requires { ⌜ offset + 80 * b + 8 * j + 8 ≤ length (now file) ⌝ }
+    requires { ⌜ massPlace offset b j + 8 ≤ length (now file) ⌝ }
     ensures { λ r. ⌜ r ≡ massNumber (now (file .entry)) offset b j ⌝ }
 {
-    double(file, offset + 80 * b + 8 * j)
+    double(file, offset + MASS_BYTES * b + 8 * j)
 }
 
 // The 27 numbers of each row.
 pub fn read_numbers(file: &[u8], offset: usize, rows: usize, numbers: &mut [f64])
-    requires { ⌜ (offset + 248 * rows ≤ length (now file)) × (length (now numbers) ≡ 27 * rows) ⌝ }
+    requires { ⌜ (rowsEnd offset rows ≤ length (now file)) × (length (now numbers) ≡ 27 * rows) ⌝ }
     ensures { λ _. ⌜ now (numbers .exit) ≡ numbersOf (now (file .entry)) offset rows ⌝ }
 {
     let mut k = 0;
@@ -79,7 +83,7 @@ pub fn read_numbers(file: &[u8], offset: usize, rows: usize, numbers: &mut [f64]
 
 // The 8 words of each row.
 pub fn read_words(file: &[u8], offset: usize, rows: usize, words: &mut [u32])
-    requires { ⌜ (offset + 248 * rows ≤ length (now file)) × (length (now words) ≡ 8 * rows) ⌝ }
+    requires { ⌜ (rowsEnd offset rows ≤ length (now file)) × (length (now words) ≡ 8 * rows) ⌝ }
     ensures { λ _. ⌜ now (words .exit) ≡ wordsOf (now (file .entry)) offset rows ⌝ }
 {
     let mut k = 0;
@@ -91,7 +95,7 @@ pub fn read_words(file: &[u8], offset: usize, rows: usize, words: &mut [u32])
 
 // The 10 numbers of each body.
 pub fn read_masses(file: &[u8], offset: usize, bodies: usize, masses: &mut [f64])
-    requires { ⌜ (offset + 80 * bodies ≤ length (now file)) × (length (now masses) ≡ 10 * bodies) ⌝ }
+    requires { ⌜ (massesEnd offset bodies ≤ length (now file)) × (length (now masses) ≡ 10 * bodies) ⌝ }
     ensures { λ _. ⌜ now (masses .exit) ≡ massesOf (now (file .entry)) offset bodies ⌝ }
 {
     let mut k = 0;

@@ -3,6 +3,7 @@ ghost use mathlib.Core.Path.{_≡_};
 ghost use Prim.Native.Nat.{_≤_};
 ghost use lib.ListN.{length};
 ghost use Rattle.job_file.specs.File.{trailerOf};
+use crate::layout::TRAILER_BYTES;
 use kapitsa_joint::JointTolerance;
 use little_endian::double;
 use little_endian::half;
@@ -23,7 +24,7 @@ pub fn read_trailer(file: &[u8]) -> Trailer
     requires { ⌜ 48 ≤ length (now file) ⌝ }
     ensures { λ r. ⌜ r ≡ trailerOf (now (file .entry)) ⌝ }
 {
-    let at = file.len() - 48;
+    let at = file.len() - TRAILER_BYTES;
     Trailer {
         rows: half(file, at),
         bodies: half(file, at + 4),

@@ -1,12 +1,11 @@
 -- A number's decimal digits are those of its tenth and the last one: `decimal-small`, `decimal-more`, and what they come to at the calls of `put_decimal`. Assumes nothing.
-use Prim.Native.Nat.{ℕ, zero, suc, _+_, _*_, _/_, _%_, _^_, _<_, _≤_}
+use Prim.Native.Nat.{ℕ, zero, suc, _+_, _/_, _%_, _<_, _≤_}
 use mathlib.Core.Path.{_≡_, refl, sym, ap, _∙_}
 use mathlib.Core.Bool.{Bool, true, false, cond}
 use mathlib.Core.List.{List, [], _∷_, _++_}
 use native.Mathlib.Omega.{arith}
 use lib.Dec.{ltb}
-use lib.ListN.{length, length-append}
-use borrow.Author.Tests.{lt-ltb, le-ltb, ltb-true, ltb-false}
+use borrow.Author.Tests.{lt-ltb, le-ltb, ltb-false}
 use Rattle.listing.specs.Written.{Room, Wrote}
 use Rattle.listing.specs.Digits.{decimalDigit, decimalBy, decimal}
 use Rattle.listing.proofs.Joined.{room-first, room-rest, wrote-join}

@@ -30,6 +30,10 @@ module _ {out : List ℕ} {at : ℕ} {text out′ : List ℕ} {end : ℕ} (w : W
       let h = w .within in
       ap length (w .bytes) ∙ length-append (take at out ++ text) (drop (at + length text) out) ∙ omega (arith, head-long, w .after, length-drop (at + length text) out)
 
+-- what stands before the end, where the text was written at the front: the text
+pub wrote-front : {out text out′ : List ℕ} {end : ℕ} → Wrote out 0 text out′ end → take end out′ ≡ text
+wrote-front w = take-wrote w
+
 module _ (out : List ℕ) (at : ℕ) where
   pub wrote-none : at ≤ length out → Wrote out at [] out at
   unfolding placed

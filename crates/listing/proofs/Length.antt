@@ -1,14 +1,14 @@
 -- How long a listing is: `listing-short`, at most 16,384 bytes at 128 rows and 64 bodies, and `refused-short`. Assumes nothing.
 use Prim.Native.Nat.{ℕ, zero, suc, _+_, _-_, _*_, _/_, _%_, _^_, _<_, _≤_}
-use mathlib.Core.Path.{_≡_, refl, sym, ap, _∙_}
-use mathlib.Core.Bool.{Bool, true, false, cond}
+use mathlib.Core.Path.{_≡_, refl}
+use mathlib.Core.Bool.{Bool, true, false}
 use mathlib.Core.List.{List, [], _∷_, _++_}
 use native.Mathlib.Nat.{pow-succ'}
 use native.Mathlib.Omega.{arith}
 use lib.Dec.{ltb}
-use lib.ListN.{length, getD, length-append}
-use lib.Ieee.{Float, nan, binary64, toBits}
-use borrow.Author.Tests.{lt-ltb, le-ltb, ltb-true, ltb-false}
+use lib.ListN.{length, length-append}
+use lib.Ieee.{Float}
+use borrow.Author.Tests.{ltb-true, ltb-false}
 use Rattle.listing.specs.Written.{pieces}
 use Rattle.listing.specs.Digits.{decimalDigit, decimal, hexadecimal, number, double}
 use Rattle.listing.specs.Lines.{newline, solveName, gapName, closeName, rowName, bodyName, solveLine, gapLine, closeLine, rowLine, bodyLine}

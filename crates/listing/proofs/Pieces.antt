@@ -1,4 +1,4 @@
--- A loop that writes a text a turn: its invariant `Writing`, and the ruleset `writes` that closes its needs. Assumes nothing.
+-- A loop that writes a text a turn: its invariant `Writing`, and what that comes to at each of its needs. Assumes nothing.
 use Prim.Native.Nat.{ℕ, zero, suc, _+_, _<_, _≤_}
 use mathlib.Core.Path.{_≡_, refl, sym, ap, _∙_}
 use mathlib.Core.List.{List, [], _∷_, _++_}
@@ -7,7 +7,6 @@ use native.Mathlib.Numerals.{add-one}
 use native.Mathlib.Decide.{le-ind}
 use lib.ListN.{length, getD, take, length-append}
 use lib.Seq.{take-suc, take-length}
-use Rattle.loops.proofs.Loop.{loops}
 use Rattle.listing.specs.Written.{Room, Wrote, pieces}
 use Rattle.listing.proofs.Joined.{length-wrote, wrote-none, room-rest, wrote-join}
 
@@ -41,9 +40,6 @@ module _ {out : List ℕ} {at : ℕ} {g : ℕ → List ℕ} {n : ℕ} where
 
     pub writing-end : n ≤ i → Wrote out at (pieces g n) out₁ mid
     writing-end l = let e : i ≡ n = omega arith in rw e at (w .wrote)
-
--- what `search` is handed at each need of such a loop
-pub ruleset writes = (writing-none, writing-room, writing-more, writing-end, writing-length, loops)
 
 -- ---- a text byte by byte
 abbrev pub byteOf : List ℕ → ℕ → List ℕ

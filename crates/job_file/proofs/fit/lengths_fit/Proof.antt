@@ -5,16 +5,14 @@ use Rattle.job_file.specs.Refusals.{lengthsFit}
 use Rattle.job_file.proofs.fit.lengths_fit.Statement.{statement}
 use Rattle.job_file.proofs.fit.lengths_fit.Tie as tie
 
-ruleset known = (loops)
-
 pub lengths-fit-spec : {M : Type 1} → statement M
 unfolding lengthsFit
 lengths-fit-spec =
     tie.close
     (tie.spec
-    (λ c. search known)  -- cast-rows
-    (λ c. search known)  -- cast-bodies
-    (λ c. search known)  -- mul-result
-    (λ c. search known)  -- mul-result-2
-    (λ c. search known)  -- mul-result-3
+    (λ c. search loops)  -- cast-rows
+    (λ c. search loops)  -- cast-bodies
+    (λ c. search loops)  -- mul-result
+    (λ c. search loops)  -- mul-result-2
+    (λ c. search loops)  -- mul-result-3
     (λ c. refl))  -- returns

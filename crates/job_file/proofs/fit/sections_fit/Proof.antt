@@ -5,19 +5,17 @@ use Rattle.job_file.specs.Refusals.{sectionsFit, limitsFit, apart, endsF
 use Rattle.job_file.proofs.fit.sections_fit.Statement.{statement}
 use Rattle.job_file.proofs.fit.sections_fit.Tie as tie
 
-ruleset known = (loops)
-
 pub sections-fit-spec : {M : Type 1} → statement M
 unfolding sectionsFit limitsFit apart endsFit
 sections-fit-spec =
     tie.close
     (tie.spec
-    (λ c. search known)  -- cast-rows
-    (λ c. search known)  -- cast-rows-end
-    (λ c. search known)  -- mul-rows-end
-    (λ c. search known)  -- add-rows-end
-    (λ c. search known)  -- cast-masses
-    (λ c. search known)  -- cast-masses-end
-    (λ c. search known)  -- mul-masses-end
-    (λ c. search known)  -- add-masses-end
+    (λ c. search loops)  -- cast-rows
+    (λ c. search loops)  -- cast-rows-end
+    (λ c. search loops)  -- mul-rows-end
+    (λ c. search loops)  -- add-rows-end
+    (λ c. search loops)  -- cast-masses
+    (λ c. search loops)  -- cast-masses-end
+    (λ c. search loops)  -- mul-masses-end
+    (λ c. search loops)  -- add-masses-end
     (λ c. refl))  -- returns

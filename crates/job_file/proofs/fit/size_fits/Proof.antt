@@ -5,12 +5,10 @@ use Rattle.job_file.specs.Refusals.{sizeFits}
 use Rattle.job_file.proofs.fit.size_fits.Statement.{statement}
 use Rattle.job_file.proofs.fit.size_fits.Tie as tie
 
-ruleset known = (loops)
-
 pub size-fits-spec : {M : Type 1} → statement M
 unfolding sizeFits
 size-fits-spec =
     tie.close
     (tie.spec
-    (λ c. search known)  -- cast-result
+    (λ c. search loops)  -- cast-result
     (λ c. refl))  -- returns

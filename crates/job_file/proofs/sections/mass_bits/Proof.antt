@@ -4,16 +4,14 @@ use Rattle.job_file.specs.File.{massBits}
 use Rattle.job_file.proofs.sections.mass_bits.Statement.{statement}
 use Rattle.job_file.proofs.sections.mass_bits.Tie as tie
 
-ruleset known = (loops)
-
 pub mass-bits-spec : {M : Type 1} → statement M
 unfolding massBits
 mass-bits-spec =
     tie.close
     (tie.spec
-    (λ c. search known)  -- mul-word
-    (λ c. search known)  -- add-word
-    (λ c. search known)  -- mul-word-2
-    (λ c. search known)  -- add-word-2
-    (λ c κs. search known)  -- word-requires
+    (λ c. search loops)  -- mul-word
+    (λ c. search loops)  -- add-word
+    (λ c. search loops)  -- mul-word-2
+    (λ c. search loops)  -- add-word-2
+    (λ c κs. search loops)  -- word-requires
     (λ c. rw (c .word .ensures)))  -- returns

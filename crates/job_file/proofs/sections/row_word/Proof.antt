@@ -4,17 +4,15 @@ use Rattle.job_file.specs.File.{rowWord}
 use Rattle.job_file.proofs.sections.row_word.Statement.{statement}
 use Rattle.job_file.proofs.sections.row_word.Tie as tie
 
-ruleset known = (loops)
-
 pub row-word-spec : {M : Type 1} → statement M
 unfolding rowWord
 row-word-spec =
     tie.close
     (tie.spec
-    (λ c. search known)  -- mul-half
-    (λ c. search known)  -- add-half
-    (λ c. search known)  -- add-half-2
-    (λ c. search known)  -- mul-half-2
-    (λ c. search known)  -- add-half-3
-    (λ c κs. search known)  -- half-requires
+    (λ c. search loops)  -- mul-half
+    (λ c. search loops)  -- add-half
+    (λ c. search loops)  -- add-half-2
+    (λ c. search loops)  -- mul-half-2
+    (λ c. search loops)  -- add-half-3
+    (λ c κs. search loops)  -- half-requires
     (λ c. rw (c .half .ensures)))  -- returns

@@ -5,16 +5,14 @@ use Rattle.listing.specs.Digits.{hexadecimalDigit}
 use Rattle.listing.proofs.digits.hexadecimal_digit.Statement.{statement}
 use Rattle.listing.proofs.digits.hexadecimal_digit.Tie as tie
 
-ruleset known = (loops)
-
 pub hexadecimal-digit-spec : {M : Type 1} → statement M
 unfolding hexadecimalDigit
 hexadecimal-digit-spec =
     tie.close
     (tie.spec
-    (λ c. search known)  -- cast-result
-    (λ c. search known)  -- add-result
+    (λ c. search loops)  -- cast-result
+    (λ c. search loops)  -- add-result
     (λ c. rw (lt-ltb _ 10 (c .if1 .taken)))  -- returns
-    (λ c. search known)  -- cast-result-2
-    (λ c. search known)  -- add-result-2
+    (λ c. search loops)  -- cast-result-2
+    (λ c. search loops)  -- add-result-2
     (λ c. rw (le-ltb _ 10 (c .if1 .left))))  -- returns-2

@@ -3,7 +3,8 @@ use native.Mathlib.Omega.{arith}
 use Prim.Native.Nat.{_-_, _*_, _+_}
 use lib.ListN.{getD}
 use lib.Ieee.{nan}
-use Rattle.listing.proofs.Pieces.{Writing, writing-none, writing-room, writing-more, writing-length, writing-end, writes}
+use Rattle.loops.proofs.Loop.{loops}
+use Rattle.listing.proofs.Pieces.{Writing, writing-none, writing-room, writing-more, writing-length, writing-end}
 use Rattle.listing.specs.Lines.{bodyLine}
 use Rattle.listing.specs.Listing.{bodyLines}
 use Rattle.listing.proofs.lines.body_lines.Statement.{statement}
@@ -22,8 +23,8 @@ body-lines-spec =
     (tie.spec Inv-loop μ-loop
     (λ c. writing-none ((c .before .before) .pre .1))  -- loop-holds
     (λ c κs. (omega arith, writing-room ((c .before .before .loop) .inv) (omega arith)))  -- body-line-requires
-    (λ c. search writes)  -- add-b
-    (λ c. search writes)  -- loop-less
+    (λ c. search loops)  -- add-b
+    (λ c. search loops)  -- loop-less
     (λ c. writing-more ((c .before .before .before .before .before .loop) .inv) (omega arith) ((c .before .before .body-line) .ensures))  -- loop-again
     (λ c. writing-length ((c .before .loop) .inv))  -- same-length
     (λ c. writing-end ((c .before .loop) .inv) (omega arith)))  -- returns

@@ -6,14 +6,12 @@ use Rattle.listing.proofs.Names.{gap-name}
 use Rattle.listing.proofs.lines.gap_line.Statement.{statement}
 use Rattle.listing.proofs.lines.gap_line.Tie as tie
 
-ruleset known = (loops)
-
 pub gap-line-spec : {M : Type 1} → statement M
 unfolding gapLine
 gap-line-spec =
     tie.close
     (tie.spec
-    (λ c. search known)  -- slice-aggregate-put-text
+    (λ c. search loops)  -- slice-aggregate-put-text
     (λ c κs. room-as gap-name (room-first _ (room-first _ (room-first _ ((c .before .before .before) .pre)))))  -- put-text-requires
     (λ c κs. room-rest (room-first _ (room-first _ ((c .before .before .before .before .before .before .before) .pre))) (wrote-as gap-name ((c .before .before .before .put-text) .ensures)))  -- put-double-requires
     (λ c κs. room-rest (room-first _ ((c .before .before .before .before .before .before .before .before .before .before .before) .pre)) (wrote-join (wrote-as gap-name ((c .before .before .before .before .before .before .before .put-text) .ensures)) ((c .before .before .before .put-double) .ensures)))  -- put-double-requires-2

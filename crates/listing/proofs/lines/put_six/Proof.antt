@@ -3,7 +3,8 @@ use native.Mathlib.Omega.{arith}
 use Prim.Native.Nat.{_-_, _+_}
 use lib.ListN.{getD}
 use lib.Ieee.{nan}
-use Rattle.listing.proofs.Pieces.{Writing, writing-none, writing-room, writing-more, writing-length, writing-end, writes}
+use Rattle.loops.proofs.Loop.{loops}
+use Rattle.listing.proofs.Pieces.{Writing, writing-none, writing-room, writing-more, writing-length, writing-end}
 use Rattle.listing.specs.Digits.{double}
 use Rattle.listing.proofs.lines.put_six.Statement.{statement}
 use Rattle.listing.proofs.lines.put_six.Tie as tie
@@ -19,12 +20,12 @@ put-six-spec =
     tie.close
     (tie.spec Inv-loop μ-loop
     (λ c. writing-none ((c .before .before) .pre .1))  -- loop-holds
-    (λ c. search writes)  -- add-put-double
-    (λ c. search writes)  -- mul-put-double
-    (λ c. search writes)  -- shared-slice-read-put-double
+    (λ c. search loops)  -- add-put-double
+    (λ c. search loops)  -- mul-put-double
+    (λ c. search loops)  -- shared-slice-read-put-double
     (λ c κs. writing-room ((c .before .before .before .loop) .inv) (omega arith))  -- put-double-requires
-    (λ c. search writes)  -- add-k
-    (λ c. search writes)  -- loop-less
+    (λ c. search loops)  -- add-k
+    (λ c. search loops)  -- loop-less
     (λ c. writing-more ((c .before .before .before .before .before .before .loop) .inv) (omega arith) ((c .before .before .put-double) .ensures))  -- loop-again
     (λ c. writing-length ((c .before .loop) .inv))  -- same-length
     (λ c. writing-end ((c .before .loop) .inv) (omega arith)))  -- returns

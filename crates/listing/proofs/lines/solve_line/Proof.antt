@@ -6,14 +6,12 @@ use Rattle.listing.proofs.Names.{solve-name}
 use Rattle.listing.proofs.lines.solve_line.Statement.{statement}
 use Rattle.listing.proofs.lines.solve_line.Tie as tie
 
-ruleset known = (loops)
-
 pub solve-line-spec : {M : Type 1} → statement M
 unfolding solveLine
 solve-line-spec =
     tie.close
     (tie.spec
-    (λ c. search known)  -- slice-aggregate-put-text
+    (λ c. search loops)  -- slice-aggregate-put-text
     (λ c κs. room-as solve-name (room-first _ (room-first _ (room-first _ (room-first _ ((c .before .before .before) .pre))))))  -- put-text-requires
     (λ c κs. room-rest (room-first _ (room-first _ (room-first _ ((c .before .before .before .before .before .before .before) .pre)))) (wrote-as solve-name ((c .before .before .before .put-text) .ensures)))  -- put-number-requires
     (λ c κs. room-rest (room-first _ (room-first _ ((c .before .before .before .before .before .before .before .before .before .before .before) .pre))) (wrote-join (wrote-as solve-name ((c .before .before .before .before .before .before .before .put-text) .ensures)) ((c .before .before .before .put-number) .ensures)))  -- put-number-requires-2

@@ -6,14 +6,12 @@ use Rattle.listing.proofs.Names.{flag-line}
 use Rattle.listing.proofs.whole.write_listing.Statement.{statement}
 use Rattle.listing.proofs.whole.write_listing.Tie as tie
 
-ruleset known = (loops)
-
 pub write-listing-spec : {M : Type 1} → statement M
 unfolding listingOf
 write-listing-spec =
     tie.close
     (tie.spec
-    (λ c. search known)  -- cast-solve-line
+    (λ c. search loops)  -- cast-solve-line
     (λ c κs. room-as (flag-line _ ((c .before .before .before .before) .args .flag)) (room-first _ (room-first _ (room-first _ (room-first _ ((c .before .before .before .before) .pre .2))))))  -- solve-line-requires
     (λ c κs. room-rest (room-first _ (room-first _ (room-first _ ((c .before .before .before .before .before .before .before .before) .pre .2)))) (wrote-as (flag-line _ ((c .before .before .before .before .before .before .before .before) .args .flag)) ((c .before .before .before .solve-line) .ensures)))  -- gap-line-requires
     (λ c κs. room-rest (room-first _ (room-first _ ((c .before .before .before .before .before .before .before .before .before .before .before .before) .pre .2))) (wrote-join (wrote-as (flag-line _ ((c .before .before .before .before .before .before .before .before .before .before .before .before) .args .flag)) ((c .before .before .before .before .before .before .before .solve-line) .ensures)) ((c .before .before .before .gap-line) .ensures)))  -- close-line-requires

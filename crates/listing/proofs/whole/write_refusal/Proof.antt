@@ -1,11 +1,8 @@
 -- `listing::whole::write_refusal` meets its contract. Assumes nothing.
-use Rattle.loops.proofs.Loop.{loops}
 use Rattle.listing.specs.Listing.{refusedListing}
 use Rattle.listing.proofs.Joined.{length-wrote}
 use Rattle.listing.proofs.whole.write_refusal.Statement.{statement}
 use Rattle.listing.proofs.whole.write_refusal.Tie as tie
-
-ruleset known = (loops)
 
 pub write-refusal-spec : {M : Type 1} → statement M
 unfolding refusedListing
