@@ -10,7 +10,7 @@ use lib.Ieee.{Float}
 use borrow.Author.Tests.{not-true, not-false, eqb-true}
 use Rattle.loops.specs.Run.{on, check}
 use Rattle.loops.specs.Judge.{judge, test}
-use Rattle.job_file.specs.File.{trailerOf, numbersOf, wordsOf, massesOf}
+use Rattle.job_file.specs.File.{trailerOf, sectionNumbers, sectionWords, sectionMasses}
 use Rattle.job_file.specs.Refusals.{lengthsFit, keysFit}
 use Rattle.job_file.specs.Job.{answerOf, openedOf, readOf, lentAfter, Reads}
 use Rattle.job_file.specs.declared.trailer.Trailer.{Trailer}
@@ -64,12 +64,12 @@ module _ (file : List ℕ) (numbers : List Float) (words : List ℕ) (masses : L
       unfolding readOf answerOf judge test check on
       reads-4 n = kept 4 (rw (passed file o e .one, passed file o e .two, passed file o e .three, ← isFit, not-false q h, ← is4 file o e four, not-true p n))
 
-      pub reads-passed : not p ≡ false → {numbers′ : List Float} → numbers′ ≡ numbersOf file (t .«row_offset») (t .rows) → {words′ : List ℕ} → words′ ≡ wordsOf file (t .«row_offset») (t .rows) → {masses′ : List Float} → masses′ ≡ massesOf file (t .«mass_offset») (t .bodies) → Reads file numbers words masses (Passed t) numbers′ words′ masses′
+      pub reads-passed : not p ≡ false → {numbers′ : List Float} → numbers′ ≡ sectionNumbers file (t .«row_offset») (t .rows) → {words′ : List ℕ} → words′ ≡ sectionWords file (t .«row_offset») (t .rows) → {masses′ : List Float} → masses′ ≡ sectionMasses file (t .«mass_offset») (t .bodies) → Reads file numbers words masses (Passed t) numbers′ words′ masses′
       unfolding readOf answerOf judge test check on lentAfter
       reads-passed n x y z =
           record {
             answer = rw (passed file o e .one, passed file o e .two, passed file o e .three, ← isFit, not-false q h, ← is4 file o e four, not-false p n, passed file o e .same);
-            ofNumbers = x ∙ ap (λ t. numbersOf file (t .«row_offset») (t .rows)) (passed file o e .same);
-            ofWords = y ∙ ap (λ t. wordsOf file (t .«row_offset») (t .rows)) (passed file o e .same);
-            ofMasses = z ∙ ap (λ t. massesOf file (t .«mass_offset») (t .bodies)) (passed file o e .same);
+            ofNumbers = x ∙ ap (λ t. sectionNumbers file (t .«row_offset») (t .rows)) (passed file o e .same);
+            ofWords = y ∙ ap (λ t. sectionWords file (t .«row_offset») (t .rows)) (passed file o e .same);
+            ofMasses = z ∙ ap (λ t. sectionMasses file (t .«mass_offset») (t .bodies)) (passed file o e .same);
           }

@@ -55,11 +55,11 @@ massNumber file offset b j = doubleAt file (massPlace offset b j)
 
 -- ---- the lists of a job: 27 numbers and 8 words a row, 10 numbers a body
 
-unfoldable pub numbersOf : List ℕ → ℕ → ℕ → List Float
-numbersOf file offset rows = tabulate (λ k. rowNumber file offset (k / 27) (k % 27)) (27 * rows)
+unfoldable pub sectionNumbers : List ℕ → ℕ → ℕ → List Float
+sectionNumbers file offset rows = tabulate (λ k. rowNumber file offset (k / 27) (k % 27)) (27 * rows)
 
-unfoldable pub wordsOf : List ℕ → ℕ → ℕ → List ℕ
-wordsOf file offset rows = tabulate (λ k. rowWord file offset (k / 8) (k % 8)) (8 * rows)
+unfoldable pub sectionWords : List ℕ → ℕ → ℕ → List ℕ
+sectionWords file offset rows = tabulate (λ k. rowWord file offset (k / 8) (k % 8)) (8 * rows)
 
-unfoldable pub massesOf : List ℕ → ℕ → ℕ → List Float
-massesOf file offset bodies = tabulate (λ k. massNumber file offset (k / 10) (k % 10)) (10 * bodies)
+unfoldable pub sectionMasses : List ℕ → ℕ → ℕ → List Float
+sectionMasses file offset bodies = tabulate (λ k. massNumber file offset (k / 10) (k % 10)) (10 * bodies)

@@ -8,7 +8,7 @@ use lib.Ieee.{Float}
 use Rattle.loops.specs.Run.{Run, going, on, next}
 use Rattle.loops.specs.Judge.{judge}
 use Rattle.kapitsa_joint.specs.declared.tolerance.JointTolerance.{JointTolerance}
-use Rattle.job_file.specs.File.{trailerOf, numbersOf, wordsOf, massesOf}
+use Rattle.job_file.specs.File.{trailerOf, sectionNumbers, sectionWords, sectionMasses}
 use Rattle.job_file.specs.Refusals.{passes1, passes2, passes3, passes4, lengthsFit}
 use Rattle.job_file.specs.declared.trailer.Trailer.{Trailer}
 use Rattle.job_file.specs.declared.judge.FileJudged.{FileJudged}
@@ -16,13 +16,13 @@ use Rattle.job_file.specs.declared.judge.FileJudged.the-variants.{Passed
 
 -- the lists that the sections decode to
 abbrev pub fileNumbers : List ℕ → List Float
-fileNumbers file = numbersOf file (trailerOf file .«row_offset») (trailerOf file .rows)
+fileNumbers file = sectionNumbers file (trailerOf file .«row_offset») (trailerOf file .rows)
 
 abbrev pub fileWords : List ℕ → List ℕ
-fileWords file = wordsOf file (trailerOf file .«row_offset») (trailerOf file .rows)
+fileWords file = sectionWords file (trailerOf file .«row_offset») (trailerOf file .rows)
 
 abbrev pub fileMasses : List ℕ → List Float
-fileMasses file = massesOf file (trailerOf file .«mass_offset») (trailerOf file .bodies)
+fileMasses file = sectionMasses file (trailerOf file .«mass_offset») (trailerOf file .bodies)
 
 pub record Job : Type 0 where
   pub rows : ℕ

@@ -4,7 +4,7 @@ ghost use mathlib.Core.Path.{_≡_};
 ghost use Prim.Native.Nat.{_+_, _*_, _≤_};
 ghost use lib.ListN.{length};
 ghost use Rattle.job_file.specs.Layout.{numberPlace, wordPlace, massPlace, rowsEnd, massesEnd};
-ghost use Rattle.job_file.specs.File.{rowBits, rowNumber, rowWord, rowWords, massBits, massNumber, numbersOf, wordsOf, massesOf};
+ghost use Rattle.job_file.specs.File.{rowBits, rowNumber, rowWord, rowWords, massBits, massNumber, sectionNumbers, sectionWords, sectionMasses};
 use crate::layout::MASS_BYTES;
 use crate::layout::ROW_BYTES;
 use crate::layout::ROW_DOUBLES;
@@ -72,7 +72,7 @@ pub fn mass_number(file: &[u8], offset: usize, b: usize, j: usize) -> f64
 // The 27 numbers of each row.
 pub fn read_numbers(file: &[u8], offset: usize, rows: usize, numbers: &mut [f64])
     requires { ⌜ (rowsEnd offset rows ≤ length (now file)) × (length (now numbers) ≡ 27 * rows) ⌝ }
-    ensures { λ _. ⌜ now (numbers .exit) ≡ numbersOf (now (file .entry)) offset rows ⌝ }
+    ensures { λ _. ⌜ now (numbers .exit) ≡ sectionNumbers (now (file .entry)) offset rows ⌝ }
 {
     let mut k = 0;
     while k < numbers.len() {
@@ -84,7 +84,7 @@ pub fn read_numbers(file: &[u8], offset: usize, rows: usize, numbers: &mut [f64]
 // The 8 words of each row.
 pub fn read_words(file: &[u8], offset: usize, rows: usize, words: &mut [u32])
     requires { ⌜ (rowsEnd offset rows ≤ length (now file)) × (length (now words) ≡ 8 * rows) ⌝ }
-    ensures { λ _. ⌜ now (words .exit) ≡ wordsOf (now (file .entry)) offset rows ⌝ }
+    ensures { λ _. ⌜ now (words .exit) ≡ sectionWords (now (file .entry)) offset rows ⌝ }
 {
     let mut k = 0;
     while k < words.len() {
@@ -96,7 +96,7 @@ pub fn read_words(file: &[u8], offset: usize, rows: usize, words: &mut [u32])
 // The 10 numbers of each body.
 pub fn read_masses(file: &[u8], offset: usize, bodies: usize, masses: &mut [f64])
     requires { ⌜ (massesEnd offset bodies ≤ length (now file)) × (length (now masses) ≡ 10 * bodies) ⌝ }
-    ensures { λ _. ⌜ now (masses .exit) ≡ massesOf (now (file .entry)) offset bodies ⌝ }
+    ensures { λ _. ⌜ now (masses .exit) ≡ sectionMasses (now (file .entry)) offset bodies ⌝ }
 {
     let mut k = 0;
     while k < masses.len() {

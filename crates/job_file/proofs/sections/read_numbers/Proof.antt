@@ -2,7 +2,7 @@
 use Prim.Native.Nat.{_-_, _/_, _%_}
 use lib.Ieee.{nan}
 use Rattle.loops.proofs.Fill.{Fills, fills}
-use Rattle.job_file.specs.File.{rowNumber, numbersOf}
+use Rattle.job_file.specs.File.{rowNumber, sectionNumbers}
 use lib.ListN.{length}
 use Rattle.job_file.proofs.Counted.{filled-count}
 use Rattle.job_file.proofs.sections.read_numbers.Statement.{statement}
@@ -17,7 +17,7 @@ abbrev μ-loop : tie.MeasureT-loop
 ruleset known = (filled-count, fills)
 
 pub read-numbers-spec : {M : Type 1} → statement M
-unfolding numbersOf
+unfolding sectionNumbers
 read-numbers-spec =
     tie.close
     (tie.spec Inv-loop μ-loop

@@ -1,7 +1,7 @@
 -- `job_file::sections::read_words` meets its contract: what stands below k is read. Assumes nothing.
 use Prim.Native.Nat.{_-_, _/_, _%_}
 use Rattle.loops.proofs.Fill.{Fills, fills}
-use Rattle.job_file.specs.File.{rowWord, wordsOf}
+use Rattle.job_file.specs.File.{rowWord, sectionWords}
 use lib.ListN.{length}
 use Rattle.job_file.proofs.Counted.{filled-count}
 use Rattle.job_file.proofs.sections.read_words.Statement.{statement}
@@ -16,7 +16,7 @@ abbrev μ-loop : tie.MeasureT-loop
 ruleset known = (filled-count, fills)
 
 pub read-words-spec : {M : Type 1} → statement M
-unfolding wordsOf
+unfolding sectionWords
 read-words-spec =
     tie.close
     (tie.spec Inv-loop μ-loop
