@@ -1,4 +1,4 @@
--- How long a listing is: `listing-short`, at most 16,384 bytes at 128 rows and 64 bodies, and `refused-short`. Assumes nothing.
+-- How long a listing is: `listing-short`, at most 16,384 bytes at 128 rows and 64 bodies, and `refused-short`; hence `listing-room` and `refused-room`. Assumes nothing.
 use Prim.Native.Nat.{ℕ, zero, suc, _+_, _-_, _*_, _/_, _%_, _^_, _<_, _≤_}
 use mathlib.Core.Path.{_≡_, refl}
 use mathlib.Core.Bool.{Bool, true, false}
@@ -9,7 +9,7 @@ use lib.Dec.{ltb}
 use lib.ListN.{length, length-append}
 use lib.Ieee.{Float}
 use borrow.Author.Tests.{ltb-true, ltb-false}
-use Rattle.listing.specs.Written.{pieces}
+use Rattle.listing.specs.Written.{Room, pieces}
 use Rattle.listing.specs.Digits.{decimalDigit, decimal, hexadecimal, number, double}
 use Rattle.listing.specs.Lines.{newline, solveName, gapName, closeName, rowName, bodyName, solveLine, gapLine, closeLine, rowLine, bodyLine}
 use Rattle.listing.specs.Listing.{flagOf, rowLines, bodyLines, listingOf, refusedListing}
@@ -115,3 +115,12 @@ listing-short count flag x y v rows bodies numbers impulses h g r b =
     let lt : length t ≤ rows * 32 = pieces-short _ 32 rows (λ i l. row-short i _ (omega arith)) in
     let lu : length u ≤ bodies * 118 = pieces-short _ 118 bodies (λ i l. body-short i _ (omega arith)) in
     omega (arith, length-append s p, length-append (s ++ p) c, length-append (s ++ p ++ c) t, length-append (s ++ p ++ c ++ t) u)
+
+-- ---- so there is room for it
+
+pub refused-room : (out : List ℕ) (refusal : ℕ) → refusal < 4294967296 → 39 ≤ length out → Room out 0 (refusedListing refusal)
+refused-room out r h l = let s = refused-short r h in record { fits = omega arith }
+
+pub listing-room : (out : List ℕ) (count : ℕ) (flag : Bool) (linear angular : Float) (verdict rows bodies : ℕ) (numbers impulses : List Float)
+    → count < 4294967296 → verdict < 4294967296 → rows ≤ 128 → bodies ≤ 64 → 16384 ≤ length out → Room out 0 (listingOf count flag linear angular verdict rows bodies numbers impulses)
+listing-room out count flag x y v rows bodies numbers impulses h g r b l = let s = listing-short count flag x y v rows bodies numbers impulses h g r b in record { fits = omega arith }
