@@ -1,6 +1,5 @@
 -- The proof of the cycle of calls {put_decimal}: it ends since n / 10 is less than an n of more digits. Assumes nothing.
 use native.Mathlib.Omega.{arith}
-use borrow.Author.Needs.{needs}
 use Rattle.listing.proofs.Joined.{length-wrote}
 use Rattle.listing.proofs.Decimal.{room-small, wrote-small, room-tenth, room-last, wrote-last}
 use Prim.Native.Nat.{ℕ, _<_}
@@ -31,10 +30,10 @@ pub +put-decimal-spec : {M : Type 1} → statement M
     close μ-put-decimal
     (λ t. put-decimal-lts.spec (decimal-digit-reads.Asked, decimal-digit-reads.Learnt, put-byte-reads.Asked, put-byte-reads.Learnt, put-decimal-below t, put-decimal.Post) (put-decimal-at t) put-decimal.Post
     (λ c κs. omega arith)  -- decimal-digit-requires
-    (λ c κs. search (room-small, needs))  -- put-byte-requires
-    (λ c. search (length-wrote, needs))  -- same-length
-    (λ c. search (wrote-small, needs))  -- returns
-    (λ c κs. (omega arith, search (room-tenth, needs)))  -- put-decimal-requires
-    (λ c κs. search (room-last, needs))  -- put-byte-requires-2
-    (λ c. search (length-wrote, needs))  -- same-length-2
-    (λ c. search (wrote-last, needs)))  -- returns-2
+    (λ c κs. room-small ((c .before .before .decimal-digit) .ensures) (omega arith) ((c .before .before .before .before) .pre .1))  -- put-byte-requires
+    (λ c. length-wrote ((c .before .before .put-byte) .ensures))  -- same-length
+    (λ c. wrote-small ((c .before .before .before .before .before .decimal-digit) .ensures) (omega arith) ((c .before .before .put-byte) .ensures))  -- returns
+    (λ c κs. (omega arith, room-tenth ((c .before .before .decimal-digit) .ensures) (omega arith) ((c .before .before .before .before) .pre .1)))  -- put-decimal-requires
+    (λ c κs. room-last ((c .before .before .before .before .before .before .decimal-digit) .ensures) (omega arith) ((c .before .before .before .put-decimal) .ensures) ((c .before .before .before .before .before .before .before .before) .pre .1))  -- put-byte-requires-2
+    (λ c. length-wrote (wrote-last ((c .before .before .before .before .before .before .before .before .before .decimal-digit) .ensures) (omega arith) ((c .before .before .before .before .before .before .put-decimal) .ensures) ((c .before .before .put-byte2) .ensures)))  -- same-length-2
+    (λ c. wrote-last ((c .before .before .before .before .before .before .before .before .before .decimal-digit) .ensures) (omega arith) ((c .before .before .before .before .before .before .put-decimal) .ensures) ((c .before .before .put-byte2) .ensures)))  -- returns-2
