@@ -1,0 +1,6 @@
+-- The ways through the tests that are judged in order and through the reading of a job, what the answers mean, and where a row stands in the lists of a job.
+pub mod Counted
+pub mod Judgement
+pub mod Reading
+pub mod Meaning
+pub mod Rows

@@ -1,0 +1,65 @@
+-- What stands in the bytes of a job file, at the places of Layout. A double has its 64 bits and, from them, its value.
+use Prim.Native.Nat.{ℕ, _*_, _/_, _%_}
+use mathlib.Core.List.{List}
+use lib.Ieee.{Float}
+use Rattle.loops.specs.Tabulate.{tabulate}
+use Rattle.little_endian.specs.Words.{halfAt, wordAt, doubleAt}
+use Rattle.kapitsa_joint.specs.declared.row.RowWords.{RowWords}
+use Rattle.job_file.specs.Layout.{numberPlace, wordPlace, massPlace, trailerAt, rowCountPlace, bodyCountPlace, limitPlace, modePlace, rowOffsetPlace, massOffsetPlace, linearPlace, angularPlace, fileLengthPlace, sparePlace}
+use Rattle.job_file.specs.declared.trailer.Trailer.{Trailer}
+
+-- the trailer of a file of 48 bytes and more
+unfoldable pub trailerOf : List ℕ → Trailer
+trailerOf file =
+    let at = trailerAt file in
+    record {
+      rows = halfAt file (rowCountPlace at);
+      bodies = halfAt file (bodyCountPlace at);
+      limit = halfAt file (limitPlace at);
+      mode = halfAt file (modePlace at);
+      «row_offset» = halfAt file (rowOffsetPlace at);
+      «mass_offset» = halfAt file (massOffsetPlace at);
+      tolerance = record { «linear_m» = doubleAt file (linearPlace at); «angular_rad» = doubleAt file (angularPlace at) };
+      «file_length» = halfAt file (fileLengthPlace at);
+      spare = halfAt file (sparePlace at);
+    }
+
+-- ---- one row or mass, in a section that begins at `offset`
+
+unfoldable pub rowBits : List ℕ → ℕ → ℕ → ℕ → ℕ
+rowBits file offset i j = wordAt file (numberPlace offset i j)
+
+unfoldable pub rowNumber : List ℕ → ℕ → ℕ → ℕ → Float
+rowNumber file offset i j = doubleAt file (numberPlace offset i j)
+
+unfoldable pub rowWord : List ℕ → ℕ → ℕ → ℕ → ℕ
+rowWord file offset i j = halfAt file (wordPlace offset i j)
+
+unfoldable pub rowWords : List ℕ → ℕ → ℕ → RowWords
+rowWords file offset i = record {
+  key = rowWord file offset i 0;
+  dimension = rowWord file offset i 1;
+  «body_a» = rowWord file offset i 2;
+  «body_b» = rowWord file offset i 3;
+  «force_driven» = rowWord file offset i 4;
+  «position_enabled» = rowWord file offset i 5;
+  owner = rowWord file offset i 6;
+  spare = rowWord file offset i 7;
+}
+
+unfoldable pub massBits : List ℕ → ℕ → ℕ → ℕ → ℕ
+massBits file offset b j = wordAt file (massPlace offset b j)
+
+unfoldable pub massNumber : List ℕ → ℕ → ℕ → ℕ → Float
+massNumber file offset b j = doubleAt file (massPlace offset b j)
+
+-- ---- the lists of a job: 27 numbers and 8 words a row, 10 numbers a body
+
+unfoldable pub sectionNumbers : List ℕ → ℕ → ℕ → List Float
+sectionNumbers file offset rows = tabulate (λ k. rowNumber file offset (k / 27) (k % 27)) (27 * rows)
+
+unfoldable pub sectionWords : List ℕ → ℕ → ℕ → List ℕ
+sectionWords file offset rows = tabulate (λ k. rowWord file offset (k / 8) (k % 8)) (8 * rows)
+
+unfoldable pub sectionMasses : List ℕ → ℕ → ℕ → List Float
+sectionMasses file offset bodies = tabulate (λ k. massNumber file offset (k / 10) (k % 10)) (10 * bodies)

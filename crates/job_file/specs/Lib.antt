@@ -1,0 +1,4 @@
+pub mod Layout
+pub mod File
+pub mod Refusals
+pub mod Job

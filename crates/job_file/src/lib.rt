@@ -1,0 +1,22 @@
+// The job file of document 01: judged by refusals 1 to 4 and read into lent rows and masses.
+pub mod fit; // fit.rt: refusals 1 to 4, each by itself
+pub mod judge; // judge.rt: refusals 1 to 4 in their order
+pub mod layout; // layout.rt: sizes and limits
+pub mod read; // read.rt: the whole job
+pub mod sections; // sections.rt: one number of a row or mass, and all of them
+pub mod trailer; // trailer.rt: the 48 bytes at the end
+
+pub use judge::FileJudged;
+pub use judge::judge_file;
+pub use read::read_job;
+pub use sections::mass_bits;
+pub use sections::mass_number;
+pub use sections::read_masses;
+pub use sections::read_numbers;
+pub use sections::read_words;
+pub use sections::row_bits;
+pub use sections::row_number;
+pub use sections::row_word;
+pub use sections::row_words;
+pub use trailer::Trailer;
+pub use trailer::read_trailer;

@@ -1,0 +1,39 @@
+// The whole job into lent memory.
+ghost use Rattle.job_file.specs.Job.{Reads};
+use crate::fit::keys_fit;
+use crate::fit::lengths_fit;
+use crate::judge::FileJudged;
+use crate::judge::judge_trailer;
+use crate::sections::read_masses;
+use crate::sections::read_numbers;
+use crate::sections::read_words;
+
+// Judges the file as `judge_file` does, refuses by 3 also where a lent slice has not the length that the counts call for,
+// and reads the job. A refused call writes nothing.
+pub fn read_job(
+    file: &[u8],
+    numbers: &mut [f64],
+    words: &mut [u32],
+    masses: &mut [f64],
+) -> FileJudged
+    ensures { λ r. ⌜ Reads (now (file .entry)) (now (numbers .entry)) (now (words .entry)) (now (masses .entry)) r (now (numbers .exit)) (now (words .exit)) (now (masses .exit)) ⌝ }
+{
+    let opened = judge_trailer(file);
+    let FileJudged::Passed(trailer) = opened else {
+        return opened;
+    };
+    if !lengths_fit(trailer, numbers.len(), words.len(), masses.len()) {
+        return FileJudged::Refused(3);
+    }
+    let rows = trailer.rows as usize;
+    let bodies = trailer.bodies as usize;
+    let row_offset = trailer.row_offset as usize;
+    let mass_offset = trailer.mass_offset as usize;
+    if !keys_fit(file, row_offset, rows) {
+        return FileJudged::Refused(4);
+    }
+    read_numbers(file, row_offset, rows, numbers);
+    read_words(file, row_offset, rows, words);
+    read_masses(file, mass_offset, bodies, masses);
+    FileJudged::Passed(trailer)
+}

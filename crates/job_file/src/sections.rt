@@ -1,0 +1,106 @@
+// The row section and the mass section: the numbers of one row or mass, by its place in the section, and all of them into lent memory.
+// A double is had as its 64 bits too: they keep a NaN's payload, which no double here does.
+ghost use mathlib.Core.Path.{_≡_};
+ghost use Prim.Native.Nat.{_+_, _*_, _≤_};
+ghost use lib.ListN.{length};
+ghost use Rattle.job_file.specs.Layout.{numberPlace, wordPlace, massPlace, rowsEnd, massesEnd};
+ghost use Rattle.job_file.specs.File.{rowBits, rowNumber, rowWord, rowWords, massBits, massNumber, sectionNumbers, sectionWords, sectionMasses};
+use crate::layout::MASS_BYTES;
+use crate::layout::ROW_BYTES;
+use crate::layout::ROW_DOUBLES;
+use kapitsa_joint::RowWords;
+use little_endian::double;
+use little_endian::half;
+use little_endian::word;
+
+// Number j of 27 of row i, where the row section begins at `offset`: its bits,
+pub fn row_bits(file: &[u8], offset: usize, i: usize, j: usize) -> u64
+    requires { ⌜ numberPlace offset i j + 8 ≤ length (now file) ⌝ }
+    ensures { λ r. ⌜ r ≡ rowBits (now (file .entry)) offset i j ⌝ }
+{
+    word(file, offset + ROW_BYTES * i + 8 * j)
+}
+
+// and the double that has them.
+pub fn row_number(file: &[u8], offset: usize, i: usize, j: usize) -> f64
+    requires { ⌜ numberPlace offset i j + 8 ≤ length (now file) ⌝ }
+    ensures { λ r. ⌜ r ≡ rowNumber (now (file .entry)) offset i j ⌝ }
+{
+    double(file, offset + ROW_BYTES * i + 8 * j)
+}
+
+// Word j of 8 of row i.
+pub fn row_word(file: &[u8], offset: usize, i: usize, j: usize) -> u32
+    requires { ⌜ wordPlace offset i j + 4 ≤ length (now file) ⌝ }
+    ensures { λ r. ⌜ r ≡ rowWord (now (file .entry)) offset i j ⌝ }
+{
+    half(file, offset + ROW_BYTES * i + ROW_DOUBLES + 4 * j)
+}
+
+// The words of row i.
+pub fn row_words(file: &[u8], offset: usize, i: usize) -> RowWords
+    requires { ⌜ rowsEnd offset (i + 1) ≤ length (now file) ⌝ }
+    ensures { λ r. ⌜ r ≡ rowWords (now (file .entry)) offset i ⌝ }
+{
+    RowWords {
+        key: row_word(file, offset, i, 0),
+        dimension: row_word(file, offset, i, 1),
+        body_a: row_word(file, offset, i, 2),
+        body_b: row_word(file, offset, i, 3),
+        force_driven: row_word(file, offset, i, 4),
+        position_enabled: row_word(file, offset, i, 5),
+        owner: row_word(file, offset, i, 6),
+        spare: row_word(file, offset, i, 7),
+    }
+}
+
+// Number j of 10 of body b, where the mass section begins at `offset`.
+pub fn mass_bits(file: &[u8], offset: usize, b: usize, j: usize) -> u64
+    requires { ⌜ massPlace offset b j + 8 ≤ length (now file) ⌝ }
+    ensures { λ r. ⌜ r ≡ massBits (now (file .entry)) offset b j ⌝ }
+{
+    word(file, offset + MASS_BYTES * b + 8 * j)
+}
+
+pub fn mass_number(file: &[u8], offset: usize, b: usize, j: usize) -> f64
+    requires { ⌜ massPlace offset b j + 8 ≤ length (now file) ⌝ }
+    ensures { λ r. ⌜ r ≡ massNumber (now (file .entry)) offset b j ⌝ }
+{
+    double(file, offset + MASS_BYTES * b + 8 * j)
+}
+
+// The 27 numbers of each row.
+pub fn read_numbers(file: &[u8], offset: usize, rows: usize, numbers: &mut [f64])
+    requires { ⌜ (rowsEnd offset rows ≤ length (now file)) × (length (now numbers) ≡ 27 * rows) ⌝ }
+    ensures { λ _. ⌜ now (numbers .exit) ≡ sectionNumbers (now (file .entry)) offset rows ⌝ }
+{
+    let mut k = 0;
+    while k < numbers.len() {
+        numbers[k] = row_number(file, offset, k / 27, k % 27);
+        k += 1;
+    }
+}
+
+// The 8 words of each row.
+pub fn read_words(file: &[u8], offset: usize, rows: usize, words: &mut [u32])
+    requires { ⌜ (rowsEnd offset rows ≤ length (now file)) × (length (now words) ≡ 8 * rows) ⌝ }
+    ensures { λ _. ⌜ now (words .exit) ≡ sectionWords (now (file .entry)) offset rows ⌝ }
+{
+    let mut k = 0;
+    while k < words.len() {
+        words[k] = row_word(file, offset, k / 8, k % 8);
+        k += 1;
+    }
+}
+
+// The 10 numbers of each body.
+pub fn read_masses(file: &[u8], offset: usize, bodies: usize, masses: &mut [f64])
+    requires { ⌜ (massesEnd offset bodies ≤ length (now file)) × (length (now masses) ≡ 10 * bodies) ⌝ }
+    ensures { λ _. ⌜ now (masses .exit) ≡ sectionMasses (now (file .entry)) offset bodies ⌝ }
+{
+    let mut k = 0;
+    while k < masses.len() {
+        masses[k] = mass_number(file, offset, k / 10, k % 10);
+        k += 1;
+    }
+}

@@ -1,0 +1,126 @@
+-- How long a listing is: `listing-short`, at most 16,384 bytes at 128 rows and 64 bodies, and `refused-short`; hence `listing-room` and `refused-room`. Assumes nothing.
+use Prim.Native.Nat.{ℕ, zero, suc, _+_, _-_, _*_, _/_, _%_, _^_, _<_, _≤_}
+use mathlib.Core.Path.{_≡_, refl}
+use mathlib.Core.Bool.{Bool, true, false}
+use mathlib.Core.List.{List, [], _∷_, _++_}
+use native.Mathlib.Nat.{pow-succ'}
+use native.Mathlib.Omega.{arith}
+use lib.Dec.{ltb}
+use lib.ListN.{length, length-append}
+use lib.Ieee.{Float}
+use borrow.Author.Tests.{ltb-true, ltb-false}
+use Rattle.listing.specs.Written.{Room, pieces}
+use Rattle.listing.specs.Digits.{decimalDigit, decimal, hexadecimal, number, double}
+use Rattle.listing.specs.Lines.{newline, solveName, gapName, closeName, rowName, bodyName, solveLine, gapLine, closeLine, rowLine, bodyLine}
+use Rattle.listing.specs.Listing.{flagOf, rowLines, bodyLines, listingOf, refusedListing}
+use Rattle.listing.proofs.Decimal.{decimal-small, decimal-more}
+
+-- ---- numbers
+
+-- a number below 10 ^ (k + 1) has at most k + 1 digits
+decimal-long : (k n : ℕ) → n < 10 ^ k * 10 → length (decimal n) ≤ suc k
+decimal-long zero n h = let l : n < 10 = omega arith in rw (decimal-small n l) (omega arith)
+decimal-long (suc k) n h = go (ltb n 10) (ltb-true n 10) (ltb-false n 10) (λ l. decimal-long k (n / 10) (omega (arith, pow-succ' 10 k)))
+  where
+    go : (b : Bool) → (b ≡ true → n < 10) → (b ≡ false → 10 ≤ n) → (10 ≤ n → length (decimal (n / 10)) ≤ suc k) → length (decimal n) ≤ suc (suc k)
+    go true f g r = rw (decimal-small n (f refl)) (omega arith)
+    go false f g r = let l = r (g refl) in rw (decimal-more n (g refl)) (omega (arith, length-append (decimal (n / 10)) (decimalDigit (n % 10) ∷ [])))
+
+pub number-short : (n : ℕ) → n < 4294967296 → length (number n) ≤ 11
+unfolding number
+number-short n h = let l = decimal-long 9 n (omega arith) in omega arith
+
+pieces-short : (g : ℕ → List ℕ) (m n : ℕ) → ((i : ℕ) → i < n → length (g i) ≤ m) → length (pieces g n) ≤ n * m
+unfolding pieces
+pieces-short g m zero h = omega arith
+pieces-short g m (suc n) h = let a = pieces-short g m n (λ i l. h i (omega arith)) in let b = h n (omega arith) in let e = length-append (pieces g n) (g n) in omega arith
+
+pub double-long : (x : Float) → length (double x) ≡ 17
+unfolding double hexadecimal pieces
+double-long x = refl
+
+-- ---- lines
+
+row-short : (i : ℕ) (x : Float) → i < 4294967296 → length (rowLine i x) ≤ 32
+unfolding rowLine rowName
+row-short i x h =
+    let a = number-short i h in
+    let b = double-long x in
+    let c = length-append (rowName ++ number i) (double x) in
+    let d = length-append rowName (number i) in
+    let e = length-append (rowName ++ number i ++ double x) newline in
+    omega arith
+
+body-short : (b : ℕ) (x : ℕ → Float) → b < 4294967296 → length (bodyLine b x) ≤ 118
+unfolding bodyLine bodyName
+body-short b x h =
+    let a = number-short b h in
+    let six = pieces-short (λ k. double (x k)) 17 6 (λ k _. let l = double-long (x k) in omega arith) in
+    let c = length-append bodyName (number b) in
+    let d = length-append (bodyName ++ number b) (pieces (λ k. double (x k)) 6) in
+    let e = length-append (bodyName ++ number b ++ pieces (λ k. double (x k)) 6) newline in
+    omega arith
+
+solve-short : (refusal count flag : ℕ) → refusal < 4294967296 → count < 4294967296 → flag < 4294967296 → length (solveLine refusal count flag) ≤ 39
+unfolding solveLine solveName
+solve-short r n f h g k =
+    let a = number-short r h in
+    let b = number-short n g in
+    let c = number-short f k in
+    let d = length-append solveName (number r) in
+    let e = length-append (solveName ++ number r) (number n) in
+    let i = length-append (solveName ++ number r ++ number n) (number f) in
+    let j = length-append (solveName ++ number r ++ number n ++ number f) newline in
+    omega arith
+
+gap-long : (x y : Float) → length (gapLine x y) ≡ 38
+unfolding gapLine gapName
+gap-long x y =
+    let a = double-long x in
+    let b = double-long y in
+    let c = length-append gapName (double x) in
+    let d = length-append (gapName ++ double x) (double y) in
+    let e = length-append (gapName ++ double x ++ double y) newline in
+    omega arith
+
+close-short : (verdict : ℕ) → verdict < 4294967296 → length (closeLine verdict) ≤ 17
+unfolding closeLine closeName
+close-short v h =
+    let a = number-short v h in
+    let b = length-append closeName (number v) in
+    let c = length-append (closeName ++ number v) newline in
+    omega arith
+
+-- ---- the whole
+
+pub refused-short : (refusal : ℕ) → refusal < 4294967296 → length (refusedListing refusal) ≤ 39
+unfolding refusedListing
+refused-short r h = solve-short r 0 0 h (omega arith) (omega arith)
+
+flag-small : (flag : Bool) → flagOf flag < 4294967296
+flag-small true = omega arith
+flag-small false = omega arith
+
+pub listing-short : (count : ℕ) (flag : Bool) (linear angular : Float) (verdict rows bodies : ℕ) (numbers impulses : List Float) → count < 4294967296 → verdict < 4294967296 → rows ≤ 128 → bodies ≤ 64 → length (listingOf count flag linear angular verdict rows bodies numbers impulses) ≤ 16384
+unfolding listingOf rowLines bodyLines
+listing-short count flag x y v rows bodies numbers impulses h g r b =
+    let s = solveLine 0 count (flagOf flag) in
+    let p = gapLine x y in
+    let c = closeLine v in
+    let t = rowLines numbers rows in
+    let u = bodyLines impulses bodies in
+    let ls : length s ≤ 39 = solve-short 0 count (flagOf flag) (omega arith) h (flag-small flag) in
+    let lp : length p ≡ 38 = gap-long x y in
+    let lc : length c ≤ 17 = close-short v g in
+    let lt : length t ≤ rows * 32 = pieces-short _ 32 rows (λ i l. row-short i _ (omega arith)) in
+    let lu : length u ≤ bodies * 118 = pieces-short _ 118 bodies (λ i l. body-short i _ (omega arith)) in
+    omega (arith, length-append s p, length-append (s ++ p) c, length-append (s ++ p ++ c) t, length-append (s ++ p ++ c ++ t) u)
+
+-- ---- so there is room for it
+
+pub refused-room : (out : List ℕ) (refusal : ℕ) → refusal < 4294967296 → 39 ≤ length out → Room out 0 (refusedListing refusal)
+refused-room out r h l = let s = refused-short r h in record { fits = omega arith }
+
+pub listing-room : (out : List ℕ) (count : ℕ) (flag : Bool) (linear angular : Float) (verdict rows bodies : ℕ) (numbers impulses : List Float)
+    → count < 4294967296 → verdict < 4294967296 → rows ≤ 128 → bodies ≤ 64 → 16384 ≤ length out → Room out 0 (listingOf count flag linear angular verdict rows bodies numbers impulses)
+listing-room out count flag x y v rows bodies numbers impulses h g r b l = let s = listing-short count flag x y v rows bodies numbers impulses h g r b in record { fits = omega arith }

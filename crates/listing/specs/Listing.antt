@@ -1,0 +1,29 @@
+-- Document 01, "Sheets to try": what "the job program ... prints": "refusal, count, flag; residuals; verdict; row and multiplier; body and six impulses", and of a refused job "its first line only, zeros after the number".
+use Prim.Native.Nat.{ℕ, _+_, _*_}
+use mathlib.Core.Bool.{Bool, cond}
+use mathlib.Core.List.{List, _++_}
+use lib.ListN.{getD}
+use lib.Ieee.{Float, nan}
+use Rattle.listing.specs.Written.{pieces}
+use Rattle.listing.specs.Lines.{solveLine, gapLine, closeLine, rowLine, bodyLine}
+
+-- a line for each row, with its accumulated multiplier, which is number 24 of its 27
+unfoldable pub rowLines : List Float → ℕ → List ℕ
+rowLines numbers rows = pieces (λ i. rowLine i (getD numbers (27 * i + 24) nan)) rows
+
+-- a line for each body, also where there are no rows
+unfoldable pub bodyLines : List Float → ℕ → List ℕ
+bodyLines impulses bodies = pieces (λ b. bodyLine b (λ k. getD impulses (6 * b + k) nan)) bodies
+
+-- the flag as it is printed
+abbrev pub flagOf : Bool → ℕ
+flagOf flag = cond flag 1 0
+
+-- of an accepted job
+unfoldable pub listingOf : ℕ → Bool → Float → Float → ℕ → ℕ → ℕ → List Float → List Float → List ℕ
+listingOf count flag linear angular verdict rows bodies numbers impulses =
+    solveLine 0 count (flagOf flag) ++ gapLine linear angular ++ closeLine verdict ++ rowLines numbers rows ++ bodyLines impulses bodies
+
+-- of a refused one
+unfoldable pub refusedListing : ℕ → List ℕ
+refusedListing refusal = solveLine refusal 0 0

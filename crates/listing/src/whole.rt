@@ -1,0 +1,41 @@
+// The whole listing: of an accepted job, and of a refused one.
+ghost use Prim.Native.Nat.{_*_, _≤_};
+ghost use lib.ListN.{length};
+ghost use Rattle.listing.specs.Written.{Room, Wrote};
+ghost use Rattle.listing.specs.Listing.{listingOf, refusedListing};
+use crate::lines::body_lines;
+use crate::lines::close_line;
+use crate::lines::gap_line;
+use crate::lines::row_lines;
+use crate::lines::solve_line;
+
+// What the solve answered (count, flag, residual maxima), the verdict or refusal of the closing check, the rows after the solve and the impulses.
+// No listing of 128 rows and 64 bodies has more than 16,384 bytes.
+pub fn write_listing(
+    count: u32,
+    flag: bool,
+    linear: f64,
+    angular: f64,
+    verdict: u32,
+    rows: u32,
+    bodies: u32,
+    numbers: &[f64],
+    impulses: &[f64],
+    out: &mut [u8],
+) -> usize
+    requires { ⌜ (27 * rows ≤ length (now numbers)) × (6 * bodies ≤ length (now impulses)) × Room (now out) 0 (listingOf count flag linear angular verdict rows bodies (now numbers) (now impulses)) ⌝ }
+    ensures { λ r. ⌜ Wrote (now (out .entry)) 0 (listingOf count flag linear angular verdict rows bodies (now (numbers .entry)) (now (impulses .entry))) (now (out .exit)) r ⌝ }
+{
+    let solve = solve_line(out, 0, 0, count, flag as u32);
+    let gap = gap_line(out, solve, linear, angular);
+    let close = close_line(out, gap, verdict);
+    let row = row_lines(out, close, numbers, rows);
+    body_lines(out, row, impulses, bodies)
+}
+
+pub fn write_refusal(refusal: u32, out: &mut [u8]) -> usize
+    requires { ⌜ Room (now out) 0 (refusedListing refusal) ⌝ }
+    ensures { λ r. ⌜ Wrote (now (out .entry)) 0 (refusedListing refusal) (now (out .exit)) r ⌝ }
+{
+    solve_line(out, 0, refusal, 0, 0)
+}
