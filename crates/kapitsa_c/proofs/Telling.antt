@@ -17,7 +17,7 @@ use Rattle.position_delivery.specs.Outcome.{Lent, Outcome, outcomeOf}
 use Rattle.position_delivery.specs.declared.answer.PositionPcg.{PositionPcg}
 use Rattle.position_delivery.specs.declared.answer.PositionPcg.the-variants as answers
 use Rattle.position_delivery.specs.declared.answer.PositionPcgResult.{PositionPcgResult}
-use Rattle.pcg.specs.Work.{WorkMemory, After}
+use Rattle.work_memory.specs.Work.{WorkMemory, After}
 use Rattle.pcg.specs.Solved.{Solved}
 use Rattle.pcg.proofs.Entry.{entry-means, entry-refused}
 use Rattle.check_answer.proofs.Meaning.{both}

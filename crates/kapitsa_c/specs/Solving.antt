@@ -13,7 +13,7 @@ use Rattle.position_iteration.specs.Method.{positionMethod}
 use Rattle.position_delivery.specs.Outcome.{Lent, outcomeOf, SolveMeaning}
 use Rattle.position_delivery.specs.declared.answer.PositionPcg.{PositionPcg}
 use Rattle.position_delivery.specs.declared.answer.PositionPcg.the-variants as answers
-use Rattle.pcg.specs.Work.{WorkMemory, After}
+use Rattle.work_memory.specs.Work.{WorkMemory, After}
 
 pub record Told : Type 0 where
   pub number : ℕ

@@ -2,4 +2,3 @@
 pub mod Openings
 pub mod Roomy
 pub mod Entry
-pub mod Cleared

@@ -1,4 +1,3 @@
 pub mod Lengths
-pub mod Work
 pub mod Opening
 pub mod Solved

@@ -8,7 +8,7 @@ use Rattle.steps.specs.Solve.{solve}
 use Rattle.position_iteration.specs.Method.{positionMethod}
 use Rattle.position_delivery.specs.Outcome.{Lent, outcomeOf, SolveMeaning}
 use Rattle.position_delivery.specs.declared.answer.PositionPcg.{PositionPcg}
-use Rattle.pcg.specs.Work.{WorkMemory, clearedWork, After}
+use Rattle.work_memory.specs.Work.{WorkMemory, clearedWork, After}
 
 -- of n rows, once refusal 3 has passed
 pub record WorkedOut (t : Table) (mode : Mode) (limit n : ℕ) (before after : Lent) (answer : PositionPcg) (work workAfter : WorkMemory) : Type 0 where

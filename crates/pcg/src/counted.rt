@@ -6,9 +6,7 @@ ghost use Rattle.pairs.specs.Pairs.{pairRoom};
 ghost use Rattle.preconditioner.specs.Mode.{modeOf};
 ghost use Rattle.position_steps.specs.Counting.{CountRoom};
 ghost use Rattle.pcg.specs.Opening.{CountOpened};
-ghost use Rattle.pcg.specs.Work.{StepMemory, clearedSteps};
-use crate::clear::clear_factor;
-use crate::clear::clear_vectors;
+ghost use Rattle.work_memory.specs.Work.{StepMemory, clearedSteps};
 use crate::opening::Opened;
 use crate::opening::open_table;
 use kapitsa_joint::JointTolerance;
@@ -16,6 +14,8 @@ use pairs::pair_room;
 use position_iteration::Iterated;
 use position_steps::count_steps;
 use preconditioner::mode_of;
+use work_memory::clear_factor;
+use work_memory::clear_vectors;
 
 // Refusals 4 to 6, then 7 to 16.
 fn open_and_count(

@@ -1,5 +1,4 @@
 // The position solve: refusals 3 to 6 before step 0, the step that is counted, what is delivered of it with refusal 17, and the clearing of the work memory.
-pub mod clear; // clear.rt: the work memory afterwards
 pub mod counted; // counted.rt: the step that is counted
 pub mod fit; // fit.rt: refusal 3
 pub mod opening; // opening.rt: refusals 4, 5 and 6

@@ -8,7 +8,6 @@ ghost use Rattle.preconditioner.specs.Mode.{modeOf};
 ghost use Rattle.position_steps.specs.Counting.{CountRoom};
 ghost use Rattle.pcg.specs.Lengths.{passes3, tableLengths, vectorLengths, factorLengths};
 ghost use Rattle.pcg.specs.Solved.{WorkedOut, Solved};
-use crate::clear::clear_table;
 use crate::counted::count_and_clear;
 use crate::fit::FactorLengths;
 use crate::fit::TableLengths;
@@ -17,6 +16,7 @@ use crate::fit::lengths_fit;
 use kapitsa_joint::JointTolerance;
 use position_delivery::PositionPcg;
 use position_delivery::finish_counted;
+use work_memory::clear_table;
 
 // Once refusal 3 has passed.
 fn work_out(

@@ -1,6 +1,6 @@
 -- `pcg::counted::count_and_clear` meets its contract. Assumes nothing.
 use mathlib.Core.Path.{_∙_}
-use Rattle.pcg.proofs.Cleared.{cleared-since, words-since, steps-cleared}
+use Rattle.work_memory.proofs.Cleared.{cleared-since, words-since, steps-cleared}
 use Rattle.pcg.proofs.counted.count_and_clear.Statement.{statement}
 use Rattle.pcg.proofs.counted.count_and_clear.Tie as tie
 

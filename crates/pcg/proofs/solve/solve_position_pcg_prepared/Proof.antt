@@ -2,7 +2,7 @@
 use mathlib.Core.Path.{sym, _∙_}
 use borrow.Author.Tests.{not-false}
 use Rattle.pcg.proofs.Entry.{entry-refused, entry-on, entry-means}
-use Rattle.pcg.proofs.Cleared.{after-three, after-cleared}
+use Rattle.work_memory.proofs.Cleared.{after-three, after-cleared}
 use Rattle.pcg.proofs.Roomy.{count-room, impulses-room, solution-room}
 use Rattle.pcg.proofs.solve.solve_position_pcg_prepared.Statement.{statement}
 use Rattle.pcg.proofs.solve.solve_position_pcg_prepared.Tie as tie

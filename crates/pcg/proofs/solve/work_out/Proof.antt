@@ -1,7 +1,7 @@
 -- `pcg::solve::work_out` meets its contract. Assumes nothing.
 use mathlib.Core.Path.{_∙_}
 use native.Mathlib.Omega.{arith}
-use Rattle.pcg.proofs.Cleared.{cleared-since, words-since, table-cleared, work-cleared}
+use Rattle.work_memory.proofs.Cleared.{cleared-since, words-since, table-cleared, work-cleared}
 use Rattle.pcg.proofs.Entry.{worked-out}
 use Rattle.pcg.proofs.solve.work_out.Statement.{statement}
 use Rattle.pcg.proofs.solve.work_out.Tie as tie

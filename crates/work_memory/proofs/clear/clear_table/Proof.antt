@@ -1,7 +1,7 @@
--- `pcg::clear::clear_table` meets its contract. Assumes nothing.
+-- `work_memory::clear::clear_table` meets its contract. Assumes nothing.
 use Rattle.loops.proofs.Loop.{loops}
-use Rattle.pcg.proofs.clear.clear_table.Statement.{statement}
-use Rattle.pcg.proofs.clear.clear_table.Tie as tie
+use Rattle.work_memory.proofs.clear.clear_table.Statement.{statement}
+use Rattle.work_memory.proofs.clear.clear_table.Tie as tie
 
 ruleset known = (loops)
 

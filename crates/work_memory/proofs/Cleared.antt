@@ -8,7 +8,7 @@ use lib.ListN.{length, replicate}
 use lib.Ieee.{Float}
 use borrow.Author.Tests.{not-true, not-false}
 use Rattle.loops.specs.Cleared.{plusZero, cleared, clearedWords}
-use Rattle.pcg.specs.Work.{StepMemory, TableMemory, WorkMemory, clearedSteps, clearedTable, clearedWork, After}
+use Rattle.work_memory.specs.Work.{StepMemory, TableMemory, WorkMemory, clearedSteps, clearedTable, clearedWork, After}
 
 -- ---- cleared after a call that kept its length
 pub cleared-since : (x₀ x : List Float) (n : ℕ) → n ≡ length x₀ → x ≡ replicate n plusZero → x ≡ cleared x₀

@@ -1,7 +1,7 @@
--- `pcg::clear::clear_factor` meets its contract. Assumes nothing.
+-- `work_memory::clear::clear_factor` meets its contract. Assumes nothing.
 use Rattle.loops.proofs.Loop.{loops}
-use Rattle.pcg.proofs.clear.clear_factor.Statement.{statement}
-use Rattle.pcg.proofs.clear.clear_factor.Tie as tie
+use Rattle.work_memory.proofs.clear.clear_factor.Statement.{statement}
+use Rattle.work_memory.proofs.clear.clear_factor.Tie as tie
 
 ruleset known = (loops)
 

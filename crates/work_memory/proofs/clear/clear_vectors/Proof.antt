@@ -1,7 +1,7 @@
--- `pcg::clear::clear_vectors` meets its contract. Assumes nothing.
+-- `work_memory::clear::clear_vectors` meets its contract. Assumes nothing.
 use Rattle.loops.proofs.Loop.{loops}
-use Rattle.pcg.proofs.clear.clear_vectors.Statement.{statement}
-use Rattle.pcg.proofs.clear.clear_vectors.Tie as tie
+use Rattle.work_memory.proofs.clear.clear_vectors.Statement.{statement}
+use Rattle.work_memory.proofs.clear.clear_vectors.Tie as tie
 
 ruleset known = (loops)
 
