@@ -6,6 +6,7 @@ use crate::implementation::Implementation;
 use crate::job::{Answer, Job, MULTIPLIER, ROW_NUMBERS, Solved, same_bits};
 use crate::judge::judge;
 use crate::random::Random;
+use crate::tally::Tally;
 use crate::{job_file, model};
 use std::collections::BTreeMap;
 use std::path::Path;
@@ -21,10 +22,12 @@ pub fn run(library: &str, jobs: u64, seed: u64, home: &Path) -> Result<bool, Str
     }
     let mut mismatches = 0;
     let mut verdicts = BTreeMap::new();
+    let mut solves = Tally::default();
     for index in 0..jobs {
         let job = job(seed, index, Sizes::Any);
         let mut random = Random::of(!seed, index);
         let (solved, found) = compare_solve(&implementation, &job, &mut random);
+        solves.add(job.mode, &solved.answer);
         let name = format!("{seed}-{index}");
         if !found.is_empty() {
             println!("job {name}: {}", found.join("; "));
@@ -41,6 +44,9 @@ pub fn run(library: &str, jobs: u64, seed: u64, home: &Path) -> Result<bool, Str
             save(home, &format!("{name}-closing.list"), &listed)?;
         }
         mismatches += u64::from(!found.is_empty() || given != wanted || !cleared);
+    }
+    if implementation.solves() {
+        solves.print();
     }
     print_verdicts(&verdicts);
     println!("{jobs} jobs, {mismatches} mismatches");
@@ -84,6 +90,9 @@ fn compare_solve(
     let mut given = job.clone();
     let answer = implementation.solve(&mut given, &mut solution, &mut impulses);
     let mut found = differences(job, &wanted, answer, &given, &solution, &impulses);
+    if !implementation.cleared() {
+        found.push("work memory is not cleared".to_string());
+    }
     found.extend(judged.dispute);
     (wanted, found)
 }
