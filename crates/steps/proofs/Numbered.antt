@@ -7,7 +7,7 @@ use native.Mathlib.Omega.{arith}
 use borrow.Author.Count.{below-more, below-none}
 use Rattle.loops.proofs.Inverse.{apart, next-ended, next-going, saw}
 use Rattle.loops.proofs.Loop.{on-ended, on-going}
-use Rattle.loops.specs.Run.{Goes, ended, on}
+use Rattle.loops.specs.Run.{Goes, ended, going, on}
 use Rattle.steps.proofs.Answer.{refused-iff}
 use Rattle.steps.proofs.Steps.{miss, missed, step-after}
 use Rattle.steps.specs.Meaning.{Advancing, Finishing, Renewing, TurnsBack}
@@ -20,12 +20,25 @@ use Rattle.steps.specs.Steps.{AllMiss, ready, stepAt}
 module _ {S C F : Type 0} (m : Method S C F) (numbers : Numbers m) (limit : ℕ) where
   -- ---- the numbers of each place
 
+  -- what is made at first is there for every step that is renewed
+  made-first : (k : ℕ) (t : S × C) → ready m k ≡ going t → (u : S) × Goes (m .first u)
+  unfolding ready
+  made-first zero t h = let (v, s, r) = next-going (m .begin) _ t .0 h in let (c, e, q) = next-going (m .first v) _ t .0 r in (v, (c, e))
+  made-first (suc k) t h = let (u, e, r) = next-going (ready m k) _ t .0 h in made-first k u e
+
+  -- a step v after step 0 whose renewal is refused
+  abbrev Later : ℕ → Type 0
+  Later n = (v : S) × (c : C) × (m .steps .renew v c ≡ ended n) × ((u : S) × Goes (m .first u))
+
+  later-number : {n : ℕ} → Later n → (14 ≤ n) × (n ≤ 16) × (n ≢ 15)
+  later-number {n} h = numbers .renew (h .3 .0) (h .0) (h .1) n (h .3 .1) (h .2)
+
   -- where a renewal is refused, it is step 0's or a later one's
-  renewal : {n : ℕ} → Renewing m limit n → Factoring m n ⊎ ((v : S) × (c : C) × (m .steps .renew v c ≡ ended n))
+  renewal : {n : ℕ} → Renewing m limit n → Factoring m n ⊎ Later n
   unfolding ready stepAt
   renewal {n} h = go (h .step) (h .missed) (h .refused)
     where
-      go : (k : ℕ) → AllMiss m (k + 1) → ready m k ≡ ended n → Factoring m n ⊎ ((v : S) × (c : C) × (m .steps .renew v c ≡ ended n))
+      go : (k : ℕ) → AllMiss m (k + 1) → ready m k ≡ ended n → Factoring m n ⊎ Later n
       go zero all r =
           let (v, s, f) = missed m 0 (all 0 (omega arith)) in
           let d : m .first v ≡ ended n = ⊎-elim (λ d. d) (λ d. absurd (apart _ refl (d .2))) (next-ended (m .first v) _ n .0 (sym (on-going _ _ _ s) ∙ r)) in
@@ -34,7 +47,7 @@ module _ {S C F : Type 0} (m : Method S C F) (numbers : Numbers m) (limit : ℕ)
           let (v, s, f) = missed m (suc k) (all (suc k) (omega arith)) in
           let (u, e, a) = next-going (ready m k) _ v .0 s in
           let p = sym (on-going _ _ _ a) ∙ (sym (on-going _ _ _ e) ∙ r) in
-          inr (v, u .1, ⊎-elim (λ d. d) (λ d. absurd (apart _ refl (d .2))) (next-ended (m .steps .renew v (u .1)) _ n .0 p))
+          inr (v, u .1, ⊎-elim (λ d. d) (λ d. absurd (apart _ refl (d .2))) (next-ended (m .steps .renew v (u .1)) _ n .0 p), made-first k u e)
 
   opening-number : {n : ℕ} → m .opening limit ≡ ended n → (3 ≤ n) × (n ≤ 6)
   opening-number {n} h = numbers .opening limit n h
@@ -45,7 +58,7 @@ module _ {S C F : Type 0} (m : Method S C F) (numbers : Numbers m) (limit : ℕ)
 
   renewal-number : {n : ℕ} → Renewing m limit n → (10 ≤ n) × (n ≤ 16) × (n ≢ 15)
   renewal-number {n} h =
-      ⊎-elim (λ p. numbers .first (p .step) n (p .refused)) (λ p. let (l, u, d) = numbers .renew (p .0) (p .1) n (p .2) in (omega arith, u, d)) (renewal h)
+      ⊎-elim (λ p. numbers .first (p .step) n (p .refused)) (λ p. let (l, u, d) = later-number p in (omega arith, u, d)) (renewal h)
 
   advance-number : {n : ℕ} → Advancing m limit n → (15 ≤ n) × (n ≤ 16)
   advance-number {n} h = let (u, r) = h .renewed in numbers .advance (u .0) (u .1) n (sym (step-after m (h .step) u r) ∙ h .refused)
@@ -93,9 +106,9 @@ module _ {S C F : Type 0} (m : Method S C F) (numbers : Numbers m) (limit : ℕ)
     pub refused-10-13 : (10 ≤ n) → (n ≤ 13) → (solve m limit ≡ ended n) ↔ TurnsBack10-13 m limit n
     refused-10-13 l u = by-place there (λ h. in-renewing (h .opened) (factoring-renews (h .then)))
       where
-        factoring : Factoring m n ⊎ ((v : S) × (c : C) × (m .steps .renew v c ≡ ended n)) → Factoring m n
+        factoring : Factoring m n ⊎ Later n → Factoring m n
         factoring (inl h) = h
-        factoring (inr h) = let q = numbers .renew (h .0) (h .1) n (h .2) in absurd (omega arith)
+        factoring (inr h) = let q = later-number h in absurd (omega arith)
 
         there : TurnsBack m limit n → TurnsBack10-13 m limit n
         there (in-opening h) = let q = opening-number h in absurd (omega arith)

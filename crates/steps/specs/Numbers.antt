@@ -3,7 +3,7 @@ use Prim.Native.Nat.{ℕ, _≤_}
 use mathlib.Core.Path.{_≡_}
 use mathlib.Core.Bool.{false}
 use mathlib.Core.Logic.{_⊎_, _≢_}
-use Rattle.loops.specs.Run.{going, ended}
+use Rattle.loops.specs.Run.{Goes, going, ended}
 use Rattle.steps.specs.Method.{Method}
 use Rattle.steps.specs.Steps.{stepAt}
 use Rattle.steps.specs.Meaning.{Renewing, Advancing, Finishing}
@@ -15,7 +15,7 @@ module _ {S C F : Type 0} (m : Method S C F) where
     pub begin : (n : ℕ) → m .begin ≡ ended n → (7 ≤ n) × (n ≤ 9)
     pub first : (v : S) (n : ℕ) → m .first v ≡ ended n → (10 ≤ n) × (n ≤ 16) × (n ≢ 15)
     pub advance : (v : S) (c : C) (n : ℕ) → m .steps .advance v c ≡ ended n → (15 ≤ n) × (n ≤ 16)
-    pub renew : (v : S) (c : C) (n : ℕ) → m .steps .renew v c ≡ ended n → (14 ≤ n) × (n ≤ 16) × (n ≢ 15)
+    pub renew : (u v : S) (c : C) (n : ℕ) → Goes (m .first u) → m .steps .renew v c ≡ ended n → (14 ≤ n) × (n ≤ 16) × (n ≢ 15)  -- a factor is there: some step 0 was not refused it
     pub finish : (k : ℕ) (v : S) (n : ℕ) → m .finish k v ≡ ended n → n ≡ 17
 
   -- After the count 0 test: step 0 is there and misses, and its factor, z or s is refused.
