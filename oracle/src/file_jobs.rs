@@ -36,6 +36,44 @@ fn file(seed: u64, index: u64, random: &mut Random) -> Vec<u8> {
     file
 }
 
+/// A file as above, or one damaged anywhere, or bytes at random, now and then with a stored
+/// length that is right.
+pub fn any(seed: u64, index: u64, random: &mut Random) -> Vec<u8> {
+    let mut file = file(seed, index, random);
+    match random.below(4) {
+        0 => flip(&mut file, random),
+        1 if random.chance(30) => {
+            let length = random.pick(&[0, 1, 47, 48, 49, 300, 4_000, 65_535, 65_536, 65_537]);
+            file = (0..length).map(|_| random.below(256) as u8).collect();
+            if random.chance(70) {
+                store_length(&mut file);
+            }
+        }
+        _ => {}
+    }
+    file
+}
+
+/// One to eight bits that are not what they were.
+fn flip(file: &mut [u8], random: &mut Random) {
+    if file.is_empty() {
+        return;
+    }
+    for _ in 0..=random.below(8) {
+        let at = random.below(file.len());
+        file[at] ^= 1 << random.below(8);
+    }
+}
+
+/// The length and the spare as document 01 has them.
+fn store_length(file: &mut [u8]) {
+    let length = file.len();
+    if length >= 48 {
+        file[length - 8..length - 4].copy_from_slice(&(length as u32).to_le_bytes());
+        file[length - 4..].fill(0);
+    }
+}
+
 /// Rows or masses first, with gaps; a count that no longer fits its list is written as it is.
 fn placed(job: &Job, random: &mut Random) -> Vec<u8> {
     let gaps = [0; 2].map(|_| random.pick(&[0, 0, 1, 7, 64]));

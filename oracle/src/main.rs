@@ -17,6 +17,7 @@ mod model;
 mod operator_list;
 mod packing;
 mod preconditioner_list;
+mod program;
 mod random;
 mod recorded;
 mod tally;
@@ -39,6 +40,7 @@ const USAGE: &str = "usage: oracle/run COMMAND
   bench-preconditioner LIBRARY    times of the build and solve of modes 1 and 2 at 512 rows
   job FILE                        what the job program prints of a job file
   files FOLDER [JOBS] [SEED]      job files in every placement, with what the program prints
+  program PROGRAM [FILES] [SEED]  the job program's own process on generated, damaged and random files
   examples                        document 01's P1 to P9 as job files, in target/examples";
 
 fn main() {
@@ -82,6 +84,7 @@ fn command(words: &[&str]) -> Result<bool, String> {
             print!("{}", listing::of_file(&bytes));
             Ok(true)
         }
+        ["program", program, ..] => program::run(program, number(2, 1000)?, number(3, 1)?, &home()),
         ["files", folder, ..] => file_jobs::write(folder, number(2, 1000)?, number(3, 1)?),
         ["examples"] => listing::examples(&home()),
         _ => Err(USAGE.to_string()),

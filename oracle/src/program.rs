@@ -1,0 +1,75 @@
+//! The job program itself, as a process: generated, damaged and random files through its
+//! standard input, and what it prints held to what the model prints.
+
+use crate::random::Random;
+use crate::{file_jobs, listing};
+use std::collections::BTreeMap;
+use std::io::{Read, Write};
+use std::path::Path;
+use std::process::{Command, Stdio};
+use std::time::{Duration, Instant};
+
+/// A program that takes longer hangs.
+const LIMIT: Duration = Duration::from_secs(10);
+
+/// Prints each mismatch and the tally of refusals; true where there is no mismatch.
+pub fn run(program: &str, files: u64, seed: u64, home: &Path) -> Result<bool, String> {
+    let mut tally = BTreeMap::new();
+    let mut mismatches = 0u64;
+    for index in 0..files {
+        let mut random = Random::of(!seed, index);
+        let file = file_jobs::any(seed, index, &mut random);
+        let wanted = listing::of_file(&file);
+        let given = printed(program, &file, &mut random)?;
+        let refusal = wanted.split(' ').nth(1).unwrap_or_default().to_string();
+        *tally.entry(refusal).or_insert(0u64) += 1;
+        if given != Ok(wanted) {
+            mismatches += 1;
+            let name = format!("{seed}-{index}.job");
+            let folder = home.join("target/mismatches");
+            std::fs::create_dir_all(&folder)
+                .and_then(|()| std::fs::write(folder.join(&name), &file))
+                .map_err(|error| error.to_string())?;
+            println!("file {index}: {given:?}, saved as oracle/target/mismatches/{name}");
+        }
+    }
+    for (refusal, count) in &tally {
+        println!("{count} with `solve {refusal}`");
+    }
+    println!("{files} files, {mismatches} mismatches");
+    Ok(mismatches == 0)
+}
+
+/// The text, or how the program failed. The file is written in pieces, so that reads are short.
+fn printed(
+    program: &str,
+    file: &[u8],
+    random: &mut Random,
+) -> Result<Result<String, String>, String> {
+    let mut child = Command::new(program)
+        .stdin(Stdio::piped())
+        .stdout(Stdio::piped())
+        .spawn()
+        .map_err(|error| format!("{program}: {error}"))?;
+    let cut = random.below(file.len() + 1);
+    if let Some(mut input) = child.stdin.take() {
+        let _ = input.write_all(&file[..cut]).and_then(|()| input.write_all(&file[cut..]));
+    }
+    let start = Instant::now();
+    let status = loop {
+        match child.try_wait().map_err(|error| error.to_string())? {
+            Some(status) => break status,
+            None if start.elapsed() > LIMIT => {
+                let _ = child.kill();
+                let _ = child.wait();
+                return Ok(Err("it hangs".to_string()));
+            }
+            None => std::thread::sleep(Duration::from_micros(20)),
+        }
+    };
+    let mut text = String::new();
+    if let Some(mut output) = child.stdout.take() {
+        output.read_to_string(&mut text).map_err(|error| error.to_string())?;
+    }
+    Ok(if status.success() { Ok(text) } else { Err(status.to_string()) })
+}
