@@ -1,8 +1,8 @@
--- `small_check::zeros::is_clear` meets its contract. Assumes nothing.
+-- `check_alone::zeros::is_clear` meets its contract. Assumes nothing.
 use borrow.Author.Needs.{needs}
-use Rattle.small_check.specs.Checked.{clearOf}
-use Rattle.small_check.proofs.zeros.is_clear.Statement.{statement}
-use Rattle.small_check.proofs.zeros.is_clear.Tie as tie
+use Rattle.check_alone.specs.Checked.{clearOf}
+use Rattle.check_alone.proofs.zeros.is_clear.Statement.{statement}
+use Rattle.check_alone.proofs.zeros.is_clear.Tie as tie
 
 pub is-clear-spec : {M : Type 1} → statement M
 unfolding clearOf

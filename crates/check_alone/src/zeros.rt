@@ -1,7 +1,7 @@
 // Is the work memory +0.0 (integers 0)?
 ghost use mathlib.Core.Path.{_≡_};
 ghost use lib.Dec.{eqb};
-ghost use Rattle.small_check.specs.Checked.{zeroOf, zerosOf, zeroWordsOf, clearOf};
+ghost use Rattle.check_alone.specs.Checked.{zeroOf, zerosOf, zeroWordsOf, clearOf};
 
 fn zero(x: f64) -> bool
     ensures { λ r. ⌜ r ≡ zeroOf x ⌝ }

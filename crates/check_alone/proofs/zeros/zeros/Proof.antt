@@ -1,12 +1,12 @@
--- `small_check::zeros::zeros` meets its contract: the numbers below i are zeros. Assumes nothing.
+-- `check_alone::zeros::zeros` meets its contract: the numbers below i are zeros. Assumes nothing.
 use Prim.Native.Nat.{_-_}
 use lib.Ieee.{nan}
 use lib.ListN.{length, getD}
-use Rattle.small_check.specs.Checked.{zeroOf, zerosOf}
+use Rattle.check_alone.specs.Checked.{zeroOf, zerosOf}
 use Rattle.loops.proofs.Every.{called}
 use Rattle.loops.proofs.Every.{Holds}
-use Rattle.small_check.proofs.zeros.zeros.Statement.{statement}
-use Rattle.small_check.proofs.zeros.zeros.Tie as tie
+use Rattle.check_alone.proofs.zeros.zeros.Statement.{statement}
+use Rattle.check_alone.proofs.zeros.zeros.Tie as tie
 
 abbrev Inv-loop : tie.InvT-loop
 Inv-loop numbers i₀ i = Holds (λ k. zeroOf (getD numbers k nan)) (length numbers) i

@@ -1,11 +1,15 @@
-// The check, and what it leaves in its work memory.
+// The check: refusal 3 of what is lent, then the work memory, and what the check leaves in it.
 ghost use mathlib.Core.Path.{_≡_};
-ghost use Prim.Native.Nat.{_*_, _≤_};
-ghost use lib.ListN.{length};
+ghost use mathlib.Core.Bool.{true};
+ghost use Rattle.kapitsa_joint.specs.Table.{tableOf};
+ghost use Rattle.mass_operator.specs.Flat.{coefficients};
 ghost use Rattle.check_refusals.specs.Refusals.{tableLengths, workLengths};
+ghost use Rattle.check_answer.specs.Answer.{NumberMeaning};
 ghost use Rattle.check_work.specs.Work.{Room};
-ghost use Rattle.small_check.specs.Checked.{checkedOf};
+ghost use Rattle.check_alone.specs.Checked.{givenFits, checkedOf};
+use crate::fit::given_fits;
 use crate::zeros::is_clear;
+use check_refusals::TableLengths;
 use closing_check::closing_check;
 use kapitsa_joint::JointTolerance;
 
@@ -15,7 +19,7 @@ pub struct Found {
     pub cleared: bool,
 }
 
-// The slices are as long as the counts call for.
+// With all of the memory, as long as the counts call for.
 fn check_in(
     n: u32,
     b: u32,
@@ -34,7 +38,7 @@ fn check_in(
     sizes: &mut [f64],
 ) -> Found
     requires { ⌜ Room n b (tableLengths (now numbers) (now words) (now masses) (now multipliers)) (workLengths (now jacobians) (now links) (now «mass_sizes») (now «multiplier_sizes») (now impulses) (now responses) (now values) (now sizes)) ⌝ }
-    requires { ⌜ (n ≤ 8) × (b ≤ 4) ⌝ }
+    requires { ⌜ givenFits n b (tableLengths (now numbers) (now words) (now masses) (now multipliers)) ≡ true ⌝ }
     ensures { λ r. ⌜ r ≡ checkedOf n b (now (numbers .entry)) (now (words .entry)) (now (masses .entry)) (now (multipliers .entry)) tolerance ⌝ }
 {
     let answer = closing_check(
@@ -70,7 +74,8 @@ fn check_in(
     }
 }
 
-pub fn checked(
+// With memory for the largest table: 512 rows and 256 bodies.
+fn with_memory(
     n: u32,
     b: u32,
     numbers: &[f64],
@@ -79,18 +84,17 @@ pub fn checked(
     multipliers: &[f64],
     tolerance: JointTolerance,
 ) -> Found
-    requires { ⌜ (length (now numbers) ≡ 27 * n) × (length (now words) ≡ 8 * n) × (length (now masses) ≡ 10 * b) × (length (now multipliers) ≡ n) ⌝ }
-    requires { ⌜ (n ≤ 8) × (b ≤ 4) ⌝ }
+    requires { ⌜ givenFits n b (tableLengths (now numbers) (now words) (now masses) (now multipliers)) ≡ true ⌝ }
     ensures { λ r. ⌜ r ≡ checkedOf n b (now (numbers .entry)) (now (words .entry)) (now (masses .entry)) (now (multipliers .entry)) tolerance ⌝ }
 {
-    let mut jacobians: [f64; 96] = [0.0; 96];
-    let mut links: [u32; 16] = [0; 16];
-    let mut mass_sizes: [f64; 40] = [0.0; 40];
-    let mut multiplier_sizes: [f64; 8] = [0.0; 8];
-    let mut impulses: [f64; 24] = [0.0; 24];
-    let mut responses: [f64; 24] = [0.0; 24];
-    let mut values: [f64; 8] = [0.0; 8];
-    let mut sizes: [f64; 8] = [0.0; 8];
+    let mut jacobians: [f64; 6144] = [0.0; 6144];
+    let mut links: [u32; 1024] = [0; 1024];
+    let mut mass_sizes: [f64; 2560] = [0.0; 2560];
+    let mut multiplier_sizes: [f64; 512] = [0.0; 512];
+    let mut impulses: [f64; 1536] = [0.0; 1536];
+    let mut responses: [f64; 1536] = [0.0; 1536];
+    let mut values: [f64; 512] = [0.0; 512];
+    let mut sizes: [f64; 512] = [0.0; 512];
     let rows = n as usize;
     let bodies = b as usize;
     let row_numbers = 12 * rows;
@@ -114,4 +118,32 @@ pub fn checked(
         &mut values[..rows],
         &mut sizes[..rows],
     )
+}
+
+// A call refused by 3 uses no memory.
+pub fn checked(
+    n: u32,
+    b: u32,
+    numbers: &[f64],
+    words: &[u32],
+    masses: &[f64],
+    multipliers: &[f64],
+    tolerance: JointTolerance,
+) -> Found
+    ensures { λ r. ⌜ r ≡ checkedOf n b (now (numbers .entry)) (now (words .entry)) (now (masses .entry)) (now (multipliers .entry)) tolerance ⌝ }
+    ensures { λ r. ⌜ NumberMeaning (givenFits n b (tableLengths (now (numbers .entry)) (now (words .entry)) (now (masses .entry)) (now (multipliers .entry)))) (tableOf n b (now (numbers .entry)) (now (words .entry)) (now (masses .entry)) tolerance) (coefficients (now (multipliers .entry))) (r .answer) ⌝ }
+{
+    let table = TableLengths {
+        numbers: numbers.len(),
+        words: words.len(),
+        masses: masses.len(),
+        multipliers: multipliers.len(),
+    };
+    if !given_fits(n, b, table) {
+        return Found {
+            answer: 3,
+            cleared: true,
+        };
+    }
+    with_memory(n, b, numbers, words, masses, multipliers, tolerance)
 }

@@ -1,12 +1,12 @@
--- `small_check::zeros::zero_words` meets its contract: the words below i are zeros. Assumes nothing.
+-- `check_alone::zeros::zero_words` meets its contract: the words below i are zeros. Assumes nothing.
 use Prim.Native.Nat.{_-_}
 use lib.Dec.{eqb}
 use lib.ListN.{length, getD}
-use Rattle.small_check.specs.Checked.{zeroWordsOf}
+use Rattle.check_alone.specs.Checked.{zeroWordsOf}
 use Rattle.loops.proofs.Every.{called}
 use Rattle.loops.proofs.Every.{Holds}
-use Rattle.small_check.proofs.zeros.zero_words.Statement.{statement}
-use Rattle.small_check.proofs.zeros.zero_words.Tie as tie
+use Rattle.check_alone.proofs.zeros.zero_words.Statement.{statement}
+use Rattle.check_alone.proofs.zeros.zero_words.Tie as tie
 
 abbrev Inv-loop : tie.InvT-loop
 Inv-loop words i₀ i = Holds (λ k. eqb (getD words k 0) 0) (length words) i
