@@ -1,0 +1,2 @@
+-- Laws of the solve with its own memory.
+pub mod Lending
