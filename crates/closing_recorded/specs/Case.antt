@@ -8,8 +8,8 @@ use lib.ListN.{length}
 use Rattle.loops.specs.Run.{check}
 use Rattle.little_endian.specs.Words.{wordAt, doubleAt, doublesAt, halvesAt}
 use Rattle.kapitsa_joint.specs.declared.tolerance.JointTolerance.{JointTolerance}
-use Rattle.small_check.specs.Checked.{checkedOf}
-use Rattle.small_check.specs.declared.check.Found.{Found}
+use Rattle.check_alone.specs.Checked.{checkedOf}
+use Rattle.check_alone.specs.declared.check.Found.{Found}
 use Rattle.closing_recorded.specs.Tally.{malformed}
 use Rattle.closing_recorded.specs.declared.tally.Seen.{Seen}
 

@@ -4,13 +4,13 @@ ghost use Prim.Native.Nat.{_*_};
 ghost use lib.ListN.{length};
 ghost use Rattle.closing_recorded.specs.Case.{wellFormed, Formed, comparedOf, seenIn, seenOf};
 use crate::tally::Seen;
+use check_alone::Found;
+use check_alone::checked;
 use kapitsa_joint::JointTolerance;
 use little_endian::double;
 use little_endian::read_doubles;
 use little_endian::read_halves;
 use little_endian::word;
-use small_check::Found;
-use small_check::checked;
 
 // At most 8 rows and 4 bodies, and all of their words.
 fn well_formed(case: &[u8]) -> bool

@@ -27,4 +27,4 @@ read-in-spec =
     (λ c. (c .before .before .before .before .before .before .before .before .before .before .before .before .before .before .before .words) .given)  -- same-length-2
     (λ c. (c .before .before .before .before .before .before .before .before .before .before .before .masses) .given)  -- same-length-3
     (λ c. (c .before .before .before .before .before .before .before .multipliers) .given)  -- same-length-4
-    (λ c. seen-in _ _ _ ((c .before .before .before .before .before .before .before .before .before .before .before .before .before .before .before .before .before .before .before .before .before .before .before .before .before .before .before .before .before .before) .pre .1 .0) ((c .before .before .before .before .before .before .before .before .before .before .before .before .before .before .before .before .before .before .before .before .before .before .before .before .before .before .before .before .before .before) .pre .1 .1) ((c .before .before .before .before .before .before .before .before .before .before .before .before .before .before .before .before .before .before .before .before .before .before .before .before .before .before .before .before .before .before) .pre .1 .2) ((c .before .before .before .before .before .before .before .before .before .before .before .before .before .before .before .before .before .before .before .before .before .before .before .before .before .before .before .before .before .before) .pre .1 .3) ((c .before .before .before .before .before .before .before .before .before .before .before .before .before .before .before .before .before .before .before .before .read-doubles) .ensures) ((c .before .before .before .before .before .before .before .before .before .before .before .before .before .before .before .before .read-halves) .ensures) ((c .before .before .before .before .before .before .before .before .before .before .before .before .read-doubles2) .ensures) ((c .before .before .before .before .before .before .before .before .read-doubles3) .ensures) ((c .before .before .before .before .before .before .before .before .before .before .before .before .before .before .before .before .before .before .before .before .before .before .before .before .double) .ensures) ((c .before .before .before .before .before .before .before .before .before .before .before .before .before .before .before .before .before .before .before .before .before .before .before .double2) .ensures) ((c .before .checked) .ensures) ((c .before .before .before .before .before .before .before .before .before .before .before .before .before .before .before .before .before .before .before .before .before .before .word) .ensures) ((c .compared) .ensures)))  -- returns
+    (λ c. seen-in _ _ _ ((c .before .before .before .before .before .before .before .before .before .before .before .before .before .before .before .before .before .before .before .before .before .before .before .before .before .before .before .before .before .before) .pre .1 .0) ((c .before .before .before .before .before .before .before .before .before .before .before .before .before .before .before .before .before .before .before .before .before .before .before .before .before .before .before .before .before .before) .pre .1 .1) ((c .before .before .before .before .before .before .before .before .before .before .before .before .before .before .before .before .before .before .before .before .before .before .before .before .before .before .before .before .before .before) .pre .1 .2) ((c .before .before .before .before .before .before .before .before .before .before .before .before .before .before .before .before .before .before .before .before .before .before .before .before .before .before .before .before .before .before) .pre .1 .3) ((c .before .before .before .before .before .before .before .before .before .before .before .before .before .before .before .before .before .before .before .before .read-doubles) .ensures) ((c .before .before .before .before .before .before .before .before .before .before .before .before .before .before .before .before .read-halves) .ensures) ((c .before .before .before .before .before .before .before .before .before .before .before .before .read-doubles2) .ensures) ((c .before .before .before .before .before .before .before .before .read-doubles3) .ensures) ((c .before .before .before .before .before .before .before .before .before .before .before .before .before .before .before .before .before .before .before .before .before .before .before .before .double) .ensures) ((c .before .before .before .before .before .before .before .before .before .before .before .before .before .before .before .before .before .before .before .before .before .before .before .double2) .ensures) ((c .before .checked) .ensures .0) ((c .before .before .before .before .before .before .before .before .before .before .before .before .before .before .before .before .before .before .before .before .before .before .word) .ensures) ((c .compared) .ensures)))  -- returns

@@ -1,0 +1,2 @@
+-- The ways from a file to its sheet.
+pub mod Ways

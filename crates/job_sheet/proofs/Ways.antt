@@ -1,0 +1,166 @@
+-- The ways from a file to its sheet: refused, read, solved, listed. Assumes nothing.
+use Prim.Native.Nat.{ℕ, _+_, _*_, _<_, _≤_}
+use mathlib.Core.Path.{_≡_, refl, sym, ap, _∙_}
+use mathlib.Core.Bool.{Bool, true, false, _&&_}
+use mathlib.Core.List.{List, [], _∷_}
+use native.Mathlib.Omega.{arith}
+use lib.Dec.{leb}
+use lib.ListN.{length}
+use lib.Ieee.{Float}
+use borrow.Author.Tests.{leb-true, le-leb, eq-eqb}
+use Rattle.loops.specs.Run.{going, ended, on, check}
+use Rattle.loops.specs.Judge.{judge, test}
+use Rattle.loops.proofs.Loop.{on-going, on-ended}
+use Rattle.position_delivery.specs.Outcome.{Lent, Outcome, Answer, outcomeOf, resultOf, lentOf}
+use Rattle.position_delivery.specs.declared.answer.PositionPcgResult.{PositionPcgResult}
+use Rattle.position_delivery.specs.declared.answer.PositionPcg.{PositionPcg}
+use Rattle.position_delivery.specs.declared.answer.PositionPcg.the-variants as answers
+use Rattle.kapitsa_joint.specs.Table.{tableOf}
+use Rattle.preconditioner.specs.Mode.{modeOf}
+use Rattle.pcg.specs.Lengths as pcg
+use Rattle.pcg.specs.declared.fit.TableLengths as pcgLengths
+use Rattle.position_solve.specs.Job.{jobFits, JobSolved}
+use Rattle.check_refusals.specs.Refusals.{countsFit, tableFits, tableLengths}
+use Rattle.check_alone.specs.Checked.{givenFits, foundOf, checkedOf}
+use Rattle.check_alone.specs.declared.check.Found.{Found}
+use Rattle.job_file.specs.Refusals as refusals
+use Rattle.job_file.specs.File.{trailerOf, sectionNumbers, sectionWords, sectionMasses}
+use Rattle.job_file.specs.Job.{Job, jobWith, answerOf, openedOf, judgedOf}
+use Rattle.job_file.specs.declared.trailer.Trailer.{Trailer}
+use Rattle.job_file.specs.declared.judge.FileJudged.{FileJudged}
+use Rattle.job_file.specs.declared.judge.FileJudged.the-variants.{Passed, Refused}
+use Rattle.job_file.proofs.Judgement.{and-left, and-right, passed, rows-inside, masses-inside}
+use Rattle.job_file.proofs.Meaning.{passed-job, refused-job}
+use Rattle.listing.specs.Written.{Room, Wrote}
+use Rattle.listing.specs.Listing.{listingOf, refusedListing}
+use Rattle.listing.proofs.Joined.{wrote-as}
+use Rattle.listing.proofs.Length.{listing-room, refused-room}
+use Rattle.job_sheet.specs.Sheet.{tableIn, answerTo, closingOf, printedOf, answerSheet, jobSheet, sheetOf}
+use Rattle.job_sheet.specs.Room.{JobRoom}
+
+-- ---- the file
+
+module _ (file : List ℕ) {judged : FileJudged} (e : judged ≡ judgedOf file) where
+  -- refused by 1 to 4
+  pub sheet-refused : {n : ℕ} → judged ≡ Refused n → refusedListing n ≡ sheetOf file
+  unfolding sheetOf
+  sheet-refused {n} r = sym (on-ended _ _ _ (refused-job file n .0 (sym e ∙ r)))
+
+-- what 1 to 4 have passed, 1 to 3 have
+opened-too : (t u : Trailer) (a b c d : Bool) → answerOf t ((1, a) ∷ (2, b) ∷ (3, c) ∷ (4, d) ∷ []) ≡ Passed u → answerOf t ((1, a) ∷ (2, b) ∷ (3, c) ∷ []) ≡ Passed u
+unfolding answerOf judge test check on
+opened-too t u false b c d h = h
+opened-too t u true false c d h = h
+opened-too t u true true false d h = h
+opened-too t u true true true true h = h
+opened-too t u true true true false h = absurd (let z : _≡_ {A = ℕ} 0 1 = cc in omega arith)
+
+module _ (file : List ℕ) (t : Trailer) (h : judgedOf file ≡ Passed t) where
+  opened : openedOf file ≡ Passed t
+  unfolding judgedOf openedOf
+  opened = opened-too _ _ _ _ _ _ h
+
+  same : t ≡ trailerOf file
+  same = passed file refl opened .same
+
+  limits : (leb (trailerOf file .rows) 128 && leb (trailerOf file .bodies) 64) ≡ true
+  unfolding refusals.passes2 refusals.sectionsFit refusals.limitsFit
+  limits = and-left (refusals.limitsFit (trailerOf file)) (refusals.apart (trailerOf file)) (and-left (refusals.limitsFit (trailerOf file) && refusals.apart (trailerOf file)) _ (passed file refl opened .two))
+
+  -- the counts and the mode
+  pub rows-few : t .rows ≤ 128
+  rows-few = rw same (leb-true _ _ (and-left (leb (trailerOf file .rows) 128) (leb (trailerOf file .bodies) 64) limits))
+
+  pub bodies-few : t .bodies ≤ 64
+  bodies-few = rw same (leb-true _ _ (and-right (leb (trailerOf file .rows) 128) (leb (trailerOf file .bodies) 64) limits))
+
+  pub mode-small : t .mode ≤ 2
+  unfolding refusals.passes3 refusals.countsFit
+  mode-small = rw same (leb-true _ _ (and-right (leb (trailerOf file .rows) 512 && leb (trailerOf file .bodies) 256) (leb (trailerOf file .mode) 2) (passed file refl opened .three)))
+
+  -- the sections
+  pub rows-held : t .«row_offset» + 248 * t .rows ≤ length file
+  rows-held = rows-inside file refl opened
+
+  pub masses-held : t .«mass_offset» + 80 * t .bodies ≤ length file
+  masses-held = masses-inside file refl opened
+
+  -- what is read is the job
+  pub sheet-read : {numbers : List Float} {words : List ℕ} {masses : List Float} → numbers ≡ sectionNumbers file (t .«row_offset») (t .rows) → words ≡ sectionWords file (t .«row_offset») (t .rows) → masses ≡ sectionMasses file (t .«mass_offset») (t .bodies)
+      → jobSheet (jobWith t numbers words masses) ≡ sheetOf file
+  unfolding sheetOf
+  sheet-read p q r =
+      rw (p ∙ ap (λ (t : Trailer). sectionNumbers file (t .«row_offset») (t .rows)) same, q ∙ ap (λ (t : Trailer). sectionWords file (t .«row_offset») (t .rows)) same, r ∙ ap (λ (t : Trailer). sectionMasses file (t .«mass_offset») (t .bodies)) same)
+      (sym (on-going _ _ _ (passed-job file h)))
+
+-- ---- the memory
+
+module _ {t : Trailer} {numbers words masses solution impulses : ℕ} (r : JobRoom t numbers words masses solution impulses) where
+  pub solve-fits : jobFits (t .rows) (t .bodies) (t .mode) (record { numbers = numbers; words = words; masses = masses; solution = solution; impulses = impulses }) ≡ true
+  unfolding jobFits pcg.countsFit pcg.tableFits
+  solve-fits = let n = r .few-rows in let b = r .few-bodies in
+      rw (le-leb (t .rows) 512 (omega arith), le-leb (t .bodies) 256 (omega arith), le-leb (t .mode) 2 (r .mode-known), eq-eqb _ _ (r .numbers-long), eq-eqb _ _ (r .words-long), eq-eqb _ _ (r .masses-long), eq-eqb _ _ (r .solution-long), eq-eqb _ _ (r .impulses-long))
+
+  pub check-fits : givenFits (t .rows) (t .bodies) (record { numbers = numbers; words = words; masses = masses; multipliers = solution }) ≡ true
+  unfolding givenFits countsFit tableFits
+  check-fits = let n = r .few-rows in let b = r .few-bodies in
+      rw (le-leb (t .rows) 512 (omega arith), le-leb (t .bodies) 256 (omega arith), eq-eqb _ _ (r .numbers-long), eq-eqb _ _ (r .words-long), eq-eqb _ _ (r .masses-long), eq-eqb _ _ (r .solution-long))
+
+-- the lent slices keep their lengths
+pub room-after : {t : Trailer} {numbers words masses solution impulses numbers′ words′ masses′ solution′ impulses′ : ℕ} → JobRoom t numbers words masses solution impulses
+    → numbers′ ≡ numbers → words′ ≡ words → masses′ ≡ masses → solution′ ≡ solution → impulses′ ≡ impulses → JobRoom t numbers′ words′ masses′ solution′ impulses′
+room-after r a b c d e = rw (a, b, c, d, e) r
+
+-- ---- the check
+
+pub closing-is : (t : Trailer) (numbers : List Float) (words : List ℕ) (masses solution impulses : List Float) {found : Found} → JobRoom t (length numbers) (length words) (length masses) (length solution) (length impulses)
+    → found ≡ checkedOf (t .rows) (t .bodies) numbers words masses solution (t .tolerance) → found .answer ≡ closingOf (jobWith t numbers words masses) numbers solution
+unfolding closingOf foundOf
+closing-is t numbers words masses solution impulses r e = rw (e, check-fits r)
+
+pub printed-is : (t : Trailer) (r : PositionPcgResult) (numbers : List Float) (words : List ℕ) (masses solution impulses : List Float) {found : Found} → JobRoom t (length numbers) (length words) (length masses) (length solution) (length impulses)
+    → found ≡ checkedOf (t .rows) (t .bodies) numbers words masses solution (t .tolerance)
+    → listingOf (r .iterations) (r .converged) (r .«linear_residual_m») (r .«angular_residual_rad») (found .answer) (t .rows) (t .bodies) numbers impulses ≡ printedOf (jobWith t numbers words masses) r numbers solution impulses
+unfolding printedOf
+printed-is t r numbers words masses solution impulses room e = ap (λ v. listingOf (r .iterations) (r .converged) (r .«linear_residual_m») (r .«angular_residual_rad») v (t .rows) (t .bodies) numbers impulses) (closing-is t numbers words masses solution impulses room e)
+
+-- ---- the solve
+
+accepted-same : {r s : PositionPcgResult} → answers.Accepted r ≡ answers.Accepted s → s ≡ r
+accepted-same e = cc
+
+refused-same : {n m : ℕ} → answers.Refused n ≡ answers.Refused m → m ≡ n
+refused-same e = cc
+
+-- the answer's case is that of the solve
+never : {X : Type 0} {r : PositionPcgResult} {n : ℕ} → answers.Accepted r ≡ answers.Refused n → X
+never e = absurd (let z : _≡_ {A = ℕ} 0 1 = cc in omega arith)
+
+module _ (j : Job) (solution impulses : List Float) where
+  abbrev before : Lent
+  before = record { numbers = j .numbers; solution = solution; impulses = impulses }
+
+  accepted-in : (a : Answer) {r : PositionPcgResult} {after : Lent} → outcomeOf (j .rows) before a ≡ record { answer = answers.Accepted r; lent = after } → printedOf j r (after .numbers) (after .solution) (after .impulses) ≡ answerSheet j a
+  unfolding outcomeOf answerSheet
+  accepted-in (going ((flag, count, v), f)) e = let p = accepted-same (ap (λ (o : Outcome). o .answer) e) in let q = ap (λ (o : Outcome). o .lent) e in rw (p, ← q)
+  accepted-in (ended n) e = never (sym (ap (λ (o : Outcome). o .answer) e))
+
+  refused-in : (a : Answer) {n : ℕ} {after : Lent} → outcomeOf (j .rows) before a ≡ record { answer = answers.Refused n; lent = after } → refusedListing n ≡ answerSheet j a
+  unfolding outcomeOf answerSheet
+  refused-in (going ((flag, count, v), f)) e = never (ap (λ (o : Outcome). o .answer) e)
+  refused-in (ended n) e = ap refusedListing (refused-same (ap (λ (o : Outcome). o .answer) e))
+
+module _ (t : Trailer) (numbers : List Float) (words : List ℕ) (masses solution impulses : List Float) {fits : Bool} (f : fits ≡ true) {answer : PositionPcg} {after : Lent}
+    (s : JobSolved fits (tableOf (t .rows) (t .bodies) numbers words masses (t .tolerance)) (modeOf (t .mode)) (t .limit) (t .rows) (record { numbers = numbers; solution = solution; impulses = impulses }) after answer) where
+  solved : outcomeOf (t .rows) (record { numbers = numbers; solution = solution; impulses = impulses }) (answerTo (jobWith t numbers words masses)) ≡ record { answer = answer; lent = after }
+  unfolding answerTo
+  solved = rw (← f) (s .answered)
+
+  pub job-refused : {n : ℕ} → answer ≡ answers.Refused n → refusedListing n ≡ jobSheet (jobWith t numbers words masses)
+  unfolding jobSheet
+  job-refused {n} e = refused-in (jobWith t numbers words masses) solution impulses (answerTo (jobWith t numbers words masses)) (solved ∙ ap (λ a. record { answer = a; lent = after }) e)
+
+  -- the job's own numbers do not matter to what is printed
+  pub job-accepted : {r : PositionPcgResult} (rows : List Float) → answer ≡ answers.Accepted r → printedOf (jobWith t rows words masses) r (after .numbers) (after .solution) (after .impulses) ≡ jobSheet (jobWith t numbers words masses)
+  unfolding jobSheet printedOf closingOf
+  job-accepted {r} rows e = accepted-in (jobWith t numbers words masses) solution impulses (answerTo (jobWith t numbers words masses)) (solved ∙ ap (λ a. record { answer = a; lent = after }) e)

@@ -1,0 +1,49 @@
+// An accepted job: the closing check of its solution, and the listing.
+ghost use Prim.Native.Nat.{_≤_};
+ghost use lib.ListN.{length};
+ghost use Rattle.job_file.specs.Job.{jobWith};
+ghost use Rattle.listing.specs.Written.{Wrote};
+ghost use Rattle.job_sheet.specs.Sheet.{printedOf};
+ghost use Rattle.job_sheet.specs.Room.{JobRoom};
+use check_alone::checked;
+use job_file::Trailer;
+use listing::write_listing;
+use position_delivery::PositionPcgResult;
+
+// The rows are those after the solve, and the solution is what the check gets for its multipliers.
+pub fn write_accepted(
+    trailer: Trailer,
+    result: PositionPcgResult,
+    numbers: &[f64],
+    words: &[u32],
+    masses: &[f64],
+    solution: &[f64],
+    impulses: &[f64],
+    out: &mut [u8],
+) -> usize
+    requires { ⌜ JobRoom trailer (length (now numbers)) (length (now words)) (length (now masses)) (length (now solution)) (length (now impulses)) ⌝ }
+    requires { ⌜ 16384 ≤ length (now out) ⌝ }
+    ensures { λ r. ⌜ Wrote (now (out .entry)) 0 (printedOf (jobWith trailer (now (numbers .entry)) (now (words .entry)) (now (masses .entry))) result (now (numbers .entry)) (now (solution .entry)) (now (impulses .entry))) (now (out .exit)) r ⌝ }
+{
+    let found = checked(
+        trailer.rows,
+        trailer.bodies,
+        numbers,
+        words,
+        masses,
+        solution,
+        trailer.tolerance,
+    );
+    write_listing(
+        result.iterations,
+        result.converged,
+        result.linear_residual_m,
+        result.angular_residual_rad,
+        found.answer,
+        trailer.rows,
+        trailer.bodies,
+        numbers,
+        impulses,
+        out,
+    )
+}

@@ -1,0 +1,5 @@
+// The sheet of a job: what the job program prints of a file.
+pub mod accepted; // accepted.rt: an accepted job, checked and listed
+pub mod sheet; // sheet.rt: the file judged and read, and its job solved
+
+pub use sheet::write_sheet;

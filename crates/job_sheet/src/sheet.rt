@@ -1,0 +1,127 @@
+// The file judged and read, its job solved, and the answer written.
+ghost use mathlib.Core.Path.{_≡_};
+ghost use Prim.Native.Nat.{_≤_};
+ghost use lib.ListN.{length};
+ghost use Rattle.job_file.specs.Job.{jobWith, judgedOf};
+ghost use Rattle.job_file.specs.declared.judge.FileJudged.the-variants.{Passed};
+ghost use Rattle.listing.specs.Written.{Wrote};
+ghost use Rattle.job_sheet.specs.Sheet.{jobSheet, sheetOf};
+ghost use Rattle.job_sheet.specs.Room.{JobRoom};
+use crate::accepted::write_accepted;
+use job_file::FileJudged;
+use job_file::Trailer;
+use job_file::judge_file;
+use job_file::read_masses;
+use job_file::read_numbers;
+use job_file::read_words;
+use listing::write_refusal;
+use position_delivery::PositionPcg;
+use position_solve::solve_position;
+
+// A job that has been read.
+fn write_job(
+    trailer: Trailer,
+    numbers: &mut [f64],
+    words: &[u32],
+    masses: &[f64],
+    solution: &mut [f64],
+    impulses: &mut [f64],
+    out: &mut [u8],
+) -> usize
+    requires { ⌜ JobRoom trailer (length (now numbers)) (length (now words)) (length (now masses)) (length (now solution)) (length (now impulses)) ⌝ }
+    requires { ⌜ 16384 ≤ length (now out) ⌝ }
+    ensures { λ r. ⌜ Wrote (now (out .entry)) 0 (jobSheet (jobWith trailer (now (numbers .entry)) (now (words .entry)) (now (masses .entry)))) (now (out .exit)) r ⌝ }
+{
+    let answer = solve_position(
+        numbers,
+        words,
+        masses,
+        trailer.rows,
+        trailer.bodies,
+        trailer.tolerance,
+        trailer.limit,
+        trailer.mode,
+        solution,
+        impulses,
+    );
+    match answer {
+        PositionPcg::Refused(number) => write_refusal(number, out),
+        PositionPcg::Accepted(result) => write_accepted(
+            trailer,
+            result,
+            numbers,
+            words,
+            masses,
+            solution,
+            impulses,
+            out,
+        ),
+    }
+}
+
+// A file that has passed 1 to 4, with memory as long as its counts call for.
+fn write_file(
+    file: &[u8],
+    trailer: Trailer,
+    numbers: &mut [f64],
+    words: &mut [u32],
+    masses: &mut [f64],
+    solution: &mut [f64],
+    impulses: &mut [f64],
+    out: &mut [u8],
+) -> usize
+    requires { ⌜ judgedOf (now file) ≡ Passed trailer ⌝ }
+    requires { ⌜ JobRoom trailer (length (now numbers)) (length (now words)) (length (now masses)) (length (now solution)) (length (now impulses)) ⌝ }
+    requires { ⌜ 16384 ≤ length (now out) ⌝ }
+    ensures { λ r. ⌜ Wrote (now (out .entry)) 0 (sheetOf (now (file .entry))) (now (out .exit)) r ⌝ }
+{
+    let rows = trailer.rows as usize;
+    let bodies = trailer.bodies as usize;
+    let row_offset = trailer.row_offset as usize;
+    let mass_offset = trailer.mass_offset as usize;
+    read_numbers(file, row_offset, rows, numbers);
+    read_words(file, row_offset, rows, words);
+    read_masses(file, mass_offset, bodies, masses);
+    write_job(trailer, numbers, words, masses, solution, impulses, out)
+}
+
+// Memory for what the program takes: 128 rows and 64 bodies.
+fn write_passed(file: &[u8], trailer: Trailer, out: &mut [u8]) -> usize
+    requires { ⌜ judgedOf (now file) ≡ Passed trailer ⌝ }
+    requires { ⌜ 16384 ≤ length (now out) ⌝ }
+    ensures { λ r. ⌜ Wrote (now (out .entry)) 0 (sheetOf (now (file .entry))) (now (out .exit)) r ⌝ }
+{
+    let mut numbers: [f64; 3456] = [0.0; 3456];
+    let mut words: [u32; 1024] = [0; 1024];
+    let mut masses: [f64; 640] = [0.0; 640];
+    let mut solution: [f64; 128] = [0.0; 128];
+    let mut impulses: [f64; 384] = [0.0; 384];
+    let rows = trailer.rows as usize;
+    let bodies = trailer.bodies as usize;
+    let row_numbers = 27 * rows;
+    let row_words = 8 * rows;
+    let mass_numbers = 10 * bodies;
+    let body_numbers = 6 * bodies;
+    write_file(
+        file,
+        trailer,
+        &mut numbers[..row_numbers],
+        &mut words[..row_words],
+        &mut masses[..mass_numbers],
+        &mut solution[..rows],
+        &mut impulses[..body_numbers],
+        out,
+    )
+}
+
+// Writes what the job program prints of the file from the first byte on, and returns its length.
+pub fn write_sheet(file: &[u8], out: &mut [u8]) -> usize
+    requires { ⌜ 16384 ≤ length (now out) ⌝ }
+    ensures { λ r. ⌜ Wrote (now (out .entry)) 0 (sheetOf (now (file .entry))) (now (out .exit)) r ⌝ }
+{
+    let judged = judge_file(file);
+    match judged {
+        FileJudged::Refused(number) => write_refusal(number, out),
+        FileJudged::Passed(trailer) => write_passed(file, trailer, out),
+    }
+}
