@@ -21,14 +21,14 @@ int main(void)
     uint32_t *work_words = calloc(kapitsa_words(1), sizeof *work_words);
     if (!work || !work_words)
         return 1;
-    uint32_t refusal = kapitsa_solve_in(numbers, words, masses, 0.001, 0.001, 1, 2, 4, 0,
-                                        solution, impulses, counts, maxima, work, work_words);
+    uint32_t refusal = kapitsa_solve_in(numbers, 27, words, 8, masses, 20, 0.001, 0.001, 1, 2, 4, 0,
+                                        solution, 1, impulses, 12, counts, maxima, work, work_words);
     if (refusal) {
         printf("refused by %u\n", refusal);
         return 1;
     }
-    uint32_t verdict = kapitsa_check_in(numbers, words, masses, 0.001, 0.001, 1, 2, solution,
-                                        work, work_words);
+    uint32_t verdict = kapitsa_check_in(numbers, 27, words, 8, masses, 20, 0.001, 0.001, 1, 2,
+                                        solution, 1, work, work_words);
     printf("count %u, flag %u\n", counts[0], counts[1]);
     printf("multiplier %g, verdict %u\n", numbers[24], verdict);
     free(work);

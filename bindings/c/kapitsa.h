@@ -90,18 +90,17 @@ static inline size_t kapitsa_words(size_t n)
     return 6 * n + 3 * p + 1;
 }
 
-/* The tables have as many rows and bodies as the counts say; doubles and words are as long as
-   kapitsa_doubles and kapitsa_words say. More than 512 rows or 256 bodies: refused by 3. */
+/* The same, with doubles and words as long as kapitsa_doubles and kapitsa_words say for the
+   counts (at 512 rows and 256 bodies at the most: more are refused by 3). */
 static inline uint32_t kapitsa_solve_in(
-    double *numbers, const uint32_t *row_words, const double *masses,
+    double *numbers, size_t numbers_len, const uint32_t *row_words, size_t row_words_len,
+    const double *masses, size_t masses_len,
     double linear_tolerance, double angular_tolerance,
     uint32_t rows, uint32_t bodies, uint32_t limit, uint32_t mode,
-    double *solution, double *impulses, uint32_t counts[2], double maxima[2],
-    double *doubles, uint32_t *words)
+    double *solution, size_t solution_len, double *impulses, size_t impulses_len,
+    uint32_t counts[2], double maxima[2], double *doubles, uint32_t *words)
 {
-    size_t n = rows, b = bodies, p = kapitsa_pairs(n);
-    if (n > 512 || b > 256)
-        return 3;
+    size_t n = rows < 512 ? rows : 512, b = bodies < 256 ? bodies : 256, p = kapitsa_pairs(n);
     double *jacobians = doubles; doubles += 12 * n;
     uint32_t *links = words; words += 2 * n;
     uint32_t *owners = words; words += n;
@@ -123,8 +122,9 @@ static inline uint32_t kapitsa_solve_in(
     uint32_t *homes = words; words += p;
     double *blocks = doubles; doubles += 36 * n;
     return kapitsa_solve_position(
-        numbers, 27 * n, row_words, 8 * n, masses, 10 * b, linear_tolerance, angular_tolerance,
-        rows, bodies, limit, mode, solution, n, impulses, 6 * b, counts, 2, maxima, 2,
+        numbers, numbers_len, row_words, row_words_len, masses, masses_len,
+        linear_tolerance, angular_tolerance, rows, bodies, limit, mode,
+        solution, solution_len, impulses, impulses_len, counts, 2, maxima, 2,
         jacobians, 12 * n,
         links, 2 * n,
         owners, n,
@@ -148,13 +148,13 @@ static inline uint32_t kapitsa_solve_in(
 }
 
 static inline uint32_t kapitsa_check_in(
-    const double *numbers, const uint32_t *row_words, const double *masses,
+    const double *numbers, size_t numbers_len, const uint32_t *row_words, size_t row_words_len,
+    const double *masses, size_t masses_len,
     double linear_tolerance, double angular_tolerance,
-    uint32_t rows, uint32_t bodies, const double *multipliers, double *doubles, uint32_t *words)
+    uint32_t rows, uint32_t bodies, const double *multipliers, size_t multipliers_len,
+    double *doubles, uint32_t *words)
 {
-    size_t n = rows, b = bodies;
-    if (n > 512 || b > 256)
-        return 3;
+    size_t n = rows < 512 ? rows : 512, b = bodies < 256 ? bodies : 256;
     double *jacobians = doubles; doubles += 12 * n;
     uint32_t *links = words; words += 2 * n;
     double *mass_sizes = doubles; doubles += 10 * b;
@@ -164,8 +164,8 @@ static inline uint32_t kapitsa_check_in(
     double *values = doubles; doubles += n;
     double *sizes = doubles; doubles += n;
     return kapitsa_closing_check(
-        numbers, 27 * n, row_words, 8 * n, masses, 10 * b, linear_tolerance, angular_tolerance,
-        rows, bodies, multipliers, n,
+        numbers, numbers_len, row_words, row_words_len, masses, masses_len,
+        linear_tolerance, angular_tolerance, rows, bodies, multipliers, multipliers_len,
         jacobians, 12 * n,
         links, 2 * n,
         mass_sizes, 10 * b,

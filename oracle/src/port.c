@@ -15,80 +15,16 @@ void oracle_solve_position(
     double *solution, size_t solution_len, double *impulses, size_t impulses_len,
     uint64_t *answer, size_t answer_len)
 {
-    size_t n = rows < ROWS ? rows : ROWS, b = bodies < BODIES ? bodies : BODIES;
-    size_t p = kapitsa_pairs(n);
     uint32_t counts[2] = {0, 0};
+    double maxima[2] = {0.0, 0.0};
+    uint32_t refusal = kapitsa_solve_in(
+        numbers, numbers_len, words, words_len, masses, masses_len, linear_tolerance,
+        angular_tolerance, rows, bodies, limit, mode, solution, solution_len, impulses,
+        impulses_len, counts, maxima, doubles, words_memory);
     union {
         double number;
         uint64_t bits;
-    } maximum[2] = {{0.0}, {0.0}};
-    double maxima[2] = {0.0, 0.0};
-    double *d = doubles;
-    uint32_t *w = words_memory;
-    double *jacobians = d;
-    d += 12 * n;
-    uint32_t *links = w;
-    w += 2 * n;
-    uint32_t *owners = w;
-    w += n;
-    double *diagonal = d;
-    d += n;
-    double *residual = d;
-    d += n;
-    double *pending = d;
-    d += n;
-    double *preconditioned = d;
-    d += n;
-    double *direction = d;
-    d += n;
-    double *product = d;
-    d += n;
-    double *body_impulses = d;
-    d += 6 * b;
-    double *body_responses = d;
-    d += 6 * b;
-    uint32_t *starts = w;
-    w += n + 1;
-    uint32_t *columns = w;
-    w += p;
-    double *values = d;
-    d += p;
-    double *pivots = d;
-    d += n;
-    uint32_t *marks = w;
-    w += n;
-    uint32_t *heads = w;
-    w += n;
-    uint32_t *nexts = w;
-    w += p;
-    uint32_t *homes = w;
-    w += p;
-    double *blocks = d;
-    d += 36 * n;
-    uint32_t refusal = kapitsa_solve_position(
-        numbers, numbers_len, words, words_len, masses, masses_len, linear_tolerance,
-        angular_tolerance, rows, bodies, limit, mode, solution, solution_len, impulses,
-        impulses_len, counts, 2, maxima, 2,
-        jacobians, 12 * n,
-        links, 2 * n,
-        owners, n,
-        diagonal, n,
-        residual, n,
-        pending, n,
-        preconditioned, n,
-        direction, n,
-        product, n,
-        body_impulses, 6 * b,
-        body_responses, 6 * b,
-        starts, n + 1,
-        columns, p,
-        values, p,
-        pivots, n,
-        marks, n,
-        heads, n,
-        nexts, p,
-        homes, p,
-        blocks, 36 * n);
+    } maximum[2];
     maximum[0].number = maxima[0];
     maximum[1].number = maxima[1];
     if (answer_len == 5) {
@@ -106,36 +42,9 @@ void oracle_closing_check(
     uint32_t rows, uint32_t bodies, const double *multipliers, size_t multipliers_len,
     uint64_t *answer, size_t answer_len)
 {
-    size_t n = rows < ROWS ? rows : ROWS, b = bodies < BODIES ? bodies : BODIES;
-    double *d = doubles;
-    uint32_t *w = words_memory;
-    double *jacobians = d;
-    d += 12 * n;
-    uint32_t *links = w;
-    w += 2 * n;
-    double *mass_sizes = d;
-    d += 10 * b;
-    double *multiplier_sizes = d;
-    d += n;
-    double *impulses = d;
-    d += 6 * b;
-    double *responses = d;
-    d += 6 * b;
-    double *values = d;
-    d += n;
-    double *sizes = d;
-    d += n;
-    uint32_t found = kapitsa_closing_check(
+    uint32_t found = kapitsa_check_in(
         numbers, numbers_len, words, words_len, masses, masses_len, linear_tolerance,
-        angular_tolerance, rows, bodies, multipliers, multipliers_len,
-        jacobians, 12 * n,
-        links, 2 * n,
-        mass_sizes, 10 * b,
-        multiplier_sizes, n,
-        impulses, 6 * b,
-        responses, 6 * b,
-        values, n,
-        sizes, n);
+        angular_tolerance, rows, bodies, multipliers, multipliers_len, doubles, words_memory);
     if (answer_len == 2) {
         answer[0] = found < 2 ? 0 : found;
         answer[1] = found == 1;
