@@ -1,19 +1,19 @@
 -- The pattern while it is gathered: columns tried one by one, rows put one behind the other. Assumes nothing.
-use Prim.Native.Nat.{ℕ, zero, suc, _+_, _*_, _-_, _<_, _≤_}
+use Prim.Native.Nat.{ℕ, zero, suc, _+_, _*_, _-_, _%_, _<_, _≤_}
 use mathlib.Core.Path.{_≡_, refl, sym, ap, _∙_}
-use mathlib.Core.Bool.{Bool, true, false, not, cond}
+use mathlib.Core.Bool.{Bool, true, false, not, cond, _||_}
 use mathlib.Core.List.{List}
 use native.Mathlib.Decide.{ℕ-discrete, le-ind}
 use native.Mathlib.Numerals.{add-one}
 use native.Mathlib.Omega.{arith}
-use lib.Dec.{ltb}
+use lib.Dec.{eqb, ltb}
 use lib.ListN.{getD, set, length, length-set}
 use lib.Seq.{getD-set-same, getD-set-other}
 use borrow.Author.Tests.{lt-ltb, le-ltb, not-true, not-false, ltb-true, ltb-false}
 use Rattle.loops.specs.Run.{check}
 use Rattle.sparse.specs.Kept.{start, Rising, Missing}
 use Rattle.pairs.specs.Pairs.{rowPairs, pairCount}
-use Rattle.pairs.specs.Gather.{sharesIn, shareIn, triedOf, triedColumns, Part, RowPart, RowDone, Stored, Gathering}
+use Rattle.pairs.specs.Gather.{sharesIn, eightShare, eightApart, shareIn, triedOf, triedColumns, Part, RowPart, RowDone, Stored, Gathering}
 use Rattle.pairs.specs.declared.pattern.Gathered.{Gathered}
 use Rattle.pairs.specs.declared.pattern.Gathered.the-variants.{Done, Full}
 
@@ -174,6 +174,65 @@ module _ (links columns₀ columns : List ℕ) (i a b first p m room : ℕ) (r :
     done = λ q u. absurd (let v : _≡_ {A = ℕ} 0 1 = cc in omega arith);
     full = λ _. spilled (sharesIn links a b m) (ltb p room) (shares-same links i a b m z) refl h l (sym e ∙ t);
   }
+
+-- ---- eight columns passed over
+or-none : (x y : Bool) → (x || y) ≡ false → (x ≡ false) × (y ≡ false)
+or-none false y e = (refl, e)
+or-none true y e = absurd (let v : _≡_ {A = ℕ} 0 1 = cc in omega arith)
+
+pub eight-long : (i m : ℕ) → (not (eqb (m % 8) 0) || ltb (i - m) 8) ≡ false → 8 ≤ i - m
+eight-long i m e = ltb-false (i - m) 8 (or-none (not (eqb (m % 8) 0)) (ltb (i - m) 8) e .1)
+
+module _ (links : List ℕ) (i a b m w : ℕ) (ew : w ≡ m) where
+  pub eight-few : (not (eqb (m % 8) 0) || ltb (i - m) 8) ≡ true → false ≡ eightApart links i a b m
+  unfolding eightApart
+  eight-few l = rw l
+
+  pub eight-more : (r : Bool) → (not (eqb (m % 8) 0) || ltb (i - m) 8) ≡ false → r ≡ eightShare links a b w → not r ≡ eightApart links i a b m
+  unfolding eightApart
+  eight-more r l e = rw (l, ← ew, e)
+
+module _ (links : List ℕ) (i a b m : ℕ) where
+  apart-test : (s t : Bool) → (not (eqb (m % 8) 0) || ltb (i - m) 8) ≡ s → eightShare links a b m ≡ t → eightApart links i a b m ≡ true → (s ≡ false) × (t ≡ false)
+  unfolding eightApart
+  apart-test s t es et e = both s t (rw (es, et) at e)
+    where
+      both : (s t : Bool) → cond s false (not t) ≡ true → (s ≡ false) × (t ≡ false)
+      both true t e = absurd (let v : _≡_ {A = ℕ} 0 1 = cc in omega arith)
+      both false true e = absurd (let v : _≡_ {A = ℕ} 0 1 = cc in omega arith)
+      both false false e = (refl, refl)
+
+  test : (r : Bool) → r ≡ eightApart links i a b m → r ≡ true → ((not (eqb (m % 8) 0) || ltb (i - m) 8) ≡ false) × (eightShare links a b m ≡ false)
+  test r e h = apart-test (not (eqb (m % 8) 0) || ltb (i - m) 8) (eightShare links a b m) refl refl (sym e ∙ h)
+
+  pub eight-within : (r : Bool) → r ≡ eightApart links i a b m → r ≡ true → m + 8 ≤ i
+  eight-within r e h = let l = eight-long i m (test r e h .0) in omega arith
+
+  module _ (columns₀ columns : List ℕ) (first p : ℕ) (z : Bodies links i a b) where
+    row-on : (k n : ℕ) → n ≡ k + 1 → RowPart (shareIn links) columns₀ columns i first p k → sharesIn links a b k ≡ false → RowPart (shareIn links) columns₀ columns i first p n
+    row-on k n e h s = rw e (record { long = h .long; before = h .before; part = part-skip (h .part) (shares-same links i a b k z ∙ s); room = h .room })
+
+    passed-over : RowPart (shareIn links) columns₀ columns i first p m → eightShare links a b m ≡ false → RowPart (shareIn links) columns₀ columns i first p (m + 8)
+    unfolding eightShare
+    passed-over h e =
+        let (l, u) = or-none (((sharesIn links a b m || sharesIn links a b (m + 1)) || sharesIn links a b (m + 2)) || sharesIn links a b (m + 3)) (((sharesIn links a b (m + 4) || sharesIn links a b (m + 5)) || sharesIn links a b (m + 6)) || sharesIn links a b (m + 7)) e in
+        let (l2, s3) = or-none ((sharesIn links a b m || sharesIn links a b (m + 1)) || sharesIn links a b (m + 2)) (sharesIn links a b (m + 3)) l in
+        let (l1, s2) = or-none (sharesIn links a b m || sharesIn links a b (m + 1)) (sharesIn links a b (m + 2)) l2 in
+        let (s0, s1) = or-none (sharesIn links a b m) (sharesIn links a b (m + 1)) l1 in
+        let (u2, s7) = or-none ((sharesIn links a b (m + 4) || sharesIn links a b (m + 5)) || sharesIn links a b (m + 6)) (sharesIn links a b (m + 7)) u in
+        let (u1, s6) = or-none (sharesIn links a b (m + 4) || sharesIn links a b (m + 5)) (sharesIn links a b (m + 6)) u2 in
+        let (s4, s5) = or-none (sharesIn links a b (m + 4)) (sharesIn links a b (m + 5)) u1 in
+        let r1 = row-on m (m + 1) refl h s0 in
+        let r2 = row-on (m + 1) (m + 2) (omega arith) r1 s1 in
+        let r3 = row-on (m + 2) (m + 3) (omega arith) r2 s2 in
+        let r4 = row-on (m + 3) (m + 4) (omega arith) r3 s3 in
+        let r5 = row-on (m + 4) (m + 5) (omega arith) r4 s4 in
+        let r6 = row-on (m + 5) (m + 6) (omega arith) r5 s5 in
+        let r7 = row-on (m + 6) (m + 7) (omega arith) r6 s6 in
+        row-on (m + 7) (m + 8) (omega arith) r7 s7
+
+    pub row-eight : (r : Bool) → RowPart (shareIn links) columns₀ columns i first p m → r ≡ eightApart links i a b m → r ≡ true → RowPart (shareIn links) columns₀ columns i first p (m + 8)
+    row-eight r h e t = passed-over h (test r e t .1)
 
 pub row-done : (links columns₀ columns : List ℕ) (i first p j room : ℕ) → RowPart (shareIn links) columns₀ columns i first p j → j ≤ i → i ≤ j → RowDone (Done p) (shareIn links) columns₀ columns i first room
 row-done links columns₀ columns i first p j room h l l′ = let e : j ≡ i = omega arith in record {

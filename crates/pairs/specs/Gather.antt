@@ -1,7 +1,7 @@
 -- What the functions that gather the pairs hand to one another.
-use Prim.Native.Nat.{ℕ, _+_, _*_, _<_, _≤_}
+use Prim.Native.Nat.{ℕ, _+_, _-_, _*_, _%_, _<_, _≤_}
 use mathlib.Core.Path.{_≡_}
-use mathlib.Core.Bool.{Bool, true, false, _||_, cond}
+use mathlib.Core.Bool.{Bool, true, false, not, _||_, cond}
 use mathlib.Core.List.{List}
 use mathlib.Core.Option.{Option, none, some}
 use lib.Dec.{eqb, ltb}
@@ -41,6 +41,15 @@ pub record Valued (value : ℕ → ℕ → Float) (starts columns : List ℕ) (v
 unfoldable pub sharesIn : List ℕ → ℕ → ℕ → ℕ → Bool
 sharesIn links a b j =
     (eqb a (getD links (2 * j) 0) || eqb a (getD links (2 * j + 1) 0)) || (eqb b (getD links (2 * j) 0) || eqb b (getD links (2 * j + 1) 0))
+
+-- one of the eight rows from j on
+unfoldable pub eightShare : List ℕ → ℕ → ℕ → ℕ → Bool
+eightShare links a b j =
+    (((sharesIn links a b j || sharesIn links a b (j + 1)) || sharesIn links a b (j + 2)) || sharesIn links a b (j + 3)) || (((sharesIn links a b (j + 4) || sharesIn links a b (j + 5)) || sharesIn links a b (j + 6)) || sharesIn links a b (j + 7))
+
+-- none of them, and all are before row i; of every eighth j
+unfoldable pub eightApart : List ℕ → ℕ → ℕ → ℕ → ℕ → Bool
+eightApart links i a b j = cond (not (eqb (j % 8) 0) || ltb (i - j) 8) false (not (eightShare links a b j))
 
 unfoldable pub shareIn : List ℕ → ℕ → ℕ → Bool
 shareIn links i j = sharesIn links (getD links (2 * i) 0) (getD links (2 * i + 1) 0) j

@@ -2,7 +2,7 @@
 ghost use mathlib.Core.Path.{_≡_};
 ghost use Prim.Native.Nat.{_+_, _*_, _<_, _≤_};
 ghost use lib.ListN.{length};
-ghost use Rattle.pairs.specs.Gather.{sharesIn, shareIn, triedOf, triedColumns, RowDone, Stored, Gathering};
+ghost use Rattle.pairs.specs.Gather.{sharesIn, eightShare, eightApart, shareIn, triedOf, triedColumns, RowDone, Stored, Gathering};
 use sparse::put;
 use sparse::wide;
 
@@ -20,6 +20,33 @@ fn shares(links: &[u32], a: u32, b: u32, j: usize) -> bool
     let c = links[at];
     let d = links[at + 1];
     ((a == c) | (a == d)) | ((b == c) | (b == d))
+}
+
+// Does one of the eight rows from `j` on share a body with such a row? In a sparse table few do, and eight tests without a branch cost little more than one with it.
+fn eight_share(links: &[u32], a: u32, b: u32, j: usize) -> bool
+    requires { ⌜ 2 * j + 16 ≤ length (now links) ⌝ }
+    ensures { λ r. ⌜ r ≡ eightShare (now (links .entry)) a b j ⌝ }
+{
+    let lower = shares(links, a, b, j)
+        | shares(links, a, b, j + 1)
+        | shares(links, a, b, j + 2)
+        | shares(links, a, b, j + 3);
+    let upper = shares(links, a, b, j + 4)
+        | shares(links, a, b, j + 5)
+        | shares(links, a, b, j + 6)
+        | shares(links, a, b, j + 7);
+    lower | upper
+}
+
+// Can the eight columns from `j` on of row `i` be passed over? Asked at every eighth column alone, so that a full table is tested twice and not nine times.
+fn eight_apart(links: &[u32], i: u32, a: u32, b: u32, j: u32) -> bool
+    requires { ⌜ (2 * i + 2 ≤ length (now links)) × (j ≤ i) ⌝ }
+    ensures { λ r. ⌜ r ≡ eightApart (now (links .entry)) i a b j ⌝ }
+{
+    if (j % 8 != 0) | (i - j < 8) {
+        return false;
+    }
+    !eight_share(links, a, b, wide(j))
 }
 
 // Column `j`, if it makes a pair, at place `p`.
@@ -57,6 +84,10 @@ fn gather_row(links: &[u32], columns: &mut [u32], room: u32, i: u32, first: u32)
     let mut p = first;
     let mut j = 0;
     while j < i {
+        if eight_apart(links, i, a, b, j) {
+            j += 8;
+            continue;
+        }
         match try_column(links, columns, room, a, b, j, p) {
             Gathered::Done(q) => {
                 p = q;
