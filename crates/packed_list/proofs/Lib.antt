@@ -1,0 +1,2 @@
+-- Laws of the packed form.
+pub mod Packing

@@ -1,0 +1,2 @@
+-- Laws of the lists and their counts.
+pub mod Counting

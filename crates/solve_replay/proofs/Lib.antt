@@ -1,0 +1,3 @@
+-- Laws of a job's memory, and of what it shows.
+pub mod Filling
+pub mod Showing

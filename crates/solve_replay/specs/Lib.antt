@@ -1,0 +1,3 @@
+pub mod Job
+pub mod Compare
+pub mod Seen

@@ -1,0 +1,104 @@
+-- What a job shows: the definition's outcome beside the recorded one.
+use Prim.Native.Nat.{ℕ, _+_, _*_, _<_}
+use mathlib.Core.Path.{_≡_}
+use mathlib.Core.Bool.{Bool, true, false, cond, _&&_}
+use mathlib.Core.List.{List}
+use lib.Dec.{leb, eqb}
+use lib.ListN.{length, replicate}
+use lib.Ieee.{Float, binary64, ofBits, toBits}
+use Rattle.kapitsa_joint.specs.Table.{tableOf}
+use Rattle.kapitsa_joint.specs.declared.tolerance.JointTolerance.{JointTolerance}
+use Rattle.preconditioner.specs.Mode.{modeOf}
+use Rattle.steps.specs.Solve.{solve}
+use Rattle.position_iteration.specs.Method.{positionMethod}
+use Rattle.position_delivery.specs.Outcome.{Lent, Outcome, outcomeOf}
+use Rattle.position_delivery.specs.declared.answer.PositionPcg.{PositionPcg}
+use Rattle.position_delivery.specs.declared.answer.PositionPcg.the-variants as answers
+use Rattle.position_delivery.specs.declared.answer.PositionPcgResult.{PositionPcgResult}
+use Rattle.pcg.specs.Lengths.{tableLengths}
+use Rattle.position_solve.specs.Job.{jobFits}
+use Rattle.packed_list.specs.Packed.{groupOf}
+use Rattle.solve_replay.specs.Job.{headerOf, doublesOf, rowNumbers, rowWords}
+use Rattle.solve_replay.specs.Compare.{sameDoubles, keptNumbers, sameAnswers, unwrittenOf}
+use Rattle.solve_replay.specs.declared.header.Header.{Header}
+use Rattle.solve_replay.specs.declared.replay.Seen.{Seen}
+
+-- the groups of a job with n rows and b bodies, each with the place after it
+abbrev pub rowGroup : List ℕ → ℕ → ℕ → ℕ × List ℕ
+rowGroup list at n = groupOf list at 35 (replicate (35 * n) 0) n
+
+abbrev pub massGroup : List ℕ → ℕ → ℕ → ℕ × List ℕ
+massGroup list at b = groupOf list at 10 (replicate (10 * b) 0) b
+
+abbrev pub answerGroup : List ℕ → ℕ → ℕ → ℕ × List ℕ
+answerGroup list at n = groupOf list at 2 (replicate (2 * n) 0) n
+
+abbrev pub impulseGroup : List ℕ → ℕ → ℕ → ℕ × List ℕ
+impulseGroup list at b = groupOf list at 6 (replicate (6 * b) 0) b
+
+-- ---- the answer beside the recorded one
+abbrev pub flagOf : Bool → ℕ
+flagOf b = cond b 1 0
+
+unfoldable pub sameResult : Header → PositionPcgResult → Bool
+sameResult h r = (((eqb (h .refusal) 0 && eqb (h .flag) (flagOf (r .converged))) && eqb (h .count) (r .iterations)) && eqb (h .«linear_maximum») (toBits binary64 (r .«linear_residual_m»))) && eqb (h .«angular_maximum») (toBits binary64 (r .«angular_residual_rad»))
+
+-- `rows` are the words of the rows; the recorded solution, multipliers and impulses begin at `at`
+unfoldable pub acceptedSeen : List ℕ → ℕ → Header → List ℕ → PositionPcgResult → Lent → Seen
+acceptedSeen list at h rows r l =
+    let a = answerGroup list at (h .rows) in
+    let b = impulseGroup list (a .0) (h .bodies) in
+    record {
+      outcome = 1 + flagOf (r .converged);
+      same = (((sameResult h r && sameAnswers (l .solution) (l .numbers) (a .1)) && sameDoubles (l .impulses) (b .1)) && keptNumbers true (l .numbers) rows) && leb (b .0) (length list);
+      end = b .0;
+    }
+
+-- "After a refusal nothing is written"
+unfoldable pub refusedSeen : List ℕ → ℕ → Header → List ℕ → ℕ → Lent → Seen
+refusedSeen list at h rows number l =
+    record { outcome = 0; same = (((eqb (h .refusal) number && keptNumbers false (l .numbers) rows) && unwrittenOf (l .solution)) && unwrittenOf (l .impulses)) && leb at (length list); end = at }
+
+unfoldable pub outcomeSeen : List ℕ → ℕ → Header → List ℕ → PositionPcg → Lent → Seen
+outcomeSeen list at h rows (answers.Accepted r) l = acceptedSeen list at h rows r l
+outcomeSeen list at h rows (answers.Refused number) l = refusedSeen list at h rows number l
+
+-- ---- the job
+abbrev pub toleranceIn : Header → JointTolerance
+toleranceIn h = record { «linear_m» = ofBits binary64 (h .«linear_tolerance»); «angular_rad» = ofBits binary64 (h .«angular_tolerance») }
+
+-- the definition's outcome
+unfoldable pub solvedOf : Header → JointTolerance → List Float → List ℕ → List Float → List Float → List Float → Outcome
+solvedOf h tolerance numbers words masses solution impulses =
+    outcomeOf (h .rows) (record { numbers = numbers; solution = solution; impulses = impulses })
+    (solve (positionMethod (jobFits (h .rows) (h .bodies) (h .mode) (tableLengths numbers words masses solution impulses)) (tableOf (h .rows) (h .bodies) numbers words masses tolerance) (modeOf (h .mode))) (h .limit))
+
+unfoldable pub solvedSeen : List ℕ → ℕ → Header → List ℕ → List Float → List ℕ → List Float → List Float → List Float → Seen
+solvedSeen list at h rows numbers words masses solution impulses = let o = solvedOf h (toleranceIn h) numbers words masses solution impulses in outcomeSeen list at h rows (o .answer) (o .lent)
+
+-- what takes the answer is lent as 0.5 throughout
+abbrev pub marked : Float
+marked = ofBits binary64 4602678819172646912
+
+-- the table begins at `at`
+unfoldable pub tableSeen : List ℕ → ℕ → Header → Seen
+tableSeen list at h =
+    let r = rowGroup list at (h .rows) in
+    let m = massGroup list (r .0) (h .bodies) in
+    solvedSeen list (m .0) h (r .1) (rowNumbers (r .1) (27 * h .rows)) (rowWords (r .1) (8 * h .rows)) (doublesOf (m .1) (10 * h .bodies)) (replicate (h .rows) marked) (replicate (6 * h .bodies) marked)
+
+-- no such job is recorded; the rest of the list is taken for it
+abbrev pub malformedIn : List ℕ → Seen
+malformedIn list = record { outcome = 0; same = false; end = length list }
+
+unfoldable pub jobSeen : List ℕ → ℕ → Seen
+jobSeen list at = let h = headerOf list at in cond (leb (h .rows) 512 && leb (h .bodies) 256) (tableSeen list (at + 64) h) (malformedIn list)
+
+-- ---- the table, as it is read
+pub record TableRead (list : List ℕ) (at n b end : ℕ) (rows : List ℕ) (numbers : List Float) (words : List ℕ) (masses : List Float) : Type 0 where
+  pub ended : end ≡ massGroup list (rowGroup list at n .0) b .0
+  pub rowed : rows ≡ rowGroup list at n .1
+  pub numbered : numbers ≡ rowNumbers (rowGroup list at n .1) (27 * n)
+  pub worded : words ≡ rowWords (rowGroup list at n .1) (8 * n)
+  pub massed : masses ≡ doublesOf (massGroup list (rowGroup list at n .0) b .1) (10 * b)
+  pub near : end < 3000000000
