@@ -1,4 +1,4 @@
-// An accepted job: the closing check of its solution, and the listing.
+// The closing check of what an accepted job has solved, and its listing.
 ghost use Prim.Native.Nat.{_≤_};
 ghost use lib.ListN.{length};
 ghost use Rattle.job_file.specs.Job.{jobWith};
