@@ -4,3 +4,5 @@ pub mod Judgement
 pub mod Reading
 pub mod Meaning
 pub mod Rows
+pub mod Held
+pub mod Walk

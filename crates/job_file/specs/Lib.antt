@@ -1,4 +1,5 @@
 pub mod Layout
 pub mod File
+pub mod Walk
 pub mod Refusals
 pub mod Job

@@ -3,12 +3,21 @@ pub mod fit; // fit.rt: refusals 1 to 4, each by itself
 pub mod judge; // judge.rt: refusals 1 to 4 in their order
 pub mod layout; // layout.rt: sizes and limits
 pub mod read; // read.rt: the whole job
+pub mod reader; // reader.rt: the row section through a reader that stands at one row
 pub mod sections; // sections.rt: one number of a row or mass, and all of them
 pub mod trailer; // trailer.rt: the 48 bytes at the end
 
 pub use judge::FileJudged;
 pub use judge::judge_file;
 pub use read::read_job;
+pub use reader::Reader;
+pub use reader::at_row;
+pub use reader::next_row;
+pub use reader::number_here;
+pub use reader::read_number;
+pub use reader::read_word;
+pub use reader::reader_at;
+pub use reader::word_here;
 pub use sections::mass_bits;
 pub use sections::mass_number;
 pub use sections::read_masses;

@@ -8,6 +8,8 @@ ghost use Rattle.job_file.specs.File.{rowBits, rowNumber, rowWord, rowWo
 use crate::layout::MASS_BYTES;
 use crate::layout::ROW_BYTES;
 use crate::layout::ROW_DOUBLES;
+use crate::reader::read_number;
+use crate::reader::read_word;
 use kapitsa_joint::RowWords;
 use little_endian::double;
 use little_endian::half;
@@ -69,26 +71,26 @@ pub fn mass_number(file: &[u8], offset: usize, b: usize, j: usize) -> f64
     double(file, offset + MASS_BYTES * b + 8 * j)
 }
 
-// The 27 numbers of each row.
+// The 27 numbers of each row, through a reader,
 pub fn read_numbers(file: &[u8], offset: usize, rows: usize, numbers: &mut [f64])
     requires { ⌜ (rowsEnd offset rows ≤ length (now file)) × (length (now numbers) ≡ 27 * rows) ⌝ }
     ensures { λ _. ⌜ now (numbers .exit) ≡ sectionNumbers (now (file .entry)) offset rows ⌝ }
 {
     let mut k = 0;
     while k < numbers.len() {
-        numbers[k] = row_number(file, offset, k / 27, k % 27);
+        numbers[k] = read_number(file, offset, rows, k / 27, k % 27);
         k += 1;
     }
 }
 
-// The 8 words of each row.
+// and the 8 words.
 pub fn read_words(file: &[u8], offset: usize, rows: usize, words: &mut [u32])
     requires { ⌜ (rowsEnd offset rows ≤ length (now file)) × (length (now words) ≡ 8 * rows) ⌝ }
     ensures { λ _. ⌜ now (words .exit) ≡ sectionWords (now (file .entry)) offset rows ⌝ }
 {
     let mut k = 0;
     while k < words.len() {
-        words[k] = row_word(file, offset, k / 8, k % 8);
+        words[k] = read_word(file, offset, rows, k / 8, k % 8);
         k += 1;
     }
 }

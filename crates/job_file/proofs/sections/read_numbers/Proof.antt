@@ -22,7 +22,7 @@ read-numbers-spec =
     tie.close
     (tie.spec Inv-loop μ-loop
     (λ c. search known)  -- loop-holds
-    (λ c κs. search known)  -- row-number-requires
+    (λ c κs. search known)  -- read-number-requires
     (λ c. search known)  -- mul-numbers
     (λ c. search known)  -- slice-write-numbers
     (λ c. search known)  -- add-k

@@ -21,7 +21,7 @@ read-words-spec =
     tie.close
     (tie.spec Inv-loop μ-loop
     (λ c. search known)  -- loop-holds
-    (λ c κs. search known)  -- row-word-requires
+    (λ c κs. search known)  -- read-word-requires
     (λ c. search known)  -- mul-words
     (λ c. search known)  -- slice-write-words
     (λ c. search known)  -- add-k
