@@ -72,11 +72,11 @@ module _ {A : Type 0} (m : ℕ) (l : List A) (w k : ℕ) (e : m ≡ length l) (p
   long-lent = sym lent-long
 
 -- ---- all of the factors' memory, and all of the rest
-module _ (n b : ℕ) where
-  pub factor-passed : (l : FactorLengths) → l .starts ≡ n + 1 → l .columns ≡ pairRoom n → l .values ≡ pairRoom n → l .pivots ≡ n → l .marks ≡ n → l .heads ≡ n → l .nexts ≡ pairRoom n → l .homes ≡ pairRoom n → l .blocks ≡ 36 * n → factorFits n (pairRoom n) l ≡ true
-  unfolding factorFits
-  factor-passed l s c v p m h x o k = rw (eq-eqb _ _ s, eq-eqb _ _ c, eq-eqb _ _ v, eq-eqb _ _ p, eq-eqb _ _ m, eq-eqb _ _ h, eq-eqb _ _ x, eq-eqb _ _ o, eq-eqb _ _ k)
+pub factor-passed : (n : ℕ) (l : FactorLengths) → l .starts ≡ n + 1 → l .columns ≡ pairRoom n → l .values ≡ pairRoom n → l .pivots ≡ n → l .marks ≡ n → l .heads ≡ n → l .nexts ≡ pairRoom n → l .homes ≡ pairRoom n → l .blocks ≡ 36 * n → factorFits n (pairRoom n) l ≡ true
+unfolding factorFits
+factor-passed n l s c v p m h x o k = rw (eq-eqb _ _ s, eq-eqb _ _ c, eq-eqb _ _ v, eq-eqb _ _ p, eq-eqb _ _ m, eq-eqb _ _ h, eq-eqb _ _ x, eq-eqb _ _ o, eq-eqb _ _ k)
 
+module _ (n b : ℕ) where
   pub vectors-passed : (l : VectorLengths) → l .jacobians ≡ 12 * n → l .links ≡ 2 * n → l .owners ≡ n → l .diagonal ≡ n → l .residual ≡ n → l .pending ≡ n → l .preconditioned ≡ n → l .direction ≡ n → l .product ≡ n → l .«body_impulses» ≡ 6 * b → l .«body_responses» ≡ 6 * b → vectorsFit n b l ≡ true
   unfolding vectorsFit
   vectors-passed l j k o d r p c x w i s = rw (eq-eqb _ _ j, eq-eqb _ _ k, eq-eqb _ _ o, eq-eqb _ _ d, eq-eqb _ _ r, eq-eqb _ _ p, eq-eqb _ _ c, eq-eqb _ _ x, eq-eqb _ _ w, eq-eqb _ _ i, eq-eqb _ _ s)

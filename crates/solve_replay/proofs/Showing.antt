@@ -1,6 +1,6 @@
 -- What the functions that replay a job answer is what the definitions say. Assumes nothing.
 use Prim.Native.Nat.{ℕ, _+_, _*_, _<_, _≤_}
-use mathlib.Core.Path.{_≡_, refl, sym, ap, subst, _∙_}
+use mathlib.Core.Path.{_≡_, refl, sym, ap, _∙_}
 use mathlib.Core.Bool.{Bool, true, false, not, cond, _&&_}
 use mathlib.Core.List.{List}
 use native.Mathlib.Omega.{arith}
@@ -16,7 +16,7 @@ use Rattle.position_delivery.specs.declared.answer.PositionPcgResult.{PositionP
 use Rattle.packed_list.specs.Packed.{groupOf}
 use Rattle.solve_replay.specs.Job.{headerOf, doublesOf, rowNumbers, rowWords}
 use Rattle.solve_replay.specs.Compare.{sameDoubles, keptNumbers, sameAnswers}
-use Rattle.solve_replay.specs.Seen.{rowGroup, massGroup, answerGroup, impulseGroup, flagOf, sameResult, acceptedSeen, refusedSeen, outcomeSeen, toleranceIn, solvedOf, solvedSeen, marked, tableSeen, malformedIn, jobSeen, TableRead}
+use Rattle.solve_replay.specs.Seen.{flagOf, sameResult, acceptedSeen, refusedSeen, outcomeSeen, toleranceIn, solvedOf, solvedSeen, marked, tableSeen, malformedIn, jobSeen, TableRead}
 use Rattle.solve_replay.specs.declared.header.Header.{Header}
 use Rattle.solve_replay.specs.declared.replay.Seen.{Seen}
 

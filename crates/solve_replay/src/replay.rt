@@ -2,7 +2,7 @@
 ghost use mathlib.Core.Path.{_≡_};
 ghost use Prim.Native.Nat.{_+_, _*_, _<_, _≤_};
 ghost use lib.ListN.{length, replicate};
-ghost use Rattle.solve_replay.specs.Seen.{flagOf, toleranceIn, sameResult, acceptedSeen, refusedSeen, solvedSeen, malformedIn, tableSeen, jobSeen, marked, TableRead};
+ghost use Rattle.solve_replay.specs.Seen.{flagOf, toleranceIn, sameResult, acceptedSeen, refusedSeen, solvedSeen, malformedIn, tableSeen, jobSeen, TableRead};
 use crate::compare::kept_numbers;
 use crate::compare::same_answers;
 use crate::compare::same_doubles;

@@ -45,7 +45,7 @@ with-factor-spec =
     (λ c. sym (length-take-le _ _ (within {A = ℕ} _ ((c .before .before .before .before .before .before .before .before .before .before .before .before .before .before .before .pair-word-room3) .result) _ _ ((c .before .before .before .before .before .before .before .before .before .before .before .before .before .before .before .pair-word-room3) .ensures) ((c .before .before .before .before .before .before .before .before .before .before .before .wide2) .ensures ∙ (c .before .before .before .before .before .before .before .before .before .before .before .before .pair-room) .ensures) (room-limit _))))  -- slice-aggregate-with-steps-8
     (λ c. within {A = Float} _ ((c .before .before .before .before .before .before .before .before .before .before .before .before .before .before .block-room) .result) _ _ ((c .before .before .before .before .before .before .before .before .before .before .before .before .before .before .block-room) .ensures) (ap (λ (x : ℕ). 36 * x) ((c .before .before .before .before .before .before .before .before .before .before .before .before .before .wide) .ensures)) (blocks-within _ _ _ _ ((c .before .before .before .before .before .before .before .before .before .before .before .before .before .before .before .before .before .before .before .before .before .before .before .before .before .before .before .before) .pre)))  -- array-borrow-prefix-blocks
     (λ c. sym (length-take-le _ _ (within {A = Float} _ ((c .before .before .before .before .before .before .before .before .before .before .before .before .before .before .before .block-room) .result) _ _ ((c .before .before .before .before .before .before .before .before .before .before .before .before .before .before .before .block-room) .ensures) (ap (λ (x : ℕ). 36 * x) ((c .before .before .before .before .before .before .before .before .before .before .before .before .before .before .wide) .ensures)) (blocks-within _ _ _ _ ((c .before .before .before .before .before .before .before .before .before .before .before .before .before .before .before .before .before .before .before .before .before .before .before .before .before .before .before .before .before) .pre)))))  -- slice-aggregate-with-steps-9
-    (λ c κs. ((c .before .before .before .before .before .before .before .before .before .before .before .before .before .before .before .before .before .before .before .before .before .before .before .before .before .before .before .before .before) .pre, factor-passed _ 0 _ (lent-long {A = ℕ} _ ((c .before .before .before .before .before .before .before .before .before .before .before .before .before .before .before .before .before .before .before .before .before .before .before .start-room) .result) _ _ ((c .before .before .before .before .before .before .before .before .before .before .before .before .before .before .before .before .before .before .before .before .before .before .before .start-room) .ensures) (ap (λ (x : ℕ). x + 1) ((c .before .before .before .before .before .before .before .before .before .before .before .before .before .before .wide) .ensures)) (starts-within _ _ _ _ ((c .before .before .before .before .before .before .before .before .before .before .before .before .before .before .before .before .before .before .before .before .before .before .before .before .before .before .before .before .before) .pre))) (lent-long {A = ℕ} _ ((c .before .before .before .before .before .before .before .before .before .before .before .before .before .before .before .before .before .before .before .before .before .before .pair-word-room) .result) _ _ ((c .before .before .before .before .before .before .before .before .before .before .before .before .before .before .before .before .before .before .before .before .before .before .pair-word-room) .ensures) ((c .before .before .before .before .before .before .before .before .before .before .before .before .wide2) .ensures ∙ (c .before .before .before .before .before .before .before .before .before .before .before .before .before .pair-room) .ensures) (room-limit _)) (lent-long {A = Float} _ ((c .before .before .before .before .before .before .before .before .before .before .before .before .before .before .before .before .before .before .before .before .before .pair-value-room) .result) _ _ ((c .before .before .before .before .before .before .before .before .before .before .before .before .before .before .before .before .before .before .before .before .before .pair-value-room) .ensures) ((c .before .before .before .before .before .before .before .before .before .before .before .before .wide2) .ensures ∙ (c .before .before .before .before .before .before .before .before .before .before .before .before .before .pair-room) .ensures) (room-limit _)) (lent-long {A = Float} _ ((c .before .before .before .before .before .before .before .before .before .before .before .before .before .before .before .before .before .before .before .before .row-room) .result) _ _ ((c .before .before .before .before .before .before .before .before .before .before .before .before .before .before .before .before .before .before .before .before .row-room) .ensures) ((c .before .before .before .before .before .before .before .before .before .before .before .before .before .before .wide) .ensures) (rows-within _ _ _ _ ((c .before .before .before .before .before .before .before .before .before .before .before .before .before .before .before .before .before .before .before .before .before .before .before .before .before .before .before .before .before) .pre))) (lent-long {A = ℕ} _ ((c .before .before .before .before .before .before .before .before .before .before .before .before .before .before .before .before .before .before .before .row-word-room) .result) _ _ ((c .before .before .before .before .before .before .before .before .before .before .before .before .before .before .before .before .before .before .before .row-word-room) .ensures) ((c .before .before .before .before .before .before .before .before .before .before .before .before .before .before .wide) .ensures) (rows-within _ _ _ _ ((c .before .before .before .before .before .before .before .before .before .before .before .before .before .before .before .before .before .before .before .before .before .before .before .before .before .before .before .before .before) .pre))) (lent-long {A = ℕ} _ ((c .before .before .before .before .before .before .before .before .before .before .before .before .before .before .before .before .before .before .row-word-room2) .result) _ _ ((c .before .before .before .before .before .before .before .before .before .before .before .before .before .before .before .before .before .before .row-word-room2) .ensures) ((c .before .before .before .before .before .before .before .before .before .before .before .before .before .before .wide) .ensures) (rows-within _ _ _ _ ((c .before .before .before .before .before .before .before .before .before .before .before .before .before .before .before .before .before .before .before .before .before .before .before .before .before .before .before .before .before) .pre))) (lent-long {A = ℕ} _ ((c .before .before .before .before .before .before .before .before .before .before .before .before .before .before .before .before .before .pair-word-room2) .result) _ _ ((c .before .before .before .before .before .before .before .before .before .before .before .before .before .before .before .before .before .pair-word-room2) .ensures) ((c .before .before .before .before .before .before .before .before .before .before .before .before .wide2) .ensures ∙ (c .before .before .before .before .before .before .before .before .before .before .before .before .before .pair-room) .ensures) (room-limit _)) (lent-long {A = ℕ} _ ((c .before .before .before .before .before .before .before .before .before .before .before .before .before .before .before .before .pair-word-room3) .result) _ _ ((c .before .before .before .before .before .before .before .before .before .before .before .before .before .before .before .before .pair-word-room3) .ensures) ((c .before .before .before .before .before .before .before .before .before .before .before .before .wide2) .ensures ∙ (c .before .before .before .before .before .before .before .before .before .before .before .before .before .pair-room) .ensures) (room-limit _)) (lent-long {A = Float} _ ((c .before .before .before .before .before .before .before .before .before .before .before .before .before .before .before .block-room) .result) _ _ ((c .before .before .before .before .before .before .before .before .before .before .before .before .before .before .before .block-room) .ensures) (ap (λ (x : ℕ). 36 * x) ((c .before .before .before .before .before .before .before .before .before .before .before .before .before .before .wide) .ensures)) (blocks-within _ _ _ _ ((c .before .before .before .before .before .before .before .before .before .before .before .before .before .before .before .before .before .before .before .before .before .before .before .before .before .before .before .before .before) .pre)))))  -- with-steps-requires
+    (λ c κs. ((c .before .before .before .before .before .before .before .before .before .before .before .before .before .before .before .before .before .before .before .before .before .before .before .before .before .before .before .before .before) .pre, factor-passed _ _ (lent-long {A = ℕ} _ ((c .before .before .before .before .before .before .before .before .before .before .before .before .before .before .before .before .before .before .before .before .before .before .before .start-room) .result) _ _ ((c .before .before .before .before .before .before .before .before .before .before .before .before .before .before .before .before .before .before .before .before .before .before .before .start-room) .ensures) (ap (λ (x : ℕ). x + 1) ((c .before .before .before .before .before .before .before .before .before .before .before .before .before .before .wide) .ensures)) (starts-within _ _ _ _ ((c .before .before .before .before .before .before .before .before .before .before .before .before .before .before .before .before .before .before .before .before .before .before .before .before .before .before .before .before .before) .pre))) (lent-long {A = ℕ} _ ((c .before .before .before .before .before .before .before .before .before .before .before .before .before .before .before .before .before .before .before .before .before .before .pair-word-room) .result) _ _ ((c .before .before .before .before .before .before .before .before .before .before .before .before .before .before .before .before .before .before .before .before .before .before .pair-word-room) .ensures) ((c .before .before .before .before .before .before .before .before .before .before .before .before .wide2) .ensures ∙ (c .before .before .before .before .before .before .before .before .before .before .before .before .before .pair-room) .ensures) (room-limit _)) (lent-long {A = Float} _ ((c .before .before .before .before .before .before .before .before .before .before .before .before .before .before .before .before .before .before .before .before .before .pair-value-room) .result) _ _ ((c .before .before .before .before .before .before .before .before .before .before .before .before .before .before .before .before .before .before .before .before .before .pair-value-room) .ensures) ((c .before .before .before .before .before .before .before .before .before .before .before .before .wide2) .ensures ∙ (c .before .before .before .before .before .before .before .before .before .before .before .before .before .pair-room) .ensures) (room-limit _)) (lent-long {A = Float} _ ((c .before .before .before .before .before .before .before .before .before .before .before .before .before .before .before .before .before .before .before .before .row-room) .result) _ _ ((c .before .before .before .before .before .before .before .before .before .before .before .before .before .before .before .before .before .before .before .before .row-room) .ensures) ((c .before .before .before .before .before .before .before .before .before .before .before .before .before .before .wide) .ensures) (rows-within _ _ _ _ ((c .before .before .before .before .before .before .before .before .before .before .before .before .before .before .before .before .before .before .before .before .before .before .before .before .before .before .before .before .before) .pre))) (lent-long {A = ℕ} _ ((c .before .before .before .before .before .before .before .before .before .before .before .before .before .before .before .before .before .before .before .row-word-room) .result) _ _ ((c .before .before .before .before .before .before .before .before .before .before .before .before .before .before .before .before .before .before .before .row-word-room) .ensures) ((c .before .before .before .before .before .before .before .before .before .before .before .before .before .before .wide) .ensures) (rows-within _ _ _ _ ((c .before .before .before .before .before .before .before .before .before .before .before .before .before .before .before .before .before .before .before .before .before .before .before .before .before .before .before .before .before) .pre))) (lent-long {A = ℕ} _ ((c .before .before .before .before .before .before .before .before .before .before .before .before .before .before .before .before .before .before .row-word-room2) .result) _ _ ((c .before .before .before .before .before .before .before .before .before .before .before .before .before .before .before .before .before .before .row-word-room2) .ensures) ((c .before .before .before .before .before .before .before .before .before .before .before .before .before .before .wide) .ensures) (rows-within _ _ _ _ ((c .before .before .before .before .before .before .before .before .before .before .before .before .before .before .before .before .before .before .before .before .before .before .before .before .before .before .before .before .before) .pre))) (lent-long {A = ℕ} _ ((c .before .before .before .before .before .before .before .before .before .before .before .before .before .before .before .before .before .pair-word-room2) .result) _ _ ((c .before .before .before .before .before .before .before .before .before .before .before .before .before .before .before .before .before .pair-word-room2) .ensures) ((c .before .before .before .before .before .before .before .before .before .before .before .before .wide2) .ensures ∙ (c .before .before .before .before .before .before .before .before .before .before .before .before .before .pair-room) .ensures) (room-limit _)) (lent-long {A = ℕ} _ ((c .before .before .before .before .before .before .before .before .before .before .before .before .before .before .before .before .pair-word-room3) .result) _ _ ((c .before .before .before .before .before .before .before .before .before .before .before .before .before .before .before .before .pair-word-room3) .ensures) ((c .before .before .before .before .before .before .before .before .before .before .before .before .wide2) .ensures ∙ (c .before .before .before .before .before .before .before .before .before .before .before .before .before .pair-room) .ensures) (room-limit _)) (lent-long {A = Float} _ ((c .before .before .before .before .before .before .before .before .before .before .before .before .before .before .before .block-room) .result) _ _ ((c .before .before .before .before .before .before .before .before .before .before .before .before .before .before .before .block-room) .ensures) (ap (λ (x : ℕ). 36 * x) ((c .before .before .before .before .before .before .before .before .before .before .before .before .before .before .wide) .ensures)) (blocks-within _ _ _ _ ((c .before .before .before .before .before .before .before .before .before .before .before .before .before .before .before .before .before .before .before .before .before .before .before .before .before .before .before .before .before) .pre)))))  -- with-steps-requires
     (λ c. (c .before .before .before .before .before .before .before .before .before .before .before .before .before .before .numbers) .given)  -- same-length
     (λ c. (c .before .before .before .before .before .before .before .before .before .before .before .before .solution) .given)  -- same-length-2
     (λ c. (c .before .before .before .before .before .before .before .before .before .before .impulses) .given)  -- same-length-3

@@ -1,7 +1,7 @@
 -- `solve_replay::table::read_words` meets its contract. Assumes nothing.
 use Prim.Native.Nat.{_+_, _*_, _-_, _/_, _%_}
 use lib.ListN.{getD, length}
-use Rattle.loops.proofs.Fill.{Fills, fills, fills-put}
+use Rattle.loops.proofs.Fill.{Fills, fills}
 use Rattle.loops.proofs.Tabulate.{filled-tabulate}
 use Rattle.solve_replay.specs.Job.{rowWords}
 use Rattle.solve_replay.proofs.table.read_words.Statement.{statement}
