@@ -6,12 +6,11 @@ use mathlib.Core.List.{List}
 use native.Mathlib.Omega.{arith}
 use lib.Dec.{leb, eqb}
 use lib.ListN.{length, getD, replicate, length-replicate, getD-replicate}
-use lib.Ieee.{Float, nan, binary64, ofBits, toBits}
+use lib.Ieee.{Float, nan, ofBits, toBits}
 use borrow.Author.Tests.{leb-true, eqb-true, eq-eqb, not-true, not-false}
 use Rattle.loops.specs.Cleared.{plusZero}
 use Rattle.loops.specs.Run.{on, check}
 use Rattle.loops.specs.Judge.{judge, test}
-use Rattle.loops.specs.Every.{every}
 use Rattle.loops.proofs.Every.{every-iff}
 use Rattle.kapitsa_joint.specs.Table.{Table, tableOf}
 use Rattle.kapitsa_joint.specs.declared.tolerance.JointTolerance.{JointTolerance}

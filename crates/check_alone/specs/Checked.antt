@@ -1,6 +1,5 @@
 -- What a check answers that brings its own work memory, and whether it left that +0.0 (integers 0).
 use Prim.Native.Nat.{ℕ}
-use mathlib.Core.Path.{_≡_}
 use mathlib.Core.Bool.{Bool, true, _&&_}
 use mathlib.Core.List.{List}
 use lib.Dec.{eqb}
@@ -12,7 +11,7 @@ use Rattle.kapitsa_joint.specs.declared.tolerance.JointTolerance.{JointToleranc
 use Rattle.mass_operator.specs.Flat.{coefficients}
 use Rattle.check_refusals.specs.Refusals.{countsFit, tableFits, tableLengths}
 use Rattle.check_refusals.specs.declared.fit.TableLengths.{TableLengths}
-use Rattle.check_answer.specs.Answer.{numberOf, checkOf, NumberMeaning}
+use Rattle.check_answer.specs.Answer.{numberOf, checkOf}
 use Rattle.check_alone.specs.declared.check.Found.{Found}
 
 -- ---- is work memory clear?

@@ -1,5 +1,5 @@
 -- The ways from a file to its sheet: refused, read, solved, listed. Assumes nothing.
-use Prim.Native.Nat.{ℕ, _+_, _*_, _<_, _≤_}
+use Prim.Native.Nat.{ℕ, _+_, _*_, _≤_}
 use mathlib.Core.Path.{_≡_, refl, sym, ap, _∙_}
 use mathlib.Core.Bool.{Bool, true, false, _&&_}
 use mathlib.Core.List.{List, [], _∷_}
@@ -11,16 +11,15 @@ use borrow.Author.Tests.{leb-true, le-leb, eq-eqb}
 use Rattle.loops.specs.Run.{going, ended, on, check}
 use Rattle.loops.specs.Judge.{judge, test}
 use Rattle.loops.proofs.Loop.{on-going, on-ended}
-use Rattle.position_delivery.specs.Outcome.{Lent, Outcome, Answer, outcomeOf, resultOf, lentOf}
+use Rattle.position_delivery.specs.Outcome.{Lent, Outcome, Answer, outcomeOf}
 use Rattle.position_delivery.specs.declared.answer.PositionPcgResult.{PositionPcgResult}
 use Rattle.position_delivery.specs.declared.answer.PositionPcg.{PositionPcg}
 use Rattle.position_delivery.specs.declared.answer.PositionPcg.the-variants as answers
 use Rattle.kapitsa_joint.specs.Table.{tableOf}
 use Rattle.preconditioner.specs.Mode.{modeOf}
 use Rattle.pcg.specs.Lengths as pcg
-use Rattle.pcg.specs.declared.fit.TableLengths as pcgLengths
 use Rattle.position_solve.specs.Job.{jobFits, JobSolved}
-use Rattle.check_refusals.specs.Refusals.{countsFit, tableFits, tableLengths}
+use Rattle.check_refusals.specs.Refusals.{countsFit, tableFits}
 use Rattle.check_alone.specs.Checked.{givenFits, foundOf, checkedOf}
 use Rattle.check_alone.specs.declared.check.Found.{Found}
 use Rattle.job_file.specs.Refusals as refusals
@@ -31,11 +30,8 @@ use Rattle.job_file.specs.declared.judge.FileJudged.{FileJudged}
 use Rattle.job_file.specs.declared.judge.FileJudged.the-variants.{Passed, Refused}
 use Rattle.job_file.proofs.Judgement.{and-left, and-right, passed, rows-inside, masses-inside}
 use Rattle.job_file.proofs.Meaning.{passed-job, refused-job}
-use Rattle.listing.specs.Written.{Room, Wrote}
 use Rattle.listing.specs.Listing.{listingOf, refusedListing}
-use Rattle.listing.proofs.Joined.{wrote-as}
-use Rattle.listing.proofs.Length.{listing-room, refused-room}
-use Rattle.job_sheet.specs.Sheet.{tableIn, answerTo, closingOf, printedOf, answerSheet, jobSheet, sheetOf}
+use Rattle.job_sheet.specs.Sheet.{answerTo, closingOf, printedOf, answerSheet, jobSheet, sheetOf}
 use Rattle.job_sheet.specs.Room.{JobRoom}
 
 -- ---- the file
