@@ -25,7 +25,7 @@ use denote.Struct.Declared.{Declared}
 use denote.Struct.Laws as LL
 use denote.Struct.Rest.{all-own, ownAt, rest, own-open, own-out, own-shut}
 use denote.Struct.Values.{Values}
-use Rattle.job_file.specs.Walk.{standing}
+use Rattle.job_file.specs.Walk.{readerOf}
 use Rattle.job_file.specs.declared.reader.Reader.{Reader}
 use Rattle.job_file.proofs.reader.Reader as T
 use Rattle.job_file.proofs.reader.Reader.Laws as T′
@@ -62,7 +62,7 @@ module _ {M : Type 1} (𝓤 : URA M) (H : Heap 𝓤) (A : Atoms 𝓤) (W : Given
         -- [what the file owns; what the numbers own; what the reader owns]
         move ! (1 ∷ []) $ drop ! $ frame ! $ done !)
 
-  pub makes : (s : RefT (List ℕ)) (offset rows row : ℕ) → offset < 2 ^ 64 → rows < 2 ^ 64 → row < 2 ^ 64 → ent 𝓤 (sem 𝓤 H A (FileOwn κ s)) (sem 𝓤 H A (Own κ (standing s offset rows row)))
+  pub makes : (s : RefT (List ℕ)) (offset rows row : ℕ) → offset < 2 ^ 64 → rows < 2 ^ 64 → row < 2 ^ 64 → ent 𝓤 (sem 𝓤 H A (FileOwn κ s)) (sem 𝓤 H A (Own κ (readerOf s offset rows row)))
   makes s offset rows row o n i =
       qed W (‵ (FileOwn κ s) ∷ []) ∵ nothing ! $ owned ! usize (Is usize) (uint-makes 𝓤 H A W w64) row _ (refl, i) $ fjoin ! $ owned ! usize (Is usize) (uint-makes 𝓤 H A W w64) rows _ (refl, n) $ fjoin ! $
       owned ! usize (Is usize) (uint-makes 𝓤 H A W w64) offset _ (refl, o) $ fjoin ! $ move ! (1 ∷ 0 ∷ []) $ fjoin ! $ by ! (own-shut 𝓤 H A W (D (κ, tt)) (L (κ, tt)) (s, (offset, (rows, (row, tt)))))

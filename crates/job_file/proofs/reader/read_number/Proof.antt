@@ -39,7 +39,7 @@ use denote.Exit.{yes}
 use denote.Triple.Clauses.{ensured, lasts}
 use Rattle.job_file.specs.Layout.{rowsEnd}
 use Rattle.job_file.specs.File.{rowNumber}
-use Rattle.job_file.specs.Walk.{standing}
+use Rattle.job_file.specs.Walk.{readerOf}
 use Rattle.job_file.specs.declared.reader.Reader.{Reader}
 use Rattle.job_file.proofs.Held.{B, fileVal, FileOwn}
 use Rattle.job_file.proofs.reader.Reader as T
@@ -70,7 +70,7 @@ module _ {M : Type 1} (𝓤 : URA M) (H : Heap 𝓤) (A : Atoms 𝓤) (mem : Mem
 
 module _ {M : Type 1} (𝓤 : URA M) (H : Heap 𝓤) (A : Atoms 𝓤) (W : Given 𝓤 H A) (mem : Memory → SProp 𝓤) (run : Routine → Fun 𝓤) (κ : Lft) (q : Share) (s : RefT (List ℕ)) (offset rows row j : ℕ) (ok : (rowsEnd offset rows ≤ length (now s)) × (row < rows) × (j < 27)) (o : offset < 2 ^ 64) (n : rows < 2 ^ 64) (i : row < 2 ^ 64) (j-fits : j < 2 ^ 64) where
   abbrev d : Reader
-  d = standing s offset rows row
+  d = readerOf s offset rows row
 
   abbrev found : Float
   found = rowNumber (now s) offset row j
