@@ -18,10 +18,10 @@ use Rattle.loops.proofs.Tabulate.{tabulate-same}
 use Rattle.job_file.specs.Layout.{rowsEnd}
 use Rattle.job_file.specs.File.{rowNumber, rowWord, sectionNumbers, sectionWords}
 use Rattle.job_file.specs.Job.{answerOf, openedOf, judgedOf}
-use Rattle.job_file.specs.Walk.{readerOf, Standing, stepped, numbersHere, wordsHere, rowsFrom}
+use Rattle.job_file.specs.Walk.{readerOf, Standing, numbersHere, wordsHere, rowsFrom}
 use Rattle.job_file.specs.declared.reader.Reader.{Reader}
 use Rattle.job_file.specs.declared.trailer.Trailer.{Trailer}
-use Rattle.job_file.specs.declared.judge.FileJudged.the-variants.{Passed, Refused}
+use Rattle.job_file.specs.declared.judge.FileJudged.the-variants.{Passed}
 use Rattle.job_file.proofs.Judgement.{rows-inside}
 
 -- ---- a walk lists what P grows by
