@@ -1,4 +1,4 @@
--- The ways through the tests that are judged in order and through the reading of a job, what the answers mean, and where a row stands in the lists of a job.
+-- The ways through the tests that are judged in order and through the reading of a job, what the answers mean, where a row stands in the lists of a job, and what a walk of the reader gives.
 pub mod Counted
 pub mod Judgement
 pub mod Reading

@@ -18,27 +18,27 @@ use Rattle.loops.proofs.Tabulate.{tabulate-same}
 use Rattle.job_file.specs.Layout.{rowsEnd}
 use Rattle.job_file.specs.File.{rowNumber, rowWord, sectionNumbers, sectionWords}
 use Rattle.job_file.specs.Job.{answerOf, openedOf, judgedOf}
-use Rattle.job_file.specs.Walk.{standing, Standing, stepped, numbersHere, wordsHere, walkOf}
+use Rattle.job_file.specs.Walk.{readerOf, Standing, numbersHere, wordsHere, rowsFrom}
 use Rattle.job_file.specs.declared.reader.Reader.{Reader}
 use Rattle.job_file.specs.declared.trailer.Trailer.{Trailer}
-use Rattle.job_file.specs.declared.judge.FileJudged.the-variants.{Passed, Refused}
+use Rattle.job_file.specs.declared.judge.FileJudged.the-variants.{Passed}
 use Rattle.job_file.proofs.Judgement.{rows-inside}
 
 -- ---- a walk lists what P grows by
 
-module _ {X : Type 0} (f : Reader → List X) (s : RefT (List ℕ)) (offset rows : ℕ) (P : ℕ → List X) (grows : (i : ℕ) → P i ++ f (standing s offset rows i) ≡ P (i + 1)) where
+module _ {X : Type 0} (f : Reader → List X) (s : RefT (List ℕ)) (offset rows : ℕ) (P : ℕ → List X) (grows : (i : ℕ) → P i ++ f (readerOf s offset rows i) ≡ P (i + 1)) where
   -- from a row on, m rows before the end
-  walk-from : (n m row : ℕ) → row + m ≡ rows → m ≤ n → P row ++ walkOf f n (standing s offset rows row) ≡ P rows
-  unfolding walkOf
+  walk-from : (n m row : ℕ) → row + m ≡ rows → m ≤ n → P row ++ rowsFrom f n (readerOf s offset rows row) ≡ P rows
+  unfolding rowsFrom
   walk-from zero zero row e h = append-nil (P row) ∙ ap P (omega arith)
   walk-from zero (suc m) row e h = absurd (omega arith)
   walk-from (suc n) zero row e h = rw (le-ltb row rows (omega arith)) (append-nil (P row) ∙ ap P (omega arith))
   walk-from (suc n) (suc m) row e h =
       rw (lt-ltb row rows (omega arith))
-      (sym (append-assoc (P row) _ _) ∙ ap (λ l. l ++ walkOf f n (standing s offset rows (row + 1))) (grows row) ∙ walk-from n m (row + 1) (omega arith) (omega arith))
+      (sym (append-assoc (P row) _ _) ∙ ap (λ l. l ++ rowsFrom f n (readerOf s offset rows (row + 1))) (grows row) ∙ walk-from n m (row + 1) (omega arith) (omega arith))
 
-  walk-all : (n : ℕ) → P 0 ≡ [] → rows ≤ n → walkOf f n (standing s offset rows 0) ≡ P rows
-  walk-all n e h = sym (ap (λ l. l ++ walkOf f n (standing s offset rows 0)) e) ∙ walk-from n rows 0 (omega arith) h
+  walk-all : (n : ℕ) → P 0 ≡ [] → rows ≤ n → rowsFrom f n (readerOf s offset rows 0) ≡ P rows
+  walk-all n e h = sym (ap (λ l. l ++ rowsFrom f n (readerOf s offset rows 0)) e) ∙ walk-from n rows 0 (omega arith) h
 
 -- ---- the rows in order, and the lists of a section
 
@@ -54,15 +54,15 @@ part-more h c i e p q =
     sym (tabulate-add (λ k. h (k / c) (k % c)) (c * i) c) ∙ ap (tabulate (λ k. h (k / c) (k % c))) e
 
 module _ (s : RefT (List ℕ)) (offset rows n : ℕ) (h : rows ≤ n) where
-  pub walk-rows : {X : Type 0} (f : Reader → X) → walkOf (λ r. f r ∷ []) n (standing s offset rows 0) ≡ tabulate (λ i. f (standing s offset rows i)) rows
+  pub walk-rows : {X : Type 0} (f : Reader → X) → rowsFrom (λ r. f r ∷ []) n (readerOf s offset rows 0) ≡ tabulate (λ i. f (readerOf s offset rows i)) rows
   unfolding tabulate
-  walk-rows f = walk-all _ s offset rows (tabulate (λ i. f (standing s offset rows i))) (λ i. rw add-one) n refl h
+  walk-rows f = walk-all _ s offset rows (tabulate (λ i. f (readerOf s offset rows i))) (λ i. rw add-one) n refl h
 
-  pub walk-numbers : walkOf numbersHere n (standing s offset rows 0) ≡ sectionNumbers (now s) offset rows
+  pub walk-numbers : rowsFrom numbersHere n (readerOf s offset rows 0) ≡ sectionNumbers (now s) offset rows
   unfolding sectionNumbers tabulate
   walk-numbers = walk-all numbersHere s offset rows (sectionNumbers (now s) offset) (λ i. part-more (rowNumber (now s) offset) 27 i (omega arith) (λ k l. omega arith) (λ k l. omega arith)) n refl h
 
-  pub walk-words : walkOf wordsHere n (standing s offset rows 0) ≡ sectionWords (now s) offset rows
+  pub walk-words : rowsFrom wordsHere n (readerOf s offset rows 0) ≡ sectionWords (now s) offset rows
   unfolding sectionWords tabulate
   walk-words = walk-all wordsHere s offset rows (sectionWords (now s) offset) (λ i. part-more (rowWord (now s) offset) 8 i (omega arith) (λ k l. omega arith) (λ k l. omega arith)) n refl h
 
@@ -80,6 +80,6 @@ three-of-four t u true true false d h = h
 three-of-four t u true true true true h = h
 three-of-four t u true true true false h = absurd (let z : _≡_ {A = ℕ} 0 1 = cc in omega arith)
 
-pub passed-stands : (s : RefT (List ℕ)) (t : Trailer) → judgedOf (now s) ≡ Passed t → (i : ℕ) → i < t .rows → Standing (standing s (t .«row_offset») (t .rows) i)
+pub passed-stands : (s : RefT (List ℕ)) (t : Trailer) → judgedOf (now s) ≡ Passed t → (i : ℕ) → i < t .rows → Standing (readerOf s (t .«row_offset») (t .rows) i)
 unfolding judgedOf openedOf
 passed-stands s t e i h = (rows-inside (now s) refl (three-of-four _ _ _ _ _ _ e), h)

@@ -11,10 +11,11 @@ use Rattle.job_file.specs.Layout.{rowsEnd}
 use Rattle.job_file.specs.File.{rowNumber, rowWord}
 use Rattle.job_file.specs.declared.reader.Reader.{Reader}
 
-abbrev pub standing : RefT (List ℕ) → ℕ → ℕ → ℕ → Reader
-standing file offset rows row = record { file = file; offset = offset; rows = rows; row = row }
+-- at a row of so many, in a section that begins at `offset`
+abbrev pub readerOf : RefT (List ℕ) → ℕ → ℕ → ℕ → Reader
+readerOf file offset rows row = record { file = file; offset = offset; rows = rows; row = row }
 
--- at a row, of a section that lies in the file
+-- there is a row where it stands, and the section lies in the file: what may be read
 abbrev pub Standing : Reader → Type 0
 Standing r = (rowsEnd (r .offset) (r .rows) ≤ length (now (r .file))) × (r .row < r .rows)
 
@@ -27,7 +28,7 @@ wordHere r j = rowWord (now (r .file)) (r .offset) (r .row) j
 
 -- the same file and section, one row on
 abbrev pub stepped : Reader → Reader
-stepped r = standing (r .file) (r .offset) (r .rows) (r .row + 1)
+stepped r = readerOf (r .file) (r .offset) (r .rows) (r .row + 1)
 
 -- all numbers and all words of the row
 abbrev pub numbersHere : Reader → List Float
@@ -41,6 +42,6 @@ abbrev orEnd : {X : Type 0} → Bool → List X → List X
 orEnd true l = l
 orEnd false l = []
 
-unfoldable pub walkOf : {X : Type 0} → (Reader → List X) → ℕ → Reader → List X
-walkOf f zero r = []
-walkOf f (suc n) r = orEnd (ltb (r .row) (r .rows)) (f r ++ walkOf f n (stepped r))
+unfoldable pub rowsFrom : {X : Type 0} → (Reader → List X) → ℕ → Reader → List X
+rowsFrom f zero r = []
+rowsFrom f (suc n) r = orEnd (ltb (r .row) (r .rows)) (f r ++ rowsFrom f n (stepped r))

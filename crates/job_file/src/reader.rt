@@ -7,7 +7,7 @@ ghost use lib.Dec.{ltb};
 ghost use lib.ListN.{length};
 ghost use Rattle.job_file.specs.Layout.{rowsEnd};
 ghost use Rattle.job_file.specs.File.{rowNumber, rowWord};
-ghost use Rattle.job_file.specs.Walk.{Standing, standing, stepped, numberHere, wordHere};
+ghost use Rattle.job_file.specs.Walk.{Standing, readerOf, stepped, numberHere, wordHere};
 use crate::sections::row_number;
 use crate::sections::row_word;
 
@@ -19,8 +19,9 @@ pub struct Reader<'a> {
     pub row: usize,
 }
 
+// It may stand at the end too: that there is a row is asked where one is read.
 pub fn reader_at<'a>(file: &'a [u8], offset: usize, rows: usize, row: usize) -> Reader<'a>
-    ensures { λ r. ⌜ r ≡ standing (file .entry) offset rows row ⌝ }
+    ensures { λ r. ⌜ r ≡ readerOf (file .entry) offset rows row ⌝ }
 {
     Reader {
         file,
@@ -30,13 +31,14 @@ pub fn reader_at<'a>(file: &'a [u8], offset: usize, rows: usize, row: usize) -> 
     }
 }
 
-// Is there a row at its place, or the end?
+// Is there a row where it stands, or the end?
 pub fn at_row<'a>(r: Reader<'a>) -> bool
     ensures { λ b. ⌜ b ≡ ltb (r .entry .row) (r .entry .rows) ⌝ }
 {
     r.row < r.rows
 }
 
+// An enum may hold no reference, so the next reader is had apart from the answer that there is a row.
 pub fn next_row<'a>(r: Reader<'a>) -> Reader<'a>
     requires { ⌜ r .row < r .rows ⌝ }
     ensures { λ q. ⌜ q ≡ stepped (r .entry) ⌝ }

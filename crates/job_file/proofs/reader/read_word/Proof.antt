@@ -37,9 +37,9 @@ use denote.Exit.{yes}
 use denote.Triple.Clauses.{ensured, lasts}
 use Rattle.job_file.specs.Layout.{rowsEnd}
 use Rattle.job_file.specs.File.{rowWord}
-use Rattle.job_file.specs.Walk.{standing}
+use Rattle.job_file.specs.Walk.{readerOf}
 use Rattle.job_file.specs.declared.reader.Reader.{Reader}
-use Rattle.job_file.proofs.Held.{B, fileVal, FileOwn}
+use Rattle.job_file.proofs.Held.{B, fileVal, FileOwn, Numbers, three}
 use Rattle.job_file.proofs.reader.Reader as T
 use Rattle.job_file.proofs.reader.Reader.Laws as T′
 use Rattle.job_file.proofs.reader.reader_at as reader-at
@@ -68,7 +68,7 @@ module _ {M : Type 1} (𝓤 : URA M) (H : Heap 𝓤) (A : Atoms 𝓤) (mem : Mem
 
 module _ {M : Type 1} (𝓤 : URA M) (H : Heap 𝓤) (A : Atoms 𝓤) (W : Given 𝓤 H A) (mem : Memory → SProp 𝓤) (run : Routine → Fun 𝓤) (κ : Lft) (q : Share) (s : RefT (List ℕ)) (offset rows row j : ℕ) (ok : (rowsEnd offset rows ≤ length (now s)) × (row < rows) × (j < 8)) (o : offset < 2 ^ 64) (n : rows < 2 ^ 64) (i : row < 2 ^ 64) (j-fits : j < 2 ^ 64) where
   abbrev d : Reader
-  d = standing s offset rows row
+  d = readerOf s offset rows row
 
   abbrev found : ℕ
   found = rowWord (now s) offset row j
@@ -104,7 +104,7 @@ module _ {M : Type 1} (𝓤 : URA M) (H : Heap 𝓤) (A : Atoms 𝓤) (W : Given
       qed W ((‵ (flft κ q) ⊛ ‵ ftrue) ∷ ‵ (owns (ShrSlice (named 0) κ u8 ∷ usize ∷ usize ∷ usize ∷ usize ∷ []) args at) ∷ []) ∵
       move ! (1 ∷ []) $ fsplit ! $ move ! (1 ∷ []) $ drop ! $ use1 W (‵ (FileOwn κ s) ⊛ ‵ (FileOwn κ s)) (shr-slice-copy 𝓤 H A W (named 0) κ u8 .twice s (fileVal s ∷ [])) $ split ! $
       -- [what the file owns; the same; the token]
-      nothing ! $ owned ! usize (Is usize) (uint-makes 𝓤 H A W w64) row _ (refl, i) $ fjoin ! $ owned ! usize (Is usize) (uint-makes 𝓤 H A W w64) rows _ (refl, n) $ fjoin ! $ owned ! usize (Is usize) (uint-makes 𝓤 H A W w64) offset _ (refl, o) $ fjoin ! $ move ! (1 ∷ 0 ∷ []) $ fjoin ! $
+      nothing ! $ use1 W (‵ (Numbers offset rows row)) (three 𝓤 H A W offset rows row o n i) $ move ! (1 ∷ 0 ∷ []) $ fjoin ! $
       move ! (2 ∷ 0 ∷ []) $ use2 W (raw (Make 𝓤 H A mem run .pre to-make)) (qed W ((‵ (flft κ q) ⊛ ‵ ftrue) ∷ ‵ (owns (ShrSlice (named 0) κ u8 ∷ usize ∷ usize ∷ usize ∷ []) made-of made-at) ∷ []) ∵ join ! $ frame ! $ done !) $ frame ! $ done !
 
   make-said : (r : Reader) → ent 𝓤 (ensured 𝓤 H A reader-at.ended (reader-at.clauses 𝓤 H A mem run) (κ, tt) made-of tt r) (fact 𝓤 (r ≡ d))
@@ -126,8 +126,8 @@ module _ {M : Type 1} (𝓤 : URA M) (H : Heap 𝓤) (A : Atoms 𝓤) (W : Given
   exits x u e =
       qed W (‵ (u32 .own x (u ∷ [])) ∷ (‵ (flft κ q) ⊛ ‵ ftrue) ∷ ‵ (FileOwn κ s) ∷ []) ∵
       suffices ! _ (ends-at 𝓤 H A read.ended stayed (read.clauses 𝓤 H A mem run) W (((κ, tt), (q, tt), tt, args, at), tt) u x (tt, (tt, (tt, (tt, (tt, tt))))) (tt, (tt, (tt, (tt, (tt, tt)))))) $ says ! e $
-      move ! (1 ∷ []) $ frame ! $ nothing ! $ owned ! usize (Is usize) (uint-makes 𝓤 H A W w64) j _ (refl, j-fits) $ fjoin ! $ owned ! usize (Is usize) (uint-makes 𝓤 H A W w64) row _ (refl, i) $ fjoin ! $
-      owned ! usize (Is usize) (uint-makes 𝓤 H A W w64) rows _ (refl, n) $ fjoin ! $ owned ! usize (Is usize) (uint-makes 𝓤 H A W w64) offset _ (refl, o) $ fjoin ! $ move ! (2 ∷ 0 ∷ []) $ fjoin ! $ frame ! $ done !
+      move ! (1 ∷ []) $ frame ! $ nothing ! $ use1 W (‵ (Numbers rows row j)) (three 𝓤 H A W rows row j n i j-fits) $
+      owned ! usize (Is usize) (uint-makes 𝓤 H A W w64) offset _ (refl, o) $ fjoin ! $ move ! (2 ∷ 0 ∷ []) $ fjoin ! $ frame ! $ done !
 
   module _ (C : Calls 𝓤 H) (Λ : Loops 𝓤 H) (fm : FmC 𝓤 H (W .laws) C) (known-make : Triple 𝓤 (C #reader-at) (Make 𝓤 H A mem run)) (known-ask : Triple 𝓤 (C #word-here) (Ask 𝓤 H A mem run)) where
     walk : Is (ShrSlice (named 0) κ u8) s (fileVal s ∷ []) → ent 𝓤 (onEntry 𝓤 H A read.signature (κ, tt) (q, tt) args at) (WpFn 𝓤 H C Λ code.function (fileVal s ∷ vint w64 offset ∷ vint w64 rows ∷ vint w64 row ∷ vint w64 j ∷ []) Post)

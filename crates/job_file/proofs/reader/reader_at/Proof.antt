@@ -30,7 +30,7 @@ use denote.Triple.Spec.{Meets, tripleOf}
 use denote.Triple.Table.{entered}
 use denote.Triple.Walked.{says, Stays, stay-none, stay-none-slice, walkOf, goes-none, goes-none-slice, Walks, ends-at, walked, walk-meets}
 use denote.Exit.{yes}
-use Rattle.job_file.specs.Walk.{standing}
+use Rattle.job_file.specs.Walk.{readerOf}
 use Rattle.job_file.specs.declared.reader.Reader.{Reader}
 use Rattle.job_file.proofs.Held.{fileVal, FileOwn, makes}
 use Rattle.job_file.proofs.reader.Reader.Laws as T′
@@ -44,7 +44,7 @@ stayed = (stay-none-slice (0 ∷ []) tt (plain (λ _. u8)) yes, (stay-none (λ _
 
 module _ {M : Type 1} (𝓤 : URA M) (H : Heap 𝓤) (A : Atoms 𝓤) (W : Given 𝓤 H A) (mem : Memory → SProp 𝓤) (run : Routine → Fun 𝓤) (κ : Lft) (q : Share) (s : RefT (List ℕ)) (offset rows row : ℕ) (o : offset < 2 ^ 64) (n : rows < 2 ^ 64) (i : row < 2 ^ 64) where
   abbrev made : Reader
-  made = standing s offset rows row
+  made = readerOf s offset rows row
 
   abbrev args : RefT (List ℕ) × (ℕ × (ℕ × (ℕ × Unit {0})))
   args = (s, (offset, (rows, (row, tt))))

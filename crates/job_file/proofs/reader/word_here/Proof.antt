@@ -39,7 +39,7 @@ use denote.Triple.Clauses.{ensured, lasts}
 use Rattle.job_file.specs.Layout.{wordPlace}
 use Rattle.job_file.specs.Walk.{Standing, wordHere}
 use Rattle.job_file.specs.declared.reader.Reader.{Reader}
-use Rattle.job_file.proofs.Held.{B, D, L, fileVal, FileOwn, Own, lends}
+use Rattle.job_file.proofs.Held.{B, D, L, fileVal, FileOwn, Own, Numbers, three, lends}
 use Rattle.job_file.proofs.reader.Reader.Laws as T′
 use Rattle.job_file.proofs.sections.row_word as row-word
 use Rattle.job_file.proofs.sections.row_word.Symbol as row-word-def
@@ -85,8 +85,7 @@ module _ {M : Type 1} (𝓤 : URA M) (H : Heap 𝓤) (A : Atoms 𝓤) (W : Given
       move ! (1 ∷ []) $ fsplit ! $ move ! (1 ∷ []) $ drop ! $ use1 W (‵ (FileOwn κ (d .file)) ⊛ ‵ (Own κ d)) (lends 𝓤 H A W κ d) $ split ! $
       -- [what the file owns; what the reader owns; the token]
       move ! (2 ∷ 0 ∷ []) $ use2 W (raw (Decode 𝓤 H A mem run .pre to)) (qed W ((‵ (flft κ q) ⊛ ‵ ftrue) ∷ ‵ (FileOwn κ (d .file)) ∷ []) ∵ says ! within $ frame ! $
-      nothing ! $ owned ! usize (Is usize) (uint-makes 𝓤 H A W w64) j _ (refl, j-fits) $ fjoin ! $ owned ! usize (Is usize) (uint-makes 𝓤 H A W w64) (d .row) _ (refl, i) $ fjoin ! $
-      owned ! usize (Is usize) (uint-makes 𝓤 H A W w64) (d .offset) _ (refl, o) $ fjoin ! $ move ! (1 ∷ 0 ∷ []) $ fjoin ! $ done !) $ frame ! $ done !
+      nothing ! $ use1 W (‵ (Numbers (d .offset) (d .row) j)) (three 𝓤 H A W (d .offset) (d .row) j o i j-fits) $ move ! (1 ∷ 0 ∷ []) $ fjoin ! $ done !) $ frame ! $ done !
 
   -- of the callee's `ensured`, the clause alone: it has no `&mut`
   said : (r : ℕ) → ent 𝓤 (ensured 𝓤 H A row-word.ended (row-word.clauses 𝓤 H A mem run) (κ, tt) (d .file, (d .offset, (d .row, (j, tt)))) tt r) (fact 𝓤 (r ≡ wordHere d j))
