@@ -51,7 +51,16 @@ pub fn any(seed: u64, index: u64, random: &mut Random) -> Vec<u8> {
         }
         _ => {}
     }
+    cut_limit(&mut file);
     file
+}
+
+/// A job that never meets its tolerance runs to its limit, which may be four thousand million.
+fn cut_limit(file: &mut [u8]) {
+    const MOST: u32 = 5_000;
+    let Some(at) = file.len().checked_sub(4 * (TRAILER_WORDS - 2)) else { return };
+    let limit = u32::from_le_bytes(file[at..at + 4].try_into().unwrap());
+    file[at..at + 4].copy_from_slice(&limit.min(MOST).to_le_bytes());
 }
 
 /// One to eight bits that are not what they were.
