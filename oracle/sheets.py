@@ -5,7 +5,7 @@
 
 RUN is the oracle's command, `oracle/run` if none is given. Each file of the list is preceded by its
 length, 32 bits, little end first. The list: document 01's examples, the sample jobs, and the first
-three of 200 generated files for each refusal and, where the job is accepted, for each flag and verdict.
+three of 2,000 generated files for each refusal and, where the job is accepted, for each flag and verdict.
 """
 
 import pathlib
@@ -27,9 +27,9 @@ def kind(sheet):
 
 
 def generated(run, folder):
-    subprocess.run([run, "files", folder, "200", "7"], check=True, stdout=subprocess.DEVNULL)
+    subprocess.run([run, "files", folder, "2000", "7"], check=True, stdout=subprocess.DEVNULL)
     seen = {}
-    for index in range(200):
+    for index in range(2000):
         path = pathlib.Path(folder) / f"{index}.job"
         alike = kind(path.with_suffix(".out").read_bytes())
         if path.stat().st_size <= LONGEST and seen.get(alike, 0) < 3:

@@ -12,6 +12,7 @@ use std::time::{Duration, Instant};
 mod blocks;
 pub mod operator;
 pub mod preconditioner;
+pub mod program;
 
 /// Name, shape, joints and rows a joint.
 const FAMILIES: [(&str, Shape, usize, usize); 15] = [

@@ -38,6 +38,7 @@ const USAGE: &str = "usage: oracle/run COMMAND
   bench [LIBRARY]                 times of the reference, and of an implementation
   bench-closing LIBRARY [OPERATOR] time of an implementation's closing check at 512 rows
   bench-preconditioner LIBRARY    times of the build and solve of modes 1 and 2 at 512 rows
+  bench-program PROGRAM           time of the job program's process on the largest job
   job FILE                        what the job program prints of a job file
   files FOLDER [JOBS] [SEED]      job files in every placement, with what the program prints
   program PROGRAM [FILES] [SEED]  the job program's own process on generated, damaged and random files
@@ -79,6 +80,7 @@ fn command(words: &[&str]) -> Result<bool, String> {
         ["bench-closing", library] => bench::closing(library, None),
         ["bench-closing", library, operator] => bench::closing(library, Some(operator)),
         ["bench-preconditioner", library] => bench::preconditioner::run(library),
+        ["bench-program", program] => bench::program::table(program),
         ["job", file] => {
             let bytes = std::fs::read(file).map_err(|error| format!("{file}: {error}"))?;
             print!("{}", listing::of_file(&bytes));

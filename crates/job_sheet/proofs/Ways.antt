@@ -17,7 +17,7 @@ use Rattle.position_delivery.specs.declared.answer.PositionPcg.{PositionPcg}
 use Rattle.position_delivery.specs.declared.answer.PositionPcg.the-variants as answers
 use Rattle.kapitsa_joint.specs.Table.{tableOf}
 use Rattle.preconditioner.specs.Mode.{modeOf}
-use Rattle.pcg.specs.Lengths as pcg
+use Rattle.work_memory.specs.Lengths as lengths
 use Rattle.position_solve.specs.Job.{jobFits, JobSolved}
 use Rattle.check_refusals.specs.Refusals.{countsFit, tableFits}
 use Rattle.check_alone.specs.Checked.{givenFits, foundOf, checkedOf}
@@ -93,7 +93,7 @@ module _ (file : List ℕ) (t : Trailer) (h : judgedOf file ≡ Passed t) where
 
 module _ {t : Trailer} {numbers words masses solution impulses : ℕ} (r : JobRoom t numbers words masses solution impulses) where
   pub solve-fits : jobFits (t .rows) (t .bodies) (t .mode) (record { numbers = numbers; words = words; masses = masses; solution = solution; impulses = impulses }) ≡ true
-  unfolding jobFits pcg.countsFit pcg.tableFits
+  unfolding jobFits lengths.countsFit lengths.tableFits
   solve-fits = let n = r .few-rows in let b = r .few-bodies in
       rw (le-leb (t .rows) 512 (omega arith), le-leb (t .bodies) 256 (omega arith), le-leb (t .mode) 2 (r .mode-known), eq-eqb _ _ (r .numbers-long), eq-eqb _ _ (r .words-long), eq-eqb _ _ (r .masses-long), eq-eqb _ _ (r .solution-long), eq-eqb _ _ (r .impulses-long))
 

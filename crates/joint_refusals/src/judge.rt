@@ -1,19 +1,21 @@
 // Refusals 4 to 7, of one row or mass and over a whole table. True where the refusal's own test passes.
 ghost use mathlib.Core.Path.{_≡_};
-ghost use Prim.Native.Nat.{_+_, _*_, _≤_};
+ghost use mathlib.Core.List.{List};
+ghost use Prim.Native.Nat.{ℕ, _+_, _*_, _≤_};
 ghost use lib.ListN.{length};
 ghost use Rattle.loops.specs.Every.{every};
+ghost use Rattle.kapitsa_math.specs.Lent.{vecOf};
+ghost use Rattle.kapitsa_math.specs.Vector.{isFiniteOf};
 ghost use Rattle.kapitsa_joint.specs.Row.{wordsOf, scalarsOf, rowOf};
 ghost use Rattle.kapitsa_joint.specs.Mass.{massOf};
 ghost use Rattle.joint_refusals.specs.Refusals.{wordsFitOf, opensOf, massFiniteOf, bodiesBelowOf, jacobiansFiniteOf, scalarsFiniteOf, scalarsInRangeOf, isValidOf};
-use kapitsa_joint::ConstraintRow;
 use kapitsa_joint::RowScalars;
 use kapitsa_joint::RowWords;
 use kapitsa_joint::SolverMass;
 use kapitsa_joint::mass_at;
-use kapitsa_joint::row_at;
 use kapitsa_joint::scalars_at;
 use kapitsa_joint::words_at;
+use kapitsa_math::vec_at;
 
 // Refusal 4: key, dimension, flags and spare have the values of document 01.
 pub fn row_words_fit(w: RowWords) -> bool
@@ -117,19 +119,25 @@ fn bodies_below(w: RowWords, bodies: u32) -> bool
     (w.body_a != w.body_b) & (w.body_a < bodies) & (w.body_b < bodies)
 }
 
-fn jacobians_finite(row: ConstraintRow) -> bool
-    ensures { λ r. ⌜ r ≡ jacobiansFiniteOf row ⌝ }
+fn vec_finite_at(numbers: &[f64], at: usize) -> bool
+    requires { ⌜ at + 3 ≤ length (now numbers) ⌝ }
+    ensures { λ r. ⌜ r ≡ isFiniteOf (vecOf (now (numbers .entry)) at) ⌝ }
 {
-    let linear_a = row.linear_a;
-    let angular_a = row.angular_a;
-    let position_angular_a = row.position_angular_a;
-    let linear_b = row.linear_b;
-    let angular_b = row.angular_b;
-    linear_a.is_finite()
-        & angular_a.is_finite()
-        & position_angular_a.is_finite()
-        & linear_b.is_finite()
-        & angular_b.is_finite()
+    let v = vec_at(numbers, at);
+    v.is_finite()
+}
+
+// The five vectors of row i, whatever its words are.
+fn jacobians_finite_at(numbers: &[f64], i: usize) -> bool
+    requires { ⌜ 27 * i + 27 ≤ length (now numbers) ⌝ }
+    ensures { λ r. ⌜ ((words : List ℕ) → r ≡ jacobiansFiniteOf (rowOf (now (numbers .entry)) words i)) ⌝ }
+{
+    let at = 27 * i;
+    vec_finite_at(numbers, at)
+        & vec_finite_at(numbers, at + 3)
+        & vec_finite_at(numbers, at + 6)
+        & vec_finite_at(numbers, at + 9)
+        & vec_finite_at(numbers, at + 12)
 }
 
 fn scalars_finite(s: RowScalars) -> bool
@@ -155,22 +163,16 @@ fn scalars_in_range(s: RowScalars) -> bool
         & (0.0 <= s.cached_velocity_effective_mass)
 }
 
-pub fn is_valid(row: ConstraintRow, bodies: u32) -> bool
-    ensures { λ r. ⌜ r ≡ isValidOf bodies row ⌝ }
-{
-    let scalars = row.scalars;
-    let words = row.words;
-    bodies_below(words, bodies)
-        & jacobians_finite(row)
-        & scalars_finite(scalars)
-        & scalars_in_range(scalars)
-}
-
-fn is_valid_at(numbers: &[f64], words: &[u32], i: usize, bodies: u32) -> bool
+// Read from the slices: a whole row by value is 35 numbers that go through the stack.
+pub fn is_valid_at(numbers: &[f64], words: &[u32], i: usize, bodies: u32) -> bool
     requires { ⌜ (27 * i + 27 ≤ length (now numbers)) × (8 * i + 8 ≤ length (now words)) ⌝ }
     ensures { λ r. ⌜ r ≡ isValidOf bodies (rowOf (now (numbers .entry)) (now (words .entry)) i) ⌝ }
 {
-    is_valid(row_at(numbers, words, i), bodies)
+    let scalars = scalars_at(numbers, 27 * i + 15);
+    bodies_below(words_at(words, 8 * i), bodies)
+        & jacobians_finite_at(numbers, i)
+        & scalars_finite(scalars)
+        & scalars_in_range(scalars)
 }
 
 pub fn rows_valid(numbers: &[f64], words: &[u32], rows: usize, bodies: u32) -> bool

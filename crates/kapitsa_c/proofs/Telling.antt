@@ -19,7 +19,7 @@ use Rattle.position_delivery.specs.declared.answer.PositionPcg.the-variants as 
 use Rattle.position_delivery.specs.declared.answer.PositionPcgResult.{PositionPcgResult}
 use Rattle.work_memory.specs.Work.{WorkMemory, After}
 use Rattle.pcg.specs.Solved.{Solved}
-use Rattle.pcg.proofs.Entry.{entry-means, entry-refused}
+use Rattle.position_delivery.proofs.Answered.{entry-means, entry-refused}
 use Rattle.check_answer.proofs.Meaning.{both}
 use Rattle.kapitsa_c.specs.Solving.{Told, toldOf, toldFits, SolveTold}
 

@@ -4,7 +4,7 @@ ghost use mathlib.Core.Bool.{_&&_};
 ghost use lib.ListN.{length};
 ghost use Rattle.kapitsa_joint.specs.Table.{tableOf};
 ghost use Rattle.preconditioner.specs.Mode.{modeOf};
-ghost use Rattle.pcg.specs.Lengths.{passes3, tableLengths, vectorLengths, factorLengths};
+ghost use Rattle.work_memory.specs.Lengths.{passes3, tableLengths, vectorLengths, factorLengths};
 ghost use Rattle.kapitsa_c.specs.Closing.{tolerances};
 ghost use Rattle.kapitsa_c.specs.Solving.{toldOf, toldFits, SolveTold};
 use kapitsa_joint::JointTolerance;

@@ -1,77 +1,40 @@
--- The ways through the solve, and what its answer means. Assumes nothing.
+-- The ways through the solve: refusal 3, and the outcome of what is counted and delivered. Assumes nothing.
 use Prim.Native.Nat.{ℕ}
-use mathlib.Core.Path.{_≡_, refl, sym, ap, _∙_}
+use mathlib.Core.Path.{_≡_, subst}
 use mathlib.Core.Bool.{Bool, true, false, not}
 use mathlib.Core.List.{List}
-use native.Mathlib.Omega.{arith}
 use lib.Ieee.{Float}
-use borrow.Author.Tests.{not-false}
-use Rattle.loops.specs.Run.{Run, going, ended, next, on}
-use Rattle.loops.specs.Judge.{judge}
-use Rattle.loops.proofs.Loop.{on-going, on-ended}
+use Rattle.loops.specs.Run.{Run, next}
 use Rattle.kapitsa_joint.specs.Table.{Table}
 use Rattle.preconditioner.specs.declared.mode.Mode.{Mode}
-use Rattle.recurrence.specs.Step.{Iterate, Carried}
-use Rattle.recurrence.proofs.Ways.{test-fail}
-use Rattle.steps.specs.Method.{Method}
-use Rattle.steps.specs.Solve.{deliver, solve}
-use Rattle.steps.proofs.Answer.{means}
-use Rattle.position_iteration.specs.Method.{openingOf, positionMethod, Delivered}
-use Rattle.position_iteration.specs.Stands.{Counted}
-use Rattle.position_steps.specs.Counting.{countingOf}
-use Rattle.position_iteration.specs.declared.iteration.Iterated.the-variants as iterated
+use Rattle.recurrence.specs.Step.{Iterate}
+use Rattle.position_iteration.specs.Method.{positionMethod}
+use Rattle.position_iteration.specs.Counting.{countedOf}
+use Rattle.position_iteration.specs.declared.iteration.Iterated.{Iterated}
+use Rattle.position_steps.specs.Counting.{CountHeld}
 use Rattle.position_delivery.specs.Delivery.{finishedOf}
-use Rattle.position_delivery.specs.Outcome.{Lent, Outcome, Answer, outcomeOf, SolveMeaning}
-use Rattle.pcg.specs.Opening.{countedOf}
+use Rattle.position_delivery.specs.Outcome.{Lent, Outcome, outcomeOf}
 use Rattle.position_delivery.specs.declared.answer.PositionPcg.{PositionPcg}
 use Rattle.position_delivery.specs.declared.answer.PositionPcg.the-variants as answers
+use Rattle.position_delivery.proofs.Answered.{delivered-of, entry-refused, entry-on, entry-means}
+use Rattle.work_memory.specs.Work.{WorkMemory, clearedSteps, clearedTable}
+use Rattle.work_memory.proofs.Cleared.{work-cleared, after-three, after-cleared}
+use Rattle.pcg.specs.Solved.{Solved}
 
-abbrev outcome : PositionPcg → Lent → Outcome
-outcome r l = record { answer = r; lent = l }
+-- `count_and_clear`: the mode by its number
+pub by-number : (m mode : Mode) (t : Table) (limit : ℕ) (masses : List Float) (answer : Iterated) (jacobians : List Float) (links : List ℕ) (pending residual : List Float) → m ≡ mode → CountHeld m t limit masses answer jacobians links pending residual → CountHeld mode t limit masses answer jacobians links pending residual
+by-number m mode t limit masses answer jacobians links pending residual e = subst (λ (x : Mode). CountHeld x t limit masses answer jacobians links pending residual) e
 
-abbrev step : List Float → List Float → Iterate
-step x r = record { solution = x; residual = r }
+-- the entry; b is what the test of refusal 3 answered
+module _ (fits : Bool) (t : Table) (mode : Mode) (limit n : ℕ) (before : Lent) (work : WorkMemory) (b : Bool) (e : b ≡ fits) where
+  pub solved-three : not b ≡ true → Solved fits t mode limit n before before (answers.Refused 3) work work
+  solved-three h =
+      let q = entry-refused t mode n limit before b fits e h in
+      record { answered = q; means = entry-means (positionMethod fits t mode) limit n before before (answers.Refused 3) q; memory = after-three b fits e work h }
 
--- ---- `open_and_count`
-module _ (t : Table) (mode : Mode) (limit : ℕ) where
-  pub opening-refused : (k : ℕ) → openingOf true t limit ≡ ended k → countedOf mode t limit ≡ ended k
-  unfolding countedOf
-  opening-refused k e = on-ended _ _ _ {a = k} e
-
-  pub opening-passed : (m : Mode) (x : Run (Bool × ℕ × Iterate) ℕ) → m ≡ mode → openingOf true t limit ≡ going tt → countingOf m t limit ≡ x → countedOf mode t limit ≡ x
-  unfolding countedOf
-  opening-passed m x h e c = on-going _ _ _ {s = tt} e ∙ ap (λ (k : Mode). countingOf k t limit) (sym h) ∙ c
-
-pub counted-none : (t : Table) (masses jacobians : List Float) (links : List ℕ) (k : ℕ) → Counted t masses (iterated.Refused k) jacobians links
-counted-none t masses jacobians links k = record { met = λ count e. absurd (let z : _≡_ {A = ℕ} 0 1 = cc in omega arith); spent = λ e. absurd (let z : _≡_ {A = ℕ} 0 1 = cc in omega arith) }
-
--- ---- `work_out`: what is delivered of what is counted
-pub worked-out : (t : Table) (mode : Mode) (n limit : ℕ) (before : Lent) (x : Run (Bool × ℕ × Iterate) ℕ) (o : Outcome) → countedOf mode t limit ≡ x → outcomeOf n before (next x (finishedOf t)) ≡ o → outcomeOf n before (solve (positionMethod true t mode) limit) ≡ o
-unfolding solve finishedOf countedOf on
-worked-out t mode n limit before x o e h = ap (outcomeOf n before) (joined (openingOf true t limit) ∙ ap (λ (y : Run (Bool × ℕ × Iterate) ℕ). next y (deliver (positionMethod true t mode))) e) ∙ h
-  where
-    joined : (p : Run Unit ℕ) → next p (λ _. next (countingOf mode t limit) (deliver (positionMethod true t mode))) ≡ next (next p (λ _. countingOf mode t limit)) (deliver (positionMethod true t mode))
-    joined (going _) = refl
-    joined (ended k) = refl
-
--- ---- the entry
-module _ (t : Table) (mode : Mode) (n limit : ℕ) (before : Lent) (b fits : Bool) (e : b ≡ fits) where
-  pub entry-refused : not b ≡ true → outcomeOf n before (solve (positionMethod fits t mode) limit) ≡ outcome (answers.Refused 3) before
-  unfolding solve outcomeOf openingOf judge
-  entry-refused h = ap (outcomeOf n before) (on-ended _ _ _ {a = 3} (test-fail fits 3 _ e h))
-
-  pub entry-on : (o : Outcome) → not b ≡ false → outcomeOf n before (solve (positionMethod true t mode) limit) ≡ o → outcomeOf n before (solve (positionMethod fits t mode) limit) ≡ o
-  entry-on o h q = let z : true ≡ fits = sym (not-false b h) ∙ e in ap (λ (x : Bool). outcomeOf n before (solve (positionMethod x t mode) limit)) (sym z) ∙ q
-
--- whatever the answer, it means what it says
-module _ (m : Method Iterate Carried Delivered) (limit n : ℕ) (before after : Lent) (r : PositionPcg) where
-  said : (a : Answer) → solve m limit ≡ a → SolveMeaning m limit n before (outcomeOf n before a .answer) (outcomeOf n before a .lent)
-  unfolding outcomeOf
-  said (going ((flag, count, v), f)) e = let w = means m limit (going ((flag, count, v), f)) e in record { step = v; delivered = f; accepted = w .0; result-is = refl; lent-is = refl; none-turns-back = w .1 }
-  said (ended k) e = record { turned = means m limit (ended k) e; kept = refl }
-
-  pub entry-means : outcomeOf n before (solve m limit) ≡ outcome r after → SolveMeaning m limit n before r after
-  entry-means e = told (outcome r after) e
-    where
-      told : (o : Outcome) → outcomeOf n before (solve m limit) ≡ o → SolveMeaning m limit n before (o .answer) (o .lent)
-      told o q = rw (← q) (said (solve m limit) refl)
+  pub solved-on : (x : Run (Bool × ℕ × Iterate) ℕ) (after : Lent) (answer : PositionPcg) (workAfter : WorkMemory) → not b ≡ false → countedOf mode t limit ≡ x → outcomeOf n before (next x (finishedOf t)) ≡ record { answer = answer; lent = after }
+      → workAfter .steps ≡ clearedSteps (work .steps) → workAfter .table ≡ clearedTable (work .table) → Solved fits t mode limit n before after answer work workAfter
+  solved-on x after answer workAfter h c d es et =
+      let o : Outcome = record { answer = answer; lent = after } in
+      let q = entry-on t mode n limit before b fits e o h (delivered-of t mode n limit before x o c d) in
+      record { answered = q; means = entry-means (positionMethod fits t mode) limit n before after answer q; memory = after-cleared b fits e work workAfter h (work-cleared work workAfter es et) }

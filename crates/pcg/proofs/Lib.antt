@@ -1,4 +1,3 @@
 -- Laws of the position solve.
-pub mod Openings
 pub mod Roomy
 pub mod Entry

@@ -1,6 +1,6 @@
 -- What refusal 3 has passed: every length is what the counts call for. Assumes nothing.
-use Prim.Native.Nat.{ℕ, _+_, _*_}
-use mathlib.Core.Path.{_≡_, refl}
+use Prim.Native.Nat.{ℕ, _+_, _*_, _≤_}
+use mathlib.Core.Path.{_≡_, refl, _∙_}
 use mathlib.Core.Bool.{Bool, true, false, _&&_}
 use native.Mathlib.Omega.{arith}
 use lib.Dec.{eqb}
@@ -8,10 +8,10 @@ use lib.ListN.{length}
 use borrow.Author.Tests.{eqb-true}
 use Rattle.pairs.specs.Pairs.{pairRoom}
 use Rattle.position_steps.specs.Counting.{CountRoom}
-use Rattle.pcg.specs.Lengths.{countsFit, tableFits, vectorsFit, factorFits, passes3}
-use Rattle.pcg.specs.declared.fit.TableLengths.{TableLengths}
-use Rattle.pcg.specs.declared.fit.VectorLengths.{VectorLengths}
-use Rattle.pcg.specs.declared.fit.FactorLengths.{FactorLengths}
+use Rattle.work_memory.specs.Lengths.{countsFit, tableFits, vectorsFit, factorFits, passes3}
+use Rattle.work_memory.specs.declared.fit.TableLengths.{TableLengths}
+use Rattle.work_memory.specs.declared.fit.VectorLengths.{VectorLengths}
+use Rattle.work_memory.specs.declared.fit.FactorLengths.{FactorLengths}
 
 and-left : (a b : Bool) → (a && b) ≡ true → a ≡ true
 and-left true b e = refl
@@ -223,8 +223,9 @@ module _ (n b mode : ℕ) (t : TableLengths) (v : VectorLengths) (f : FactorLeng
     room-long = refl;
   }
 
-  pub solution-room : t .solution ≡ n
-  solution-room = solution-fits n b t table-passed
+  -- what the delivery asks
+  pub finish-table : (t .numbers ≡ 27 * n) × (t .words ≡ 8 * n) × (10 * b ≤ t .masses) × (t .solution ≡ n) × (t .impulses ≡ 6 * b)
+  finish-table = (numbers-fits n b t table-passed, words-fits n b t table-passed, omega (arith, masses-fits n b t table-passed), solution-fits n b t table-passed, impulses-fits n b t table-passed)
 
-  pub impulses-room : t .impulses ≡ 6 * b
-  impulses-room = impulses-fits n b t table-passed
+  pub finish-works : (j l p r i : ℕ) → j ≡ v .jacobians → l ≡ v .links → p ≡ v .pending → r ≡ v .residual → i ≡ v .«body_impulses» → (12 * n ≤ j) × (2 * n ≤ l) × (p ≡ n) × (r ≡ n) × (i ≡ 6 * b)
+  finish-works j l p r i ej el ep er ei = (omega (arith, jacobians-fits n b v vectors-passed), omega (arith, links-fits n b v vectors-passed), ep ∙ pending-fits n b v vectors-passed, er ∙ residual-fits n b v vectors-passed, ei ∙ body-impulses-fits n b v vectors-passed)

@@ -1,21 +1,16 @@
 -- What a solve promises: its answer with what is lent, what the answer means, and its work memory.
 use Prim.Native.Nat.{ℕ}
 use mathlib.Core.Path.{_≡_}
-use mathlib.Core.Bool.{Bool, true}
+use mathlib.Core.Bool.{Bool}
 use Rattle.kapitsa_joint.specs.Table.{Table}
 use Rattle.preconditioner.specs.declared.mode.Mode.{Mode}
 use Rattle.steps.specs.Solve.{solve}
 use Rattle.position_iteration.specs.Method.{positionMethod}
 use Rattle.position_delivery.specs.Outcome.{Lent, outcomeOf, SolveMeaning}
 use Rattle.position_delivery.specs.declared.answer.PositionPcg.{PositionPcg}
-use Rattle.work_memory.specs.Work.{WorkMemory, clearedWork, After}
+use Rattle.work_memory.specs.Work.{WorkMemory, After}
 
--- of n rows, once refusal 3 has passed
-pub record WorkedOut (t : Table) (mode : Mode) (limit n : ℕ) (before after : Lent) (answer : PositionPcg) (work workAfter : WorkMemory) : Type 0 where
-  pub answered : outcomeOf n before (solve (positionMethod true t mode) limit) ≡ record { answer = answer; lent = after }
-  pub emptied : workAfter ≡ clearedWork work
-
--- `fits` is whether refusal 3 passes
+-- of n rows; `fits` is whether refusal 3 passes
 pub record Solved (fits : Bool) (t : Table) (mode : Mode) (limit n : ℕ) (before after : Lent) (answer : PositionPcg) (work workAfter : WorkMemory) : Type 0 where
   pub answered : outcomeOf n before (solve (positionMethod fits t mode) limit) ≡ record { answer = answer; lent = after }  -- the answer and every lent number are the definition's, of refused calls too
   pub means : SolveMeaning (positionMethod fits t mode) limit n before answer after  -- demand 3

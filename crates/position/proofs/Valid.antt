@@ -1,6 +1,6 @@
 -- What refusal 7 tells of a row that it passes: its bodies have masses, and its residual starts finite. Assumes nothing.
 use Prim.Native.Nat.{ℕ, _+_, _*_, _<_, _≤_}
-use mathlib.Core.Path.{_≡_, refl, sym, _∙_, subst}
+use mathlib.Core.Path.{_≡_, refl, sym, subst}
 use mathlib.Core.Bool.{Bool, true, false, not, _&&_, false≢true}
 use mathlib.Core.List.{List}
 use mathlib.Core.Logic.{inl, inr}
@@ -54,10 +54,10 @@ module _ (bodies : ℕ) (r : ConstraintRow) (h : isValidOf bodies r ≡ true) wh
   unfolding startOf
   start-finite = neg-finite (r .scalars .error) (subst T (sym (error-finite (r .scalars) (right (bodiesBelowOf bodies (r .words) && jacobiansFiniteOf r) (scalarsFiniteOf (r .scalars)) before-range))) tt)
 
--- what `is_valid` answered lets the masses be read
-module _ (masses : List Float) (bodies : ℕ) (r : ConstraintRow) (v : Bool) (ev : v ≡ isValidOf bodies r) (h : not v ≡ false) (room : 10 * bodies ≤ length masses) where
+-- `is_valid_at` passed the row q in the slices, and r was read from there: its masses can be read
+module _ (masses : List Float) (bodies : ℕ) (r q : ConstraintRow) (v : Bool) (er : r ≡ q) (ev : v ≡ isValidOf bodies q) (h : not v ≡ false) (room : 10 * bodies ≤ length masses) where
   below : (r .words .«body_a» < bodies) × (r .words .«body_b» < bodies)
-  below = bodies-below bodies r (sym ev ∙ not-false v h)
+  below = bodies-below bodies r (rw (er, ← ev) (not-false v h))
 
   pub mass-a : 10 * (r .words .«body_a») + 10 ≤ length masses
   mass-a = omega (arith, below .0)

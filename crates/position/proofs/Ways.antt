@@ -59,12 +59,12 @@ module _ (rows bodies : ℕ) (numbers : List Float) (words : List ℕ) (masses :
   abbrev rowPrepared : Run (Float × Float) ℕ
   rowPrepared = next (rowJudged t i) (λ _. going (preparedDiagonal t i, preparedResidual t i))
 
-  module _ (r : ConstraintRow) (v : Bool) (er : r ≡ rowOf numbers words i) (ev : v ≡ isValidOf bodies r) where
+  module _ (v : Bool) (ev : v ≡ isValidOf bodies (rowOf numbers words i)) where
     pub row-seven : not v ≡ true → rowPrepared ≡ ended 7
     unfolding rowJudged judge test check on
-    row-seven h = rw (← er, ← ev, not-true v h)
+    row-seven h = rw (← ev, not-true v h)
 
-    pub row-on : (d x : Float) (k : RowDimension) {o : Run (Float × Float) ℕ} → not v ≡ false → d ≡ rowDiagonal (massOf masses) r → k ≡ dimensionOf (r .words .dimension) → x ≡ toleranceOf tolerance k
+    pub row-on : (r : ConstraintRow) (d x : Float) (k : RowDimension) {o : Run (Float × Float) ℕ} → not v ≡ false → r ≡ rowOf numbers words i → d ≡ rowDiagonal (massOf masses) r → k ≡ dimensionOf (r .words .dimension) → x ≡ toleranceOf tolerance k
         → diagonalJudged d (neg (r .scalars .error)) x ≡ o → rowPrepared ≡ o
     unfolding rowJudged preparedDiagonal preparedResidual startOf judge test check on
-    row-on d x k h ed ek ex e = rw (← er, ← ev, not-false v h, ← ed, ← ek, ← ex) e
+    row-on r d x k h er ed ek ex e = rw (← ev, not-false v h, ← er, ← ed, ← ek, ← ex) e

@@ -11,7 +11,7 @@ ghost use Rattle.kapitsa_joint.specs.Mass.{massOf};
 ghost use Rattle.kapitsa_joint.specs.Table.{tableOf};
 ghost use Rattle.position.specs.Prepare.{one, rowDiagonal, passes8, isLow, passes9, startOf, rowJudged, preparedDiagonal, preparedResidual};
 ghost use Rattle.position.specs.Answers.{rowOut, BegunHeld};
-use joint_refusals::is_valid;
+use joint_refusals::is_valid_at;
 use kapitsa_joint::ConstraintRow;
 use kapitsa_joint::JointTolerance;
 use kapitsa_joint::dimension;
@@ -86,10 +86,10 @@ fn prepare_row(
     ensures { λ r. ⌜ next (rowJudged (tableOf rows bodies (now (numbers .entry)) (now (words .entry)) (now (masses .entry)) tolerance) i)
         (λ _. going (preparedDiagonal (tableOf rows bodies (now (numbers .entry)) (now (words .entry)) (now (masses .entry)) tolerance) i, preparedResidual (tableOf rows bodies (now (numbers .entry)) (now (words .entry)) (now (masses .entry)) tolerance) i)) ≡ rowOut r ⌝ }
 {
-    let row = row_at(numbers, words, i);
-    if !is_valid(row, bodies) {
+    if !is_valid_at(numbers, words, i, bodies) {
         return RowAnswer::Refused(7);
     }
+    let row = row_at(numbers, words, i);
     let scalars = row.scalars;
     let row_words = row.words;
     judge_diagonal(

@@ -1,3 +1,4 @@
 -- Laws of what is delivered.
 pub mod Deliveries
 pub mod Counted
+pub mod Answered

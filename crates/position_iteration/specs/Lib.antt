@@ -1,3 +1,4 @@
 pub mod Method
 pub mod Standing
 pub mod Stands
+pub mod Counting

@@ -1,98 +1,126 @@
--- What refusal 3 has passed, and the memory that is lent: the first numbers of larger arrays. Assumes nothing.
+-- What refusal 3 has passed, the memory that is lent, the first numbers of larger arrays, and what the count and the delivery come to. Assumes nothing.
 use Prim.Native.Nat.{ℕ, _+_, _*_, _≤_}
-use mathlib.Core.Path.{_≡_, refl, sym, _∙_}
+use mathlib.Core.Path.{_≡_, refl, sym, ap, _∙_}
 use mathlib.Core.Bool.{Bool, true, false, not, _&&_}
 use mathlib.Core.List.{List}
 use native.Mathlib.Omega.{arith}
-use lib.Dec.{leb}
+use lib.Dec.{leb, eqb}
 use lib.ListN.{length, take}
 use lib.Seq.{length-take-le}
-use borrow.Author.Tests.{leb-true, eq-eqb, not-false}
-use Rattle.pairs.specs.Pairs.{pairRoom}
+use borrow.Author.Tests.{leb-true, eqb-true, not-false}
+use Rattle.loops.specs.Run.{Run, next}
 use Rattle.kapitsa_joint.specs.Table.{Table}
 use Rattle.preconditioner.specs.declared.mode.Mode.{Mode}
+use Rattle.recurrence.specs.Step.{Iterate}
+use Rattle.steps.specs.Solve.{solve}
+use Rattle.position_iteration.specs.Counting.{countedOf}
 use Rattle.position_iteration.specs.Method.{positionMethod}
-use Rattle.position_delivery.specs.Outcome.{Lent}
+use Rattle.position_steps.specs.Counting.{CountRoom}
+use Rattle.position_delivery.specs.Delivery.{finishedOf}
+use Rattle.position_delivery.specs.Outcome.{Lent, outcomeOf}
 use Rattle.position_delivery.specs.declared.answer.PositionPcg.{PositionPcg}
 use Rattle.position_delivery.specs.declared.answer.PositionPcg.the-variants as answers
-use Rattle.pcg.specs.Lengths.{countsFit, tableFits, vectorsFit, factorFits, passes3}
-use Rattle.pcg.specs.declared.fit.TableLengths.{TableLengths}
-use Rattle.pcg.specs.declared.fit.VectorLengths.{VectorLengths}
-use Rattle.pcg.specs.declared.fit.FactorLengths.{FactorLengths}
-use Rattle.work_memory.specs.Work.{WorkMemory}
-use Rattle.pcg.specs.Solved.{Solved}
-use Rattle.pcg.proofs.Entry.{entry-refused, entry-means}
+use Rattle.position_delivery.proofs.Answered.{delivered-of, entry-refused, entry-means}
+use Rattle.work_memory.specs.Lengths.{countsFit, tableFits}
+use Rattle.work_memory.specs.declared.fit.TableLengths.{TableLengths}
 use Rattle.position_solve.specs.Job.{jobFits, JobSolved}
+use Rattle.position_solve.specs.Room.{TableRoom, CompactRoom, FactorRoom}
 
-and-left : (a b : Bool) → (a && b) ≡ true → a ≡ true
-and-left true b e = refl
-and-left false b e = absurd (let z : _≡_ {A = ℕ} 0 1 = cc in omega arith)
+both : (p q : Bool) → (p && q) ≡ true → (p ≡ true) × (q ≡ true)
+both true q e = (refl, e)
+both false q e = absurd (let z : _≡_ {A = ℕ} 0 1 = cc in omega arith)
 
-and-right : (a b : Bool) → (a && b) ≡ true → b ≡ true
-and-right true b e = e
-and-right false b e = absurd (let z : _≡_ {A = ℕ} 0 1 = cc in omega arith)
+all-three : (p q r : Bool) → ((p && q) && r) ≡ true → (p ≡ true) × (q ≡ true) × (r ≡ true)
+all-three p q r e = let x = both (p && q) r e in let y = both p q (x .0) in (y .0, y .1, x .1)
 
--- ---- the counts
-module _ (n b mode : ℕ) (t : TableLengths) (h : jobFits n b mode t ≡ true) where
-  counts : ((leb n 512 && leb b 256) && leb mode 2) ≡ true
-  unfolding jobFits countsFit
-  counts = and-left ((leb n 512 && leb b 256) && leb mode 2) (tableFits n b t) h
+all-five : (p q r s u : Bool) → ((((p && q) && r) && s) && u) ≡ true → (p ≡ true) × (q ≡ true) × (r ≡ true) × (s ≡ true) × (u ≡ true)
+all-five p q r s u e = let x = both (((p && q) && r) && s) u e in let y = both ((p && q) && r) s (x .0) in let z = all-three p q r (y .0) in (z .0, z .1, z .2, y .1, x .1)
 
-  pub rows-within : n ≤ 512
-  rows-within = leb-true n 512 (and-left (leb n 512) (leb b 256) (and-left (leb n 512 && leb b 256) (leb mode 2) counts))
+-- ---- what refusal 3 has passed
+pub job-room : (n b mode : ℕ) (t : TableLengths) → jobFits n b mode t ≡ true → TableRoom n b (t .numbers) (t .words) (t .masses) × ((t .solution ≡ n) × (t .impulses ≡ 6 * b))
+unfolding jobFits countsFit tableFits
+job-room n b mode t h =
+    let j = both (countsFit n b mode) (tableFits n b t) h in
+    let c = all-three (leb n 512) (leb b 256) (leb mode 2) (j .0) in
+    let l = all-five (eqb (t .numbers) (27 * n)) (eqb (t .words) (8 * n)) (eqb (t .masses) (10 * b)) (eqb (t .solution) n) (eqb (t .impulses) (6 * b)) (j .1) in
+    (record { rows-within = leb-true n 512 (c .0); bodies-within = leb-true b 256 (c .1); numbers-long = eqb-true (t .numbers) (27 * n) (l .0); words-long = eqb-true (t .words) (8 * n) (l .1); masses-long = eqb-true (t .masses) (10 * b) (l .2) }, (eqb-true (t .solution) n (l .3), eqb-true (t .impulses) (6 * b) (l .4)))
 
-  pub bodies-within : b ≤ 256
-  bodies-within = leb-true b 256 (and-right (leb n 512) (leb b 256) (and-left (leb n 512 && leb b 256) (leb mode 2) counts))
-
-  -- so the memory suffices
+-- so the memory suffices
+module _ {n b numbers words masses : ℕ} (r : TableRoom n b numbers words masses) where
   pub starts-within : n + 1 ≤ 513
-  starts-within = omega (arith, rows-within)
+  starts-within = omega (arith, r .rows-within)
 
   pub links-within : 2 * n ≤ 1024
-  links-within = omega (arith, rows-within)
+  links-within = omega (arith, r .rows-within)
 
   pub jacobians-within : 12 * n ≤ 6144
-  jacobians-within = omega (arith, rows-within)
+  jacobians-within = omega (arith, r .rows-within)
 
   pub blocks-within : 36 * n ≤ 18432
-  blocks-within = omega (arith, rows-within)
+  blocks-within = omega (arith, r .rows-within)
 
   pub body-within : 6 * b ≤ 1536
-  body-within = omega (arith, bodies-within)
+  body-within = omega (arith, r .bodies-within)
 
 -- ---- a part that is lent: the first w of m numbers, where the counts call for k
 module _ {A : Type 0} (m : ℕ) (l : List A) (w k : ℕ) (e : m ≡ length l) (p : w ≡ k) (q : k ≤ m) where
   pub within : w ≤ length l
   within = omega arith
 
+  pub lent-all : w ≡ length (take w l)
+  lent-all = sym (length-take-le w l within)
+
   pub lent-long : length (take w l) ≡ k
   lent-long = length-take-le w l within ∙ p
 
-  pub long-lent : k ≡ length (take w l)
-  long-lent = sym lent-long
+-- ---- all that the count asks for
+pub count-room : {n b room numbers words masses jacobians links owners diagonal residual pending preconditioned direction product bodyImpulses bodyResponses starts columns values pivots marks heads nexts homes blocks : ℕ}
+    → TableRoom n b numbers words masses → CompactRoom n b jacobians links residual pending bodyImpulses → FactorRoom n room starts columns values pivots marks heads nexts homes blocks
+    → owners ≡ n → diagonal ≡ n → preconditioned ≡ n → direction ≡ n → product ≡ n → bodyResponses ≡ 6 * b
+    → CountRoom n b room numbers words masses jacobians links owners diagonal residual pending preconditioned direction product bodyImpulses bodyResponses starts columns values pivots marks heads nexts homes blocks
+count-room t c f o d p x w s = record {
+  numbers-long = t .numbers-long;
+  words-long = t .words-long;
+  masses-long = t .masses-long;
+  jacobians-long = c .jacobians-long;
+  links-long = c .links-long;
+  owners-long = o;
+  diagonal-long = d;
+  residual-long = c .residual-long;
+  pending-long = c .pending-long;
+  preconditioned-long = p;
+  direction-long = x;
+  product-long = w;
+  body-impulses-long = c .body-impulses-long;
+  body-responses-long = s;
+  starts-long = f .starts-long;
+  columns-long = f .columns-long;
+  values-long = f .values-long;
+  pivots-long = f .pivots-long;
+  marks-long = f .marks-long;
+  heads-long = f .heads-long;
+  nexts-long = f .nexts-long;
+  homes-long = f .homes-long;
+  blocks-long = f .blocks-long;
+  room-long = f .room-long;
+}
 
--- ---- all of the factors' memory, and all of the rest
-pub factor-passed : (n : ℕ) (l : FactorLengths) → l .starts ≡ n + 1 → l .columns ≡ pairRoom n → l .values ≡ pairRoom n → l .pivots ≡ n → l .marks ≡ n → l .heads ≡ n → l .nexts ≡ pairRoom n → l .homes ≡ pairRoom n → l .blocks ≡ 36 * n → factorFits n (pairRoom n) l ≡ true
-unfolding factorFits
-factor-passed n l s c v p m h x o k = rw (eq-eqb _ _ s, eq-eqb _ _ c, eq-eqb _ _ v, eq-eqb _ _ p, eq-eqb _ _ m, eq-eqb _ _ h, eq-eqb _ _ x, eq-eqb _ _ o, eq-eqb _ _ k)
+-- ---- the promise
+module _ (fits : Bool) (t : Table) (mode : Mode) (limit n : ℕ) (before after : Lent) (answer : PositionPcg) where
+  -- the equation is all of it
+  promised : outcomeOf n before (solve (positionMethod fits t mode) limit) ≡ record { answer = answer; lent = after } → JobSolved fits t mode limit n before after answer
+  promised q = record { answered = q; means = entry-means (positionMethod fits t mode) limit n before after answer q }
 
-module _ (n b : ℕ) where
-  pub vectors-passed : (l : VectorLengths) → l .jacobians ≡ 12 * n → l .links ≡ 2 * n → l .owners ≡ n → l .diagonal ≡ n → l .residual ≡ n → l .pending ≡ n → l .preconditioned ≡ n → l .direction ≡ n → l .product ≡ n → l .«body_impulses» ≡ 6 * b → l .«body_responses» ≡ 6 * b → vectorsFit n b l ≡ true
-  unfolding vectorsFit
-  vectors-passed l j k o d r p c x w i s = rw (eq-eqb _ _ j, eq-eqb _ _ k, eq-eqb _ _ o, eq-eqb _ _ d, eq-eqb _ _ r, eq-eqb _ _ p, eq-eqb _ _ c, eq-eqb _ _ x, eq-eqb _ _ w, eq-eqb _ _ i, eq-eqb _ _ s)
+-- what is counted, for the mode that a word stands for, and what is delivered of it
+pub job-solved : (t : Table) (m mode : Mode) (limit n : ℕ) (before after : Lent) (answer : PositionPcg) (x : Run (Bool × ℕ × Iterate) ℕ)
+    → m ≡ mode → countedOf m t limit ≡ x → outcomeOf n before (next x (finishedOf t)) ≡ record { answer = answer; lent = after } → JobSolved true t mode limit n before after answer
+job-solved t m mode limit n before after answer x e h q =
+    promised true t mode limit n before after answer (delivered-of t mode n limit before x (record { answer = answer; lent = after }) (ap (λ (k : Mode). countedOf k t limit) (sym e) ∙ h) q)
 
-  pub all-passed : (mode : ℕ) (t : TableLengths) (v : VectorLengths) (f : FactorLengths) → jobFits n b mode t ≡ true → vectorsFit n b v ≡ true → factorFits n (pairRoom n) f ≡ true → passes3 n b mode t v f ≡ true
-  unfolding jobFits passes3
-  all-passed mode t v f j p q = rw (j, p, q)
-
--- ---- refusal 3
+-- refusal 3
 module _ (t : Table) (mode : Mode) (limit n : ℕ) (before after : Lent) (answer : PositionPcg) (b fits : Bool) (e : b ≡ fits) where
   pub job-passed : not b ≡ false → JobSolved true t mode limit n before after answer → JobSolved fits t mode limit n before after answer
   job-passed h s = rw (← (sym (not-false b h) ∙ e)) s
 
 pub job-refused : (t : Table) (mode : Mode) (limit n : ℕ) (before : Lent) (b fits : Bool) → b ≡ fits → not b ≡ true → JobSolved fits t mode limit n before before (answers.Refused 3)
-job-refused t mode limit n before b fits e h = let q = entry-refused t mode n limit before b fits e h in record { answered = q; means = entry-means (positionMethod fits t mode) limit n before before (answers.Refused 3) q }
-
--- what the solve over lent memory promises
-pub job-solved : (fits : Bool) (t : Table) (mode : Mode) (limit n : ℕ) (before after : Lent) (answer : PositionPcg) (work workAfter : WorkMemory) → Solved fits t mode limit n before after answer work workAfter → fits ≡ true → JobSolved true t mode limit n before after answer
-job-solved fits t mode limit n before after answer work workAfter s e = rw (← e) (record { answered = s .answered; means = s .means })
+job-refused t mode limit n before b fits e h = promised fits t mode limit n before before (answers.Refused 3) (entry-refused t mode n limit before b fits e h)

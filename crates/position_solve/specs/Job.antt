@@ -1,5 +1,5 @@
 -- A solve that brings its own work memory: what it refuses by 3, and what it promises.
-use Prim.Native.Nat.{ℕ, _*_}
+use Prim.Native.Nat.{ℕ}
 use mathlib.Core.Path.{_≡_}
 use mathlib.Core.Bool.{Bool, _&&_}
 use Rattle.kapitsa_joint.specs.Table.{Table}
@@ -8,21 +8,12 @@ use Rattle.steps.specs.Solve.{solve}
 use Rattle.position_iteration.specs.Method.{positionMethod}
 use Rattle.position_delivery.specs.Outcome.{Lent, outcomeOf, SolveMeaning}
 use Rattle.position_delivery.specs.declared.answer.PositionPcg.{PositionPcg}
-use Rattle.pcg.specs.Lengths.{countsFit, tableFits}
-use Rattle.pcg.specs.declared.fit.TableLengths.{TableLengths}
+use Rattle.work_memory.specs.Lengths.{countsFit, tableFits}
+use Rattle.work_memory.specs.declared.fit.TableLengths.{TableLengths}
 
 -- Document 01, refusal 3, of what a caller lends: the counts, the mode, and the lengths of the table and of what takes the answer. True where the refusal does not apply.
 unfoldable pub jobFits : ℕ → ℕ → ℕ → TableLengths → Bool
 jobFits n b mode t = countsFit n b mode && tableFits n b t
-
--- the lengths that n rows and b bodies call for, of the vectors of a step
-pub record StepRoom (n b owners diagonal preconditioned direction product bodyResponses : ℕ) : Type 0 where
-  pub owners-long : owners ≡ n
-  pub diagonal-long : diagonal ≡ n
-  pub preconditioned-long : preconditioned ≡ n
-  pub direction-long : direction ≡ n
-  pub product-long : product ≡ n
-  pub body-responses-long : bodyResponses ≡ 6 * b
 
 -- of n rows; `fits` is whether refusal 3 passes
 pub record JobSolved (fits : Bool) (t : Table) (mode : Mode) (limit n : ℕ) (before after : Lent) (answer : PositionPcg) : Type 0 where

@@ -1,12 +1,14 @@
 // The solve: refusal 3, then the memory, lent by groups, so that no function lends much of it.
 ghost use mathlib.Core.Path.{_≡_};
 ghost use mathlib.Core.Bool.{true};
+ghost use Prim.Native.Nat.{_*_};
 ghost use lib.ListN.{length};
 ghost use Rattle.kapitsa_joint.specs.Table.{tableOf};
-ghost use Rattle.pairs.specs.Pairs.{pairRoom};
 ghost use Rattle.preconditioner.specs.Mode.{modeOf};
-ghost use Rattle.pcg.specs.Lengths.{tableLengths, factorLengths, factorFits};
-ghost use Rattle.position_solve.specs.Job.{jobFits, StepRoom, JobSolved};
+ghost use Rattle.position_steps.specs.Counting.{CountHeld};
+ghost use Rattle.work_memory.specs.Lengths.{tableLengths};
+ghost use Rattle.position_solve.specs.Job.{jobFits, JobSolved};
+ghost use Rattle.position_solve.specs.Room.{TableRoom, CompactRoom, FactorRoom};
 use crate::fit::job_fits;
 use crate::room::block_room;
 use crate::room::body_room;
@@ -19,100 +21,30 @@ use crate::room::row_word_room;
 use crate::room::start_room;
 use kapitsa_joint::JointTolerance;
 use pairs::pair_room;
-use pcg::fit::TableLengths;
-use pcg::solve_position_pcg_prepared;
 use position_delivery::PositionPcg;
+use position_delivery::finish_counted;
+use position_iteration::Iterated;
+use position_steps::count_steps;
+use preconditioner::Mode;
+use preconditioner::mode_of;
 use sparse::wide;
+use work_memory::TableLengths;
 
-// With memory for the compact table, residual, pending solution and impulses: all of it.
-fn with_table(
-    numbers: &mut [f64],
-    words: &[u32],
-    masses: &[f64],
-    rows: u32,
-    bodies: u32,
-    tolerance: JointTolerance,
-    limit: u32,
-    mode: u32,
-    solution: &mut [f64],
-    impulses: &mut [f64],
-    owners: &mut [u32],
-    diagonal: &mut [f64],
-    preconditioned: &mut [f64],
-    direction: &mut [f64],
-    product: &mut [f64],
-    body_responses: &mut [f64],
-    starts: &mut [u32],
-    columns: &mut [u32],
-    values: &mut [f64],
-    pivots: &mut [f64],
-    marks: &mut [u32],
-    heads: &mut [u32],
-    nexts: &mut [u32],
-    homes: &mut [u32],
-    blocks: &mut [f64],
-) -> PositionPcg
-    requires { ⌜ jobFits rows bodies mode (tableLengths (now numbers) (now words) (now masses) (now solution) (now impulses)) ≡ true ⌝ }
-    requires { ⌜ StepRoom rows bodies (length (now owners)) (length (now diagonal)) (length (now preconditioned)) (length (now direction)) (length (now product)) (length (now «body_responses»)) ⌝ }
-    requires { ⌜ factorFits rows (pairRoom rows) (factorLengths (now starts) (now columns) (now values) (now pivots) (now marks) (now heads) (now nexts) (now homes) (now blocks)) ≡ true ⌝ }
-    ensures { λ r. ⌜ JobSolved true (tableOf rows bodies (now (numbers .entry)) (now (words .entry)) (now (masses .entry)) tolerance) (modeOf mode) limit rows record { numbers = now (numbers .entry); solution = now (solution .entry); impulses = now (impulses .entry) } record { numbers = now (numbers .exit); solution = now (solution .exit); impulses = now (impulses .exit) } r ⌝ }
-{
-    let mut jacobians = jacobian_room();
-    let mut links = link_room();
-    let mut residual = row_room();
-    let mut pending = row_room();
-    let mut body_impulses = body_room();
-    let n = wide(rows);
-    let b = wide(bodies);
-    let jacobian_numbers = 12 * n;
-    let body_links = 2 * n;
-    let body_numbers = 6 * b;
-    solve_position_pcg_prepared(
-        numbers,
-        words,
-        masses,
-        rows,
-        bodies,
-        tolerance,
-        limit,
-        mode,
-        solution,
-        impulses,
-        &mut jacobians[..jacobian_numbers],
-        &mut links[..body_links],
-        owners,
-        diagonal,
-        &mut residual[..n],
-        &mut pending[..n],
-        preconditioned,
-        direction,
-        product,
-        &mut body_impulses[..body_numbers],
-        body_responses,
-        starts,
-        columns,
-        values,
-        pivots,
-        marks,
-        heads,
-        nexts,
-        homes,
-        blocks,
-    )
-}
-
-// With memory for the vectors of a step.
+// The count, with memory for the vectors of a step: all that it asks for.
 fn with_steps(
-    numbers: &mut [f64],
+    numbers: &[f64],
     words: &[u32],
     masses: &[f64],
     rows: u32,
     bodies: u32,
     tolerance: JointTolerance,
     limit: u32,
-    mode: u32,
-    solution: &mut [f64],
-    impulses: &mut [f64],
+    mode: Mode,
+    jacobians: &mut [f64],
+    links: &mut [u32],
+    residual: &mut [f64],
+    pending: &mut [f64],
+    body_impulses: &mut [f64],
     starts: &mut [u32],
     columns: &mut [u32],
     values: &mut [f64],
@@ -121,11 +53,13 @@ fn with_steps(
     heads: &mut [u32],
     nexts: &mut [u32],
     homes: &mut [u32],
+    room: u32,
     blocks: &mut [f64],
-) -> PositionPcg
-    requires { ⌜ jobFits rows bodies mode (tableLengths (now numbers) (now words) (now masses) (now solution) (now impulses)) ≡ true ⌝ }
-    requires { ⌜ factorFits rows (pairRoom rows) (factorLengths (now starts) (now columns) (now values) (now pivots) (now marks) (now heads) (now nexts) (now homes) (now blocks)) ≡ true ⌝ }
-    ensures { λ r. ⌜ JobSolved true (tableOf rows bodies (now (numbers .entry)) (now (words .entry)) (now (masses .entry)) tolerance) (modeOf mode) limit rows record { numbers = now (numbers .entry); solution = now (solution .entry); impulses = now (impulses .entry) } record { numbers = now (numbers .exit); solution = now (solution .exit); impulses = now (impulses .exit) } r ⌝ }
+) -> Iterated
+    requires { ⌜ TableRoom rows bodies (length (now numbers)) (length (now words)) (length (now masses)) ⌝ }
+    requires { ⌜ CompactRoom rows bodies (length (now jacobians)) (length (now links)) (length (now residual)) (length (now pending)) (length (now «body_impulses»)) ⌝ }
+    requires { ⌜ FactorRoom rows room (length (now starts)) (length (now columns)) (length (now values)) (length (now pivots)) (length (now marks)) (length (now heads)) (length (now nexts)) (length (now homes)) (length (now blocks)) ⌝ }
+    ensures { λ r. ⌜ CountHeld mode (tableOf rows bodies (now (numbers .entry)) (now (words .entry)) (now (masses .entry)) tolerance) limit (now (masses .entry)) r (now (jacobians .exit)) (now (links .exit)) (now (pending .exit)) (now (residual .exit)) ⌝ }
 {
     let mut owners = row_word_room();
     let mut diagonal = row_room();
@@ -136,7 +70,7 @@ fn with_steps(
     let n = wide(rows);
     let b = wide(bodies);
     let body_numbers = 6 * b;
-    with_table(
+    count_steps(
         numbers,
         words,
         masses,
@@ -145,13 +79,16 @@ fn with_steps(
         tolerance,
         limit,
         mode,
-        solution,
-        impulses,
+        jacobians,
+        links,
         &mut owners[..n],
         &mut diagonal[..n],
+        residual,
+        pending,
         &mut preconditioned[..n],
         &mut direction[..n],
         &mut product[..n],
+        body_impulses,
         &mut body_responses[..body_numbers],
         starts,
         columns,
@@ -161,25 +98,30 @@ fn with_steps(
         heads,
         nexts,
         homes,
+        room,
         blocks,
     )
 }
 
-// With memory for the factors.
+// The count, with memory for the factors.
 fn with_factor(
-    numbers: &mut [f64],
+    numbers: &[f64],
     words: &[u32],
     masses: &[f64],
     rows: u32,
     bodies: u32,
     tolerance: JointTolerance,
     limit: u32,
-    mode: u32,
-    solution: &mut [f64],
-    impulses: &mut [f64],
-) -> PositionPcg
-    requires { ⌜ jobFits rows bodies mode (tableLengths (now numbers) (now words) (now masses) (now solution) (now impulses)) ≡ true ⌝ }
-    ensures { λ r. ⌜ JobSolved true (tableOf rows bodies (now (numbers .entry)) (now (words .entry)) (now (masses .entry)) tolerance) (modeOf mode) limit rows record { numbers = now (numbers .entry); solution = now (solution .entry); impulses = now (impulses .entry) } record { numbers = now (numbers .exit); solution = now (solution .exit); impulses = now (impulses .exit) } r ⌝ }
+    mode: Mode,
+    jacobians: &mut [f64],
+    links: &mut [u32],
+    residual: &mut [f64],
+    pending: &mut [f64],
+    body_impulses: &mut [f64],
+) -> Iterated
+    requires { ⌜ TableRoom rows bodies (length (now numbers)) (length (now words)) (length (now masses)) ⌝ }
+    requires { ⌜ CompactRoom rows bodies (length (now jacobians)) (length (now links)) (length (now residual)) (length (now pending)) (length (now «body_impulses»)) ⌝ }
+    ensures { λ r. ⌜ CountHeld mode (tableOf rows bodies (now (numbers .entry)) (now (words .entry)) (now (masses .entry)) tolerance) limit (now (masses .entry)) r (now (jacobians .exit)) (now (links .exit)) (now (pending .exit)) (now (residual .exit)) ⌝ }
 {
     let mut starts = start_room();
     let mut columns = pair_word_room();
@@ -192,7 +134,8 @@ fn with_factor(
     let mut blocks = block_room();
     let n = wide(rows);
     let ends = n + 1;
-    let places = wide(pair_room(rows));
+    let room = pair_room(rows);
+    let places = wide(room);
     let block_numbers = 36 * n;
     with_steps(
         numbers,
@@ -203,8 +146,11 @@ fn with_factor(
         tolerance,
         limit,
         mode,
-        solution,
-        impulses,
+        jacobians,
+        links,
+        residual,
+        pending,
+        body_impulses,
         &mut starts[..ends],
         &mut columns[..places],
         &mut values[..places],
@@ -213,7 +159,111 @@ fn with_factor(
         &mut heads[..n],
         &mut nexts[..places],
         &mut homes[..places],
+        room,
         &mut blocks[..block_numbers],
+    )
+}
+
+// The count, then what is delivered of it.
+fn count_and_finish(
+    numbers: &mut [f64],
+    words: &[u32],
+    masses: &[f64],
+    rows: u32,
+    bodies: u32,
+    tolerance: JointTolerance,
+    limit: u32,
+    mode: u32,
+    solution: &mut [f64],
+    impulses: &mut [f64],
+    jacobians: &mut [f64],
+    links: &mut [u32],
+    residual: &mut [f64],
+    pending: &mut [f64],
+    body_impulses: &mut [f64],
+) -> PositionPcg
+    requires { ⌜ TableRoom rows bodies (length (now numbers)) (length (now words)) (length (now masses)) ⌝ }
+    requires { ⌜ (length (now solution) ≡ rows) × (length (now impulses) ≡ 6 * bodies) ⌝ }
+    requires { ⌜ CompactRoom rows bodies (length (now jacobians)) (length (now links)) (length (now residual)) (length (now pending)) (length (now «body_impulses»)) ⌝ }
+    ensures { λ r. ⌜ JobSolved true (tableOf rows bodies (now (numbers .entry)) (now (words .entry)) (now (masses .entry)) tolerance) (modeOf mode) limit rows record { numbers = now (numbers .entry); solution = now (solution .entry); impulses = now (impulses .entry) } record { numbers = now (numbers .exit); solution = now (solution .exit); impulses = now (impulses .exit) } r ⌝ }
+{
+    let counted = with_factor(
+        numbers,
+        words,
+        masses,
+        rows,
+        bodies,
+        tolerance,
+        limit,
+        mode_of(mode),
+        jacobians,
+        links,
+        residual,
+        pending,
+        body_impulses,
+    );
+    finish_counted(
+        counted,
+        limit,
+        numbers,
+        words,
+        masses,
+        rows,
+        bodies,
+        tolerance,
+        jacobians,
+        links,
+        pending,
+        residual,
+        body_impulses,
+        solution,
+        impulses,
+    )
+}
+
+// With memory for the compact table, residual, pending solution and impulses.
+fn with_table(
+    numbers: &mut [f64],
+    words: &[u32],
+    masses: &[f64],
+    rows: u32,
+    bodies: u32,
+    tolerance: JointTolerance,
+    limit: u32,
+    mode: u32,
+    solution: &mut [f64],
+    impulses: &mut [f64],
+) -> PositionPcg
+    requires { ⌜ TableRoom rows bodies (length (now numbers)) (length (now words)) (length (now masses)) ⌝ }
+    requires { ⌜ (length (now solution) ≡ rows) × (length (now impulses) ≡ 6 * bodies) ⌝ }
+    ensures { λ r. ⌜ JobSolved true (tableOf rows bodies (now (numbers .entry)) (now (words .entry)) (now (masses .entry)) tolerance) (modeOf mode) limit rows record { numbers = now (numbers .entry); solution = now (solution .entry); impulses = now (impulses .entry) } record { numbers = now (numbers .exit); solution = now (solution .exit); impulses = now (impulses .exit) } r ⌝ }
+{
+    let mut jacobians = jacobian_room();
+    let mut links = link_room();
+    let mut residual = row_room();
+    let mut pending = row_room();
+    let mut body_impulses = body_room();
+    let n = wide(rows);
+    let b = wide(bodies);
+    let jacobian_numbers = 12 * n;
+    let body_links = 2 * n;
+    let body_numbers = 6 * b;
+    count_and_finish(
+        numbers,
+        words,
+        masses,
+        rows,
+        bodies,
+        tolerance,
+        limit,
+        mode,
+        solution,
+        impulses,
+        &mut jacobians[..jacobian_numbers],
+        &mut links[..body_links],
+        &mut residual[..n],
+        &mut pending[..n],
+        &mut body_impulses[..body_numbers],
     )
 }
 
@@ -246,7 +296,7 @@ pub fn solve_position(
     ) {
         return PositionPcg::Refused(3);
     }
-    with_factor(
+    with_table(
         numbers,
         words,
         masses,

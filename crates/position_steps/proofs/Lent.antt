@@ -14,11 +14,11 @@ use Rattle.position_steps.specs.Counting.{CountRoom}
 module _ (rows bodies room numbers : ℕ) (words : List ℕ) (masses : List Float) (jacobians links owners diagonal residual pending preconditioned direction product impulses responses : ℕ) (m : Memory) (marks : ℕ)
     (r : CountRoom rows bodies room numbers (length words) (length masses) jacobians links owners diagonal residual pending preconditioned direction product impulses responses (length (m .starts)) (length (m .columns)) (length (m .values)) (length (m .pivots)) marks (length (m .index .heads)) (length (m .index .nexts)) (length (m .index .homes)) (length (m .blocks))) where
   -- `start`
-  pub start-reads : (numbers ≡ 27 * diagonal) × (length words ≡ 8 * diagonal) × (10 * bodies ≤ length masses)
-  start-reads = let e : diagonal ≡ rows = r .diagonal-long in (omega (arith, r .numbers-long), omega (arith, r .words-long), omega (arith, r .masses-long))
+  pub start-reads : (numbers ≡ 27 * rows) × (length words ≡ 8 * rows) × (10 * bodies ≤ length masses)
+  start-reads = (r .numbers-long, r .words-long, omega (arith, r .masses-long))
 
-  pub start-writes : (jacobians ≡ 12 * diagonal) × (links ≡ 2 * diagonal) × (owners ≡ diagonal) × (pending ≡ diagonal) × (residual ≡ diagonal)
-  start-writes = let e : diagonal ≡ rows = r .diagonal-long in (omega (arith, r .jacobians-long), omega (arith, r .links-long), omega (arith, r .owners-long), omega (arith, r .pending-long), omega (arith, r .residual-long))
+  pub start-writes : (jacobians ≡ 12 * rows) × (links ≡ 2 * rows) × (owners ≡ rows) × (diagonal ≡ rows) × (pending ≡ rows) × (residual ≡ rows)
+  start-writes = (r .jacobians-long, r .links-long, r .owners-long, r .diagonal-long, r .pending-long, r .residual-long)
 
   -- `position_vector_converged`
   pub rows-met : (k : ℕ) → k ≡ residual → 8 * k ≤ length words
@@ -32,8 +32,8 @@ module _ (rows bodies room numbers : ℕ) (words : List ℕ) (masses : List Floa
     pub run-works : (p v : ℕ) → p ≡ pending → v ≡ residual → (impulses ≡ 6 * w) × (responses ≡ 6 * w) × (product ≡ direction) × (preconditioned ≡ direction) × (p ≡ direction) × (v ≡ direction)
     run-works p v ep ev = (omega (arith, r .body-impulses-long), omega (arith, r .body-responses-long), r .product-long ∙ sym (r .direction-long), r .preconditioned-long ∙ sym (r .direction-long), ep ∙ r .pending-long ∙ sym (r .direction-long), ev ∙ r .residual-long ∙ sym (r .direction-long))
 
-    pub run-linked : (l : List ℕ) (n : ℕ) → n ≡ rows → Linked l n bodies → Linked l direction w
-    run-linked l n e h = subst (λ (i : ℕ). Linked l direction i) (sym ew) (subst (λ (i : ℕ). Linked l i bodies) (e ∙ sym (r .direction-long)) h)
+    pub run-linked : (l : List ℕ) → Linked l rows bodies → Linked l direction w
+    run-linked l h = subst (λ (i : ℕ). Linked l direction i) (sym ew) (subst (λ (i : ℕ). Linked l i bodies) (sym (r .direction-long)) h)
 
     pub run-rooms : (j : List Float) (l o : List ℕ) (d : List Float) → length j ≡ jacobians → length l ≡ links → length o ≡ owners → length d ≡ diagonal → Rooms direction w words masses j l o d m
     run-rooms j l o d ej el eo ed =

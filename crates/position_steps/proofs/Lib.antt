@@ -1,4 +1,5 @@
 -- Laws of the position solve's steps.
+pub mod Openings
 pub mod Tables
 pub mod StepZero
 pub mod Stepping

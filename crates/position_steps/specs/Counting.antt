@@ -1,23 +1,15 @@
--- Flag, count and the step counted: document 01, "If every |residual| ≤ its row's tolerance: accepted with count 0, before any factor is built. Then the recurrence".
+-- What the count asks of lent memory, and what it promises.
 use Prim.Native.Nat.{ℕ, _+_, _*_}
 use mathlib.Core.Path.{_≡_}
-use mathlib.Core.Bool.{Bool, true}
 use mathlib.Core.List.{List}
 use lib.Ieee.{Float}
-use Rattle.loops.specs.Run.{Run}
 use Rattle.kapitsa_joint.specs.Table.{Table}
 use Rattle.pairs.specs.Pairs.{pairRoom}
 use Rattle.preconditioner.specs.declared.mode.Mode.{Mode}
-use Rattle.recurrence.specs.Step.{Iterate}
-use Rattle.steps.specs.Solve.{counting}
-use Rattle.position_iteration.specs.Method.{positionMethod}
+use Rattle.position_iteration.specs.Counting.{countedOf}
 use Rattle.position_iteration.specs.Standing.{iteratedOut}
 use Rattle.position_iteration.specs.Stands.{Counted}
 use Rattle.position_iteration.specs.declared.iteration.Iterated.{Iterated}
-
--- what is judged before has passed: only the opening reads whether refusal 3 does
-abbrev pub countingOf : Mode → Table → ℕ → Run (Bool × ℕ × Iterate) ℕ
-countingOf mode t limit = counting (positionMethod true t mode) limit
 
 -- the lengths that the counts call for
 pub record CountRoom (rows bodies room : ℕ) (numbers words masses jacobians links owners diagonal residual pending preconditioned direction product bodyImpulses bodyResponses starts columns values pivots marks heads nexts homes blocks : ℕ) : Type 0 where
@@ -47,5 +39,5 @@ pub record CountRoom (rows bodies room : ℕ) (numbers words masses jacobians li
   pub room-long : room ≡ pairRoom rows
 
 pub record CountHeld (mode : Mode) (t : Table) (limit : ℕ) (masses : List Float) (answer : Iterated) (jacobians : List Float) (links : List ℕ) (pending residual : List Float) : Type 0 where
-  pub answered : countingOf mode t limit ≡ iteratedOut answer limit pending residual
+  pub answered : countedOf mode t limit ≡ iteratedOut answer limit pending residual
   pub counted : Counted t masses answer jacobians links

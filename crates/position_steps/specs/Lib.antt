@@ -1,3 +1,4 @@
+pub mod Opening
 pub mod Start
 pub mod Running
 pub mod Counting

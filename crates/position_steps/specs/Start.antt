@@ -1,9 +1,10 @@
--- What stands in the lent memory after step 0: the compact table is the system of the table, the owners are its joints.
+-- What is judged before step 0 and in it, and what stands in the lent memory after it: the compact table is the system of the table, the owners are its joints.
 use Prim.Native.Nat.{ℕ}
 use mathlib.Core.Path.{_≡_}
+use mathlib.Core.Bool.{true}
 use mathlib.Core.List.{List}
 use lib.Ieee.{Float}
-use Rattle.loops.specs.Run.{Run, going, ended}
+use Rattle.loops.specs.Run.{Run, going, ended, next}
 use Rattle.kapitsa_joint.specs.Table.{Table}
 use Rattle.compact_table.specs.Compact.{Linked}
 use Rattle.mass_operator.specs.System.{systemOf, compactSystem}
@@ -12,7 +13,7 @@ use Rattle.recurrence.specs.Step.{Iterate}
 use Rattle.position.specs.Prepare.{diagonals}
 use Rattle.position.specs.declared.prepare.Begun.{Begun}
 use Rattle.position.specs.declared.prepare.Begun.the-variants as begun
-use Rattle.position_iteration.specs.Method.{ownerOf, beginOf}
+use Rattle.position_iteration.specs.Method.{ownerOf, openingOf, beginOf}
 
 abbrev pub startOut : Begun → List Float → List Float → Run Iterate ℕ
 startOut begun.Done pending residual = going (record { solution = pending; residual = residual })
@@ -24,6 +25,6 @@ pub record Started (t : Table) (masses jacobians : List Float) (links owners : L
   pub diagonal-is : diagonal ≡ diagonals t
   pub linked : Linked links (t .rows) (t .bodies)
 
-pub record StartHeld (t : Table) (masses : List Float) (answer : Begun) (jacobians : List Float) (links owners : List ℕ) (diagonal pending residual : List Float) : Type 0 where
-  pub answered : beginOf t ≡ startOut answer pending residual
+pub record StartHeld (t : Table) (limit : ℕ) (masses : List Float) (answer : Begun) (jacobians : List Float) (links owners : List ℕ) (diagonal pending residual : List Float) : Type 0 where
+  pub answered : next (openingOf true t limit) (λ _. beginOf t) ≡ startOut answer pending residual
   pub started : answer ≡ begun.Done → Started t masses jacobians links owners diagonal

@@ -1,9 +1,11 @@
-// Step 0: diagonal and residual, and of each row what the steps read, side by side.
+// What is judged before step 0, then step 0: diagonal and residual, and of each row what the steps read, side by side.
 ghost use mathlib.Core.Path.{_≡_};
 ghost use Prim.Native.Nat.{_+_, _*_, _≤_};
 ghost use lib.ListN.{length};
 ghost use Rattle.kapitsa_joint.specs.Table.{tableOf};
 ghost use Rattle.position_steps.specs.Start.{StartHeld};
+use crate::opening::Opened;
+use crate::opening::open_table;
 use compact_table::gather;
 use kapitsa_joint::JointTolerance;
 use position::Begun;
@@ -15,8 +17,10 @@ pub fn start(
     numbers: &[f64],
     words: &[u32],
     masses: &[f64],
+    rows: u32,
     bodies: u32,
     tolerance: JointTolerance,
+    limit: u32,
     jacobians: &mut [f64],
     links: &mut [u32],
     owners: &mut [u32],
@@ -24,11 +28,17 @@ pub fn start(
     pending: &mut [f64],
     residual: &mut [f64],
 ) -> Begun
-    requires { ⌜ (length (now numbers) ≡ 27 * length (now diagonal)) × (length (now words) ≡ 8 * length (now diagonal)) × (10 * bodies ≤ length (now masses)) ⌝ }
-    requires { ⌜ (length (now jacobians) ≡ 12 * length (now diagonal)) × (length (now links) ≡ 2 * length (now diagonal)) × (length (now owners) ≡ length (now diagonal)) × (length (now pending) ≡ length (now diagonal)) × (length (now residual) ≡ length (now diagonal)) ⌝ }
-    ensures { λ r. ⌜ StartHeld (tableOf (length (now (diagonal .entry))) bodies (now (numbers .entry)) (now (words .entry)) (now (masses .entry)) tolerance) (now (masses .entry)) r
+    requires { ⌜ (length (now numbers) ≡ 27 * rows) × (length (now words) ≡ 8 * rows) × (10 * bodies ≤ length (now masses)) ⌝ }
+    requires { ⌜ (length (now jacobians) ≡ 12 * rows) × (length (now links) ≡ 2 * rows) × (length (now owners) ≡ rows) × (length (now diagonal) ≡ rows) × (length (now pending) ≡ rows) × (length (now residual) ≡ rows) ⌝ }
+    ensures { λ r. ⌜ StartHeld (tableOf rows bodies (now (numbers .entry)) (now (words .entry)) (now (masses .entry)) tolerance) limit (now (masses .entry)) r
         (now (jacobians .exit)) (now (links .exit)) (now (owners .exit)) (now (diagonal .exit)) (now (pending .exit)) (now (residual .exit)) ⌝ }
 {
+    match open_table(numbers, words, masses, rows, bodies, tolerance, limit) {
+        Opened::Done => {}
+        Opened::Refused(number) => {
+            return Begun::Refused(number);
+        }
+    }
     match begin(
         numbers,
         words,

@@ -1,4 +1,4 @@
-// From step 0 to the step that is counted: prepare, the count 0 test, factor, steps.
+// From what is judged before step 0 to the step that is counted: prepare, the count 0 test, factor, steps.
 ghost use mathlib.Core.Path.{_≡_};
 ghost use Prim.Native.Nat.{_+_, _*_, _≤_};
 ghost use lib.ListN.{length};
@@ -53,8 +53,10 @@ pub fn count_steps(
         numbers,
         words,
         masses,
+        rows,
         bodies,
         tolerance,
+        limit,
         jacobians,
         links,
         owners,

@@ -15,7 +15,7 @@ use Rattle.position_delivery.specs.Outcome.{Lent, Outcome, outcomeOf}
 use Rattle.position_delivery.specs.declared.answer.PositionPcg.{PositionPcg}
 use Rattle.position_delivery.specs.declared.answer.PositionPcg.the-variants as answers
 use Rattle.position_delivery.specs.declared.answer.PositionPcgResult.{PositionPcgResult}
-use Rattle.pcg.specs.Lengths.{tableLengths}
+use Rattle.work_memory.specs.Lengths.{tableLengths}
 use Rattle.position_solve.specs.Job.{jobFits}
 use Rattle.packed_list.specs.Packed.{groupOf}
 use Rattle.solve_replay.specs.Job.{headerOf, doublesOf, rowNumbers, rowWords}

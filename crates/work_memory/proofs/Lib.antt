@@ -1,2 +1,3 @@
 -- Laws of the work memory.
 pub mod Cleared
+pub mod Lengths

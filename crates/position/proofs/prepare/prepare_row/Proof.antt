@@ -11,9 +11,9 @@ pub prepare-row-spec : {M : Type 1} → statement M
 prepare-row-spec =
     tie.close
     (tie.spec
-    (λ c κs. search known)  -- row-at-requires
-    (λ c κs. search known)  -- is-valid-requires
+    (λ c κs. search known)  -- is-valid-at-requires
     (λ c. search known)  -- returns
+    (λ c κs. search known)  -- row-at-requires
     (λ c κs. search known)  -- row-diagonal-requires
     (λ c κs. search known)  -- dimension-requires
     (λ c κs. search known)  -- of-requires

@@ -1,0 +1,12 @@
+-- Flag, count and the step counted, once refusal 3 has passed: what is judged before step 0, then step 0 and the steps after it.
+use Prim.Native.Nat.{ℕ}
+use mathlib.Core.Bool.{Bool, true}
+use Rattle.loops.specs.Run.{Run, next}
+use Rattle.kapitsa_joint.specs.Table.{Table}
+use Rattle.preconditioner.specs.declared.mode.Mode.{Mode}
+use Rattle.recurrence.specs.Step.{Iterate}
+use Rattle.steps.specs.Solve.{counting}
+use Rattle.position_iteration.specs.Method.{openingOf, positionMethod}
+
+unfoldable pub countedOf : Mode → Table → ℕ → Run (Bool × ℕ × Iterate) ℕ
+countedOf mode t limit = next (openingOf true t limit) (λ _. counting (positionMethod true t mode) limit)

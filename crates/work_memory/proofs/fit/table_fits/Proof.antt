@@ -1,0 +1,19 @@
+-- `work_memory::fit::table_fits` meets its contract. Assumes nothing.
+use mathlib.Core.Path.{refl}
+use Rattle.loops.proofs.Loop.{loops}
+use Rattle.work_memory.specs.Lengths.{tableFits}
+use Rattle.work_memory.proofs.fit.table_fits.Statement.{statement}
+use Rattle.work_memory.proofs.fit.table_fits.Tie as tie
+
+ruleset known = (loops)
+
+pub table-fits-spec : {M : Type 1} → statement M
+unfolding tableFits
+table-fits-spec =
+    tie.close
+    (tie.spec
+    (λ c. search known)  -- mul-result
+    (λ c. search known)  -- mul-result-2
+    (λ c. search known)  -- mul-result-3
+    (λ c. search known)  -- mul-result-4
+    (λ c. refl))  -- returns
