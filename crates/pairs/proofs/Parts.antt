@@ -11,9 +11,9 @@ use lib.ListN.{getD, set, length, length-set}
 use lib.Seq.{getD-set-same, getD-set-other}
 use borrow.Author.Tests.{lt-ltb, le-ltb, not-true, not-false, ltb-true, ltb-false}
 use Rattle.loops.specs.Run.{check}
-use Rattle.sparse.specs.Kept.{start, Rising, Missing}
+use Rattle.sparse.specs.Kept.{start, Missing}
 use Rattle.pairs.specs.Pairs.{rowPairs, pairCount}
-use Rattle.pairs.specs.Gather.{sharesIn, eightShare, eightApart, shareIn, triedOf, triedColumns, Part, RowPart, RowDone, Stored, Gathering}
+use Rattle.pairs.specs.Gather.{sharesIn, anyShare, eightApart, shareIn, triedOf, triedColumns, Begin, Part, RowPart, RowDone, Stored, Gathering}
 use Rattle.pairs.specs.declared.pattern.Gathered.{Gathered}
 use Rattle.pairs.specs.declared.pattern.Gathered.the-variants.{Done, Full}
 
@@ -31,9 +31,9 @@ row-yes : (share : ℕ → ℕ → Bool) (i m : ℕ) → share i m ≡ true → 
 unfolding rowPairs
 row-yes share i m e = rw (add-one m, e)
 
-row-no : (share : ℕ → ℕ → Bool) (i m : ℕ) → share i m ≡ false → rowPairs share i (m + 1) ≡ rowPairs share i m
+row-past : (share : ℕ → ℕ → Bool) (i m n : ℕ) → m ≤ n → ((k : ℕ) → m ≤ k → k < n → share i k ≡ false) → rowPairs share i n ≡ rowPairs share i m
 unfolding rowPairs
-row-no share i m e = rw (add-one m, e) (omega arith)
+row-past share i m n h = le-ind (λ n. ((k : ℕ) → m ≤ k → k < n → share i k ≡ false) → rowPairs share i n ≡ rowPairs share i m) (λ e. refl) (λ k l ih e. rw (e k l (omega arith)) (omega (arith, ih (λ q q1 q2. e q q1 (omega arith))))) n h
 
 -- ---- the ways through `try_column`
 module _ (links : List ℕ) (a b w j t′ : ℕ) (t : Bool) (et : t ≡ sharesIn links a b w) (ew : w ≡ j) (room p : ℕ) where
@@ -72,17 +72,18 @@ module _ {share : ℕ → ℕ → Bool} where
     counted = omega arith;
   }
 
-  part-skip : {columns : List ℕ} {i a b m : ℕ} → Part share columns i a b m → share i m ≡ false → Part share columns i a b (m + 1)
-  part-skip {columns} {i} {a} {b} {m} h e = record {
+  -- columns that share nothing are passed over
+  part-past : {columns : List ℕ} {i a b m : ℕ} (n : ℕ) → m ≤ n → Part share columns i a b m → ((k : ℕ) → m ≤ k → k < n → share i k ≡ false) → Part share columns i a b n
+  part-past {columns} {i} {a} {b} {m} n l h e = record {
     rising = record { forward = h .rising .forward; below = λ q q1 q2. omega (arith, h .rising .below q q1 q2); ascending = h .rising .ascending };
     right = h .right;
-    all = λ k lt. at k (ℕ-discrete k m) lt;
-    counted = omega (arith, h .counted, row-no share i m e);
+    all = λ k lt g. at k lt g (ltb k m) refl;
+    counted = h .counted ∙ ap (λ x. a + x) (sym (row-past share i m n l e));
   }
     where
-      at : (k : ℕ) → Dec (k ≡ m) → k < m + 1 → Missing columns a b k → share i k ≡ false
-      at k (yes z) lt _ = rw z e
-      at k (no z) lt g = h .all k (omega arith) g
+      at : (k : ℕ) → k < n → Missing columns a b k → (t : Bool) → ltb k m ≡ t → share i k ≡ false
+      at k lt g true t = h .all k (ltb-true k m t) g
+      at k lt g false t = e k (ltb-false k m t) lt
 
   -- what stands behind a part does not matter to it
   part-frame : {columns : List ℕ} (columns′ : List ℕ) {i a b m : ℕ} → Part share columns i a b m → ((q : ℕ) → q < b → getD columns′ q 0 ≡ getD columns q 0) → Part share columns′ i a b m
@@ -127,7 +128,7 @@ module _ {share : ℕ → ℕ → Bool} where
   turn : {columns₀ columns : List ℕ} {i a p m room q : ℕ} (s t : Bool) → share i m ≡ s → ltb p room ≡ t → RowPart share columns₀ columns i a p m → room ≡ length columns₀
       → cond s (check t (Done (p + 1)) Full) (Done p) ≡ Done q → RowPart share columns₀ (cond s (check t (set columns p m) columns) columns) i a q (m + 1)
   unfolding check
-  turn {p = p} {q = q} false t e el h l d = let u : p ≡ q = cc in rw (← u) (record { long = h .long; before = h .before; part = part-skip (h .part) e; room = h .room })
+  turn {p = p} {m = m} {q = q} false t e el h l d = let u : p ≡ q = cc in rw (← u) (record { long = h .long; before = h .before; part = part-past (m + 1) (omega arith) (h .part) (λ k k1 k2. let z : k ≡ m = omega arith in rw z e); room = h .room })
   turn {p = p} {room = room} {q = q} true false e el h l d = absurd (let z : _≡_ {A = ℕ} 0 1 = cc in omega arith)
   turn {columns₀} {columns} {p = p} {m = m} {room = room} {q = q} true true e el h l d =
       let u : p + 1 ≡ q = cc in
@@ -159,8 +160,13 @@ shares-same : (links : List ℕ) (i a b j : ℕ) → Bodies links i a b → shar
 unfolding shareIn
 shares-same links i a b j h = rw (h .a-is, h .b-is)
 
-pub row-none : (links columns : List ℕ) (i first room : ℕ) → room ≡ length columns → first ≤ room → RowPart (shareIn links) columns columns i first first 0
-row-none links columns i first room e l = record { long = refl; before = λ q h. refl; part = part-none columns i first; room = omega arith }
+pub row-begin : (links columns : List ℕ) (i from first : ℕ) → first ≤ length columns → Begin (shareIn links) i from → RowPart (shareIn links) columns columns i first first from
+row-begin links columns i from first l h = record {
+  long = refl;
+  before = λ q _. refl;
+  part = part-past from (omega arith) (part-none columns i first) (λ k _ k2. h .none k k2);
+  room = l;
+}
 
 module _ (links columns₀ columns : List ℕ) (i a b first p m room : ℕ) (r : Gathered) (h : RowPart (shareIn links) columns₀ columns i first p m) (z : Bodies links i a b)
     (e : r ≡ triedOf (sharesIn links a b m) room p) where
@@ -180,20 +186,30 @@ or-none : (x y : Bool) → (x || y) ≡ false → (x ≡ false) × (y ≡ false)
 or-none false y e = (refl, e)
 or-none true y e = absurd (let v : _≡_ {A = ℕ} 0 1 = cc in omega arith)
 
+any-none : (links : List ℕ) (a b j c : ℕ) → anyShare links a b j c ≡ false → (k : ℕ) → j ≤ k → k < j + c → sharesIn links a b k ≡ false
+unfolding anyShare
+any-none links a b j zero e k l u = absurd (omega arith)
+any-none links a b j (suc c) e k l u =
+    let (x, y) = or-none (anyShare links a b j c) (sharesIn links a b (j + c)) e in
+    at y (λ v. any-none links a b j c x k l v) (ℕ-discrete k (j + c))
+  where
+    at : sharesIn links a b (j + c) ≡ false → (k < j + c → sharesIn links a b k ≡ false) → Dec (k ≡ j + c) → sharesIn links a b k ≡ false
+    at y f (yes z) = rw z y
+    at y f (no z) = f (omega arith)
+
 pub eight-long : (i m : ℕ) → (not (eqb (m % 8) 0) || ltb (i - m) 8) ≡ false → 8 ≤ i - m
 eight-long i m e = ltb-false (i - m) 8 (or-none (not (eqb (m % 8) 0)) (ltb (i - m) 8) e .1)
 
-module _ (links : List ℕ) (i a b m w : ℕ) (ew : w ≡ m) where
+module _ (links : List ℕ) (i a b m : ℕ) where
   pub eight-few : (not (eqb (m % 8) 0) || ltb (i - m) 8) ≡ true → false ≡ eightApart links i a b m
   unfolding eightApart
   eight-few l = rw l
 
-  pub eight-more : (r : Bool) → (not (eqb (m % 8) 0) || ltb (i - m) 8) ≡ false → r ≡ eightShare links a b w → not r ≡ eightApart links i a b m
+  pub eight-more : (w : ℕ) (r s : Bool) → w ≡ m → (not (eqb (m % 8) 0) || ltb (i - m) 8) ≡ false → r ≡ anyShare links a b w 4 → s ≡ anyShare links a b (w + 4) 4 → not (r || s) ≡ eightApart links i a b m
   unfolding eightApart
-  eight-more r l e = rw (l, ← ew, e)
+  eight-more w r s ew l e f = rw (l, ← ew, e, f)
 
-module _ (links : List ℕ) (i a b m : ℕ) where
-  apart-test : (s t : Bool) → (not (eqb (m % 8) 0) || ltb (i - m) 8) ≡ s → eightShare links a b m ≡ t → eightApart links i a b m ≡ true → (s ≡ false) × (t ≡ false)
+  apart-test : (s t : Bool) → (not (eqb (m % 8) 0) || ltb (i - m) 8) ≡ s → (anyShare links a b m 4 || anyShare links a b (m + 4) 4) ≡ t → eightApart links i a b m ≡ true → (s ≡ false) × (t ≡ false)
   unfolding eightApart
   apart-test s t es et e = both s t (rw (es, et) at e)
     where
@@ -202,37 +218,22 @@ module _ (links : List ℕ) (i a b m : ℕ) where
       both false true e = absurd (let v : _≡_ {A = ℕ} 0 1 = cc in omega arith)
       both false false e = (refl, refl)
 
-  test : (r : Bool) → r ≡ eightApart links i a b m → r ≡ true → ((not (eqb (m % 8) 0) || ltb (i - m) 8) ≡ false) × (eightShare links a b m ≡ false)
-  test r e h = apart-test (not (eqb (m % 8) 0) || ltb (i - m) 8) (eightShare links a b m) refl refl (sym e ∙ h)
+  module _ (r : Bool) (e : r ≡ eightApart links i a b m) (t : r ≡ true) where
+    test : ((not (eqb (m % 8) 0) || ltb (i - m) 8) ≡ false) × ((anyShare links a b m 4 || anyShare links a b (m + 4) 4) ≡ false)
+    test = apart-test (not (eqb (m % 8) 0) || ltb (i - m) 8) (anyShare links a b m 4 || anyShare links a b (m + 4) 4) refl refl (sym e ∙ t)
 
-  pub eight-within : (r : Bool) → r ≡ eightApart links i a b m → r ≡ true → m + 8 ≤ i
-  eight-within r e h = let l = eight-long i m (test r e h .0) in omega arith
+    pub eight-within : m + 8 ≤ i
+    eight-within = let l = eight-long i m (test .0) in omega arith
 
-  module _ (columns₀ columns : List ℕ) (first p : ℕ) (z : Bodies links i a b) where
-    row-on : (k n : ℕ) → n ≡ k + 1 → RowPart (shareIn links) columns₀ columns i first p k → sharesIn links a b k ≡ false → RowPart (shareIn links) columns₀ columns i first p n
-    row-on k n e h s = rw e (record { long = h .long; before = h .before; part = part-skip (h .part) (shares-same links i a b k z ∙ s); room = h .room })
+    apart : (k : ℕ) → m ≤ k → k < m + 8 → sharesIn links a b k ≡ false
+    apart k l u = at (ltb k (m + 4)) refl (or-none (anyShare links a b m 4) (anyShare links a b (m + 4) 4) (test .1))
+      where
+        at : (x : Bool) → ltb k (m + 4) ≡ x → (anyShare links a b m 4 ≡ false) × (anyShare links a b (m + 4) 4 ≡ false) → sharesIn links a b k ≡ false
+        at true x both = any-none links a b m 4 (both .0) k l (ltb-true k (m + 4) x)
+        at false x both = any-none links a b (m + 4) 4 (both .1) k (ltb-false k (m + 4) x) (omega arith)
 
-    passed-over : RowPart (shareIn links) columns₀ columns i first p m → eightShare links a b m ≡ false → RowPart (shareIn links) columns₀ columns i first p (m + 8)
-    unfolding eightShare
-    passed-over h e =
-        let (l, u) = or-none (((sharesIn links a b m || sharesIn links a b (m + 1)) || sharesIn links a b (m + 2)) || sharesIn links a b (m + 3)) (((sharesIn links a b (m + 4) || sharesIn links a b (m + 5)) || sharesIn links a b (m + 6)) || sharesIn links a b (m + 7)) e in
-        let (l2, s3) = or-none ((sharesIn links a b m || sharesIn links a b (m + 1)) || sharesIn links a b (m + 2)) (sharesIn links a b (m + 3)) l in
-        let (l1, s2) = or-none (sharesIn links a b m || sharesIn links a b (m + 1)) (sharesIn links a b (m + 2)) l2 in
-        let (s0, s1) = or-none (sharesIn links a b m) (sharesIn links a b (m + 1)) l1 in
-        let (u2, s7) = or-none ((sharesIn links a b (m + 4) || sharesIn links a b (m + 5)) || sharesIn links a b (m + 6)) (sharesIn links a b (m + 7)) u in
-        let (u1, s6) = or-none (sharesIn links a b (m + 4) || sharesIn links a b (m + 5)) (sharesIn links a b (m + 6)) u2 in
-        let (s4, s5) = or-none (sharesIn links a b (m + 4)) (sharesIn links a b (m + 5)) u1 in
-        let r1 = row-on m (m + 1) refl h s0 in
-        let r2 = row-on (m + 1) (m + 2) (omega arith) r1 s1 in
-        let r3 = row-on (m + 2) (m + 3) (omega arith) r2 s2 in
-        let r4 = row-on (m + 3) (m + 4) (omega arith) r3 s3 in
-        let r5 = row-on (m + 4) (m + 5) (omega arith) r4 s4 in
-        let r6 = row-on (m + 5) (m + 6) (omega arith) r5 s5 in
-        let r7 = row-on (m + 6) (m + 7) (omega arith) r6 s6 in
-        row-on (m + 7) (m + 8) (omega arith) r7 s7
-
-    pub row-eight : (r : Bool) → RowPart (shareIn links) columns₀ columns i first p m → r ≡ eightApart links i a b m → r ≡ true → RowPart (shareIn links) columns₀ columns i first p (m + 8)
-    row-eight r h e t = passed-over h (test r e t .1)
+    pub row-eight : (columns₀ columns : List ℕ) (first p : ℕ) → Bodies links i a b → RowPart (shareIn links) columns₀ columns i first p m → RowPart (shareIn links) columns₀ columns i first p (m + 8)
+    row-eight columns₀ columns first p z h = record { long = h .long; before = h .before; part = part-past (m + 8) (omega arith) (h .part) (λ k k1 k2. shares-same links i a b k z ∙ apart k k1 k2); room = h .room }
 
 pub row-done : (links columns₀ columns : List ℕ) (i first p j room : ℕ) → RowPart (shareIn links) columns₀ columns i first p j → j ≤ i → i ≤ j → RowDone (Done p) (shareIn links) columns₀ columns i first room
 row-done links columns₀ columns i first p j room h l l′ = let e : j ≡ i = omega arith in record {
@@ -284,30 +285,21 @@ module _ {share : ℕ → ℕ → Bool} where
           (part-frame columns′ (h .parts x (omega arith)) (λ q q2. r .before q (omega (arith, h .order (x + 1) i (omega arith) (omega arith), h .last))))
 
   module _ (starts columns columns′ : List ℕ) (i p room : ℕ) (r : Gathered) (h : Stored share starts columns i p) (d : RowDone r share columns columns′ i p room) where
-    pub at-done : (starts′ : List ℕ) (q : ℕ) → i + 1 < length starts → starts′ ≡ set starts (i + 1) q → r ≡ Done q → Gathering (Done q) share starts′ columns′ (i + 1) room
-    at-done starts′ q l e t = record {
-      done = λ k u. let v : q ≡ k = cc in rw (← v, e) (stored-more h (d .done q t) l);
-      full = λ u. absurd (let v : _≡_ {A = ℕ} 0 1 = cc in omega arith);
-    }
+    pub rows-more : (starts′ : List ℕ) (q : ℕ) → i + 1 < length starts → starts′ ≡ set starts (i + 1) q → r ≡ Done q → Stored share starts′ columns′ (i + 1) q
+    rows-more starts′ q l e t = rw e (stored-more h (d .done q t) l)
 
-    pub at-full : r ≡ Full → Gathering Full share starts columns′ (i + 1) room
+    pub rows-full : (n : ℕ) → i < n → r ≡ Full → Gathering Full share starts columns′ n room
     unfolding pairCount
-    at-full t = record {
+    rows-full n l t = record {
       done = λ k u. absurd (let v : _≡_ {A = ℕ} 0 1 = cc in omega arith);
-      full = λ _. rw (add-one i) (omega (arith, d .full t, h .counted));
+      full = λ _. omega (arith, d .full t, h .counted, count-mono share (suc i) n (omega arith));
     }
 
   pub gather-on : (r : Gathered) (starts columns : List ℕ) (i room q : ℕ) → Gathering r share starts columns i room → r ≡ Done q → Stored share starts columns i q
   gather-on r starts columns i room q h t = h .done q t
 
-  pub gather-full : (r : Gathered) (starts columns : List ℕ) (i n room : ℕ) → Gathering r share starts columns (i + 1) room → r ≡ Full → i < n → Gathering Full share starts columns n room
-  gather-full r starts columns i n room h t l = record {
-    done = λ k u. absurd (let v : _≡_ {A = ℕ} 0 1 = cc in omega arith);
-    full = λ _. omega (arith, h .full t, count-mono share (i + 1) n (omega arith));
-  }
-
-  pub gather-end : (starts columns : List ℕ) (i n room p : ℕ) → Stored share starts columns i p → i ≤ n → n ≤ i → Gathering (Done p) share starts columns n room
-  gather-end starts columns i n room p h l l′ = let e : i ≡ n = omega arith in record {
+  pub rows-end : (starts columns : List ℕ) (i n room p : ℕ) → Stored share starts columns i p → i ≤ n → n ≤ i → Gathering (Done p) share starts columns n room
+  rows-end starts columns i n room p h l l′ = let e : i ≡ n = omega arith in record {
     done = λ k u. let v : p ≡ k = cc in rw (← v) (rw e at h);
     full = λ u. absurd (let v : _≡_ {A = ℕ} 0 1 = cc in omega arith);
   }

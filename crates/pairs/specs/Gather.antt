@@ -1,5 +1,5 @@
 -- What the functions that gather the pairs hand to one another.
-use Prim.Native.Nat.{ℕ, _+_, _-_, _*_, _%_, _<_, _≤_}
+use Prim.Native.Nat.{ℕ, zero, suc, _+_, _-_, _*_, _%_, _<_, _≤_}
 use mathlib.Core.Path.{_≡_}
 use mathlib.Core.Bool.{Bool, true, false, not, _||_, cond}
 use mathlib.Core.List.{List}
@@ -42,17 +42,34 @@ unfoldable pub sharesIn : List ℕ → ℕ → ℕ → ℕ → Bool
 sharesIn links a b j =
     (eqb a (getD links (2 * j) 0) || eqb a (getD links (2 * j + 1) 0)) || (eqb b (getD links (2 * j) 0) || eqb b (getD links (2 * j + 1) 0))
 
--- one of the eight rows from j on
-unfoldable pub eightShare : List ℕ → ℕ → ℕ → ℕ → Bool
-eightShare links a b j =
-    (((sharesIn links a b j || sharesIn links a b (j + 1)) || sharesIn links a b (j + 2)) || sharesIn links a b (j + 3)) || (((sharesIn links a b (j + 4) || sharesIn links a b (j + 5)) || sharesIn links a b (j + 6)) || sharesIn links a b (j + 7))
+-- one of the c rows from j on
+unfoldable pub anyShare : List ℕ → ℕ → ℕ → ℕ → ℕ → Bool
+anyShare links a b j zero = false
+anyShare links a b j (suc c) = anyShare links a b j c || sharesIn links a b (j + c)
 
--- none of them, and all are before row i; of every eighth j
+-- none of the eight rows from j on, and all are before row i; of every eighth j
 unfoldable pub eightApart : List ℕ → ℕ → ℕ → ℕ → ℕ → Bool
-eightApart links i a b j = cond (not (eqb (j % 8) 0) || ltb (i - j) 8) false (not (eightShare links a b j))
+eightApart links i a b j = cond (not (eqb (j % 8) 0) || ltb (i - j) 8) false (not (anyShare links a b j 4 || anyShare links a b (j + 4) 4))
 
 unfoldable pub shareIn : List ℕ → ℕ → ℕ → Bool
 shareIn links i j = sharesIn links (getD links (2 * i) 0) (getD links (2 * i + 1) 0) j
+
+-- row i's columns can begin at from: none below makes a pair
+pub record Begin (share : ℕ → ℕ → Bool) (i from : ℕ) : Type 0 where
+  pub within : from ≤ i
+  pub none : (k : ℕ) → k < from → share i k ≡ false
+
+-- what firsts notes of a body (0 where it has no place for it) is at most each row k < i that has the body
+pub record Firsts (links firsts : List ℕ) (i : ℕ) : Type 0 where
+  pub a : (k : ℕ) → k < i → getD firsts (getD links (2 * k) 0) 0 ≤ k
+  pub b : (k : ℕ) → k < i → getD firsts (getD links (2 * k + 1) 0) 0 ≤ k
+
+-- of a body of row i: r is at most row i and what was noted; then row i is noted, and nothing that was noted rises
+pub record FirstNoted (firsts₀ firsts : List ℕ) (body i r : ℕ) : Type 0 where
+  pub within : r ≤ i
+  pub before : r ≤ getD firsts₀ body 0
+  pub noted : getD firsts body 0 ≤ i
+  pub lower : (c : ℕ) → getD firsts c 0 ≤ getD firsts₀ c 0
 
 -- one column tried at place p of room many
 unfoldable pub triedOf : Bool → ℕ → ℕ → Gathered

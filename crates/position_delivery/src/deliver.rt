@@ -145,41 +145,34 @@ pub fn finish_counted(
     requires { ⌜ Counted (tableOf rows bodies (now numbers) (now words) (now masses) tolerance) (now masses) counted (now jacobians) (now links) ⌝ }
     ensures { λ r. ⌜ outcomeOf rows record { numbers = now (numbers .entry); solution = now (solution .entry); impulses = now (impulses .entry) } (next (iteratedOut counted limit (now (pending .entry)) (now (residual .entry))) (finishedOf (tableOf rows bodies (now (numbers .entry)) (now (words .entry)) (now (masses .entry)) tolerance))) ≡ record { answer = r; lent = record { numbers = now (numbers .exit); solution = now (solution .exit); impulses = now (impulses .exit) } } ⌝ }
 {
+    let mut flag = true;
+    let mut count = limit;
     match counted {
-        Iterated::Met(count) => finish(
-            true,
-            count,
-            numbers,
-            words,
-            masses,
-            rows,
-            bodies,
-            tolerance,
-            jacobians,
-            links,
-            pending,
-            residual,
-            body_impulses,
-            solution,
-            impulses,
-        ),
-        Iterated::Limit => finish(
-            false,
-            limit,
-            numbers,
-            words,
-            masses,
-            rows,
-            bodies,
-            tolerance,
-            jacobians,
-            links,
-            pending,
-            residual,
-            body_impulses,
-            solution,
-            impulses,
-        ),
-        Iterated::Refused(number) => PositionPcg::Refused(number),
+        Iterated::Met(step) => {
+            count = step;
+        }
+        Iterated::Limit => {
+            flag = false;
+        }
+        Iterated::Refused(number) => {
+            return PositionPcg::Refused(number);
+        }
     }
+    finish(
+        flag,
+        count,
+        numbers,
+        words,
+        masses,
+        rows,
+        bodies,
+        tolerance,
+        jacobians,
+        links,
+        pending,
+        residual,
+        body_impulses,
+        solution,
+        impulses,
+    )
 }

@@ -12,4 +12,4 @@ cross-value-spec =
     (λ c κs. search needs)  -- mul-vector-requires
     (λ c κs. search needs)  -- dot-requires
     (λ c κs. search needs)  -- dot-requires-2
-    (λ c. cc))  -- returns
+    (λ c. rw ((c .before .before .dot) .ensures, (c .dot2) .ensures, (c .before .before .before .mul-vector) .ensures)))  -- returns

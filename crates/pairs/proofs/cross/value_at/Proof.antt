@@ -15,4 +15,4 @@ value-at-spec =
     (λ c κs. search known)  -- compact-at-requires
     (λ c κs. search known)  -- compact-at-requires-2
     (λ c κs. search known)  -- pair-value-requires
-    (λ c. cc))  -- returns
+    (λ c. rw ((c .pair-value) .ensures, (c .before .compact-at2) .ensures, (c .before .before .compact-at) .ensures)))  -- returns

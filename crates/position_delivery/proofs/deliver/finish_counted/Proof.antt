@@ -1,7 +1,7 @@
 -- `position_delivery::deliver::finish_counted` meets its contract. Assumes nothing.
-use native.Mathlib.Omega.{arith}
+use mathlib.Core.Logic.{⊎-elim}
 use Rattle.loops.proofs.Loop.{loops}
-use Rattle.position_delivery.proofs.Counted.{counted-met, counted-refused, counted-spent}
+use Rattle.position_delivery.proofs.Counted.{by-met, by-limit, counted-step, counted-refused}
 use Rattle.position_delivery.proofs.deliver.finish_counted.Statement.{statement}
 use Rattle.position_delivery.proofs.deliver.finish_counted.Tie as tie
 
@@ -12,18 +12,12 @@ finish-counted-spec =
     tie.close
     (tie.spec
     (λ c. search known)  -- enum-known-counted
-    (λ c κs. ((c .before .before .before .before .before .before .before .before .before .before .before .before .before .before .before .before .before) .pre .0, ((c .before .before .before .before .before .before .before .before .before .before .before .before .before .before .before .before .before) .pre .1 .0, (c .before .before .before .before .before .before .before .before .before .before .before .before .before .before .before .before .before) .pre .1 .1 .met _ ((c .before .before .before .before .before .counted) .given .1))))  -- finish-requires
     (λ c. search known)  -- enum-told
-    (λ c κs. ((c .before .before .before .before .before .before .before .before .before .before .before .before .before .before .before .before) .pre .0, ((c .before .before .before .before .before .before .before .before .before .before .before .before .before .before .before .before) .pre .1 .0, (c .before .before .before .before .before .before .before .before .before .before .before .before .before .before .before .before) .pre .1 .1 .spent ((c .before .before .before .before .enum-told) .given .1))))  -- finish-requires-2
     (λ c. search known)  -- enum-known-counted-2
+    (λ c. counted-refused _ _ _ _ _ _ _ _ ((c .before .counted2) .given .1))  -- returns
+    (λ c κs. ((c .before .before .before .before .before .before .before .before .before .before .before .before .before .before .before) .pre .0, ((c .before .before .before .before .before .before .before .before .before .before .before .before .before .before .before) .pre .1 .0, ⊎-elim (λ w. (c .before .before .before .before .before .before .before .before .before .before .before .before .before .before .before) .pre .1 .1 .met _ (w .1 .given .1)) (λ w. (c .before .before .before .before .before .before .before .before .before .before .before .before .before .before .before) .pre .1 .1 .spent (w .1 .given .1)) ((c .before .before .before .before .match) .came))))  -- finish-requires
     (λ c. search known)  -- same-length
     (λ c. search known)  -- same-length-2
     (λ c. search known)  -- same-length-3
     (λ c. search known)  -- same-length-4
-    (λ c. counted-met _ _ _ _ _ _ _ _ _ ((c .before .before .before .before .before .before .before .before .before .before .before .before .before .before .counted) .given .1) ((c .before .before .before .before .before .before .before .before .finish) .ensures))  -- returns
-    (λ c. search known)  -- same-length-5
-    (λ c. search known)  -- same-length-6
-    (λ c. search known)  -- same-length-7
-    (λ c. search known)  -- same-length-8
-    (λ c. counted-spent _ _ _ _ _ _ _ _ ((c .before .before .before .before .before .before .before .before .before .before .before .before .before .enum-told) .given .1) ((c .before .before .before .before .before .before .before .before .finish2) .ensures))  -- returns-2
-    (λ c. counted-refused _ _ _ _ _ _ _ _ ((c .before .counted2) .given .1)))  -- returns-3
+    (λ c. counted-step ((c .before .before .before .before .before .before .before .before .before .before .before .before .before .before .before .before .before .before .before .before .before .before .before .before) .args .limit) _ _ ((c .before .before .before .before .before .before .before .before .before .before .before .before .before .before .before .before .before .before .before .before .before .before .before .before) .args .counted) _ _ _ _ _ _ (⊎-elim {0, 0, 0} (λ w. by-met ((c .before .before .before .before .before .before .before .before .before .before .before .before .before .before .before .before .before .before .before .before .before .before .before .before) .args .limit) _ _ ((c .before .before .before .before .before .before .before .before .before .before .before .before .before .before .before .before .before .before .before .before .before .before .before .before) .args .counted) _ _ _ (w .1 .given .1) (w .3) (w .4)) (λ w. by-limit ((c .before .before .before .before .before .before .before .before .before .before .before .before .before .before .before .before .before .before .before .before .before .before .before .before) .args .limit) _ _ ((c .before .before .before .before .before .before .before .before .before .before .before .before .before .before .before .before .before .before .before .before .before .before .before .before) .args .counted) _ _ (w .1 .given .1) (w .2) (w .3)) ((c .before .before .before .before .before .before .before .before .before .before .before .before .before .match) .came)) ((c .before .before .before .before .before .before .before .before .finish) .ensures)))  -- returns-2
