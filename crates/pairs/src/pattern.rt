@@ -169,7 +169,7 @@ fn gather_rows(
 }
 
 // With fewer rows, it costs more to note the first row of each body than it saves.
-const FEW_ROWS: u32 = 16;
+const FEW_ROWS: u32 = 8;
 
 // Document 01 has at most 256 bodies.
 const BODIES: usize = 256;
