@@ -1,6 +1,6 @@
 // Step 0: diagonal and residual of every row, 7, 8 and 9 judged row by row.
 ghost use mathlib.Core.Path.{_≡_};
-ghost use mathlib.Core.Bool.{true, cond};
+ghost use mathlib.Core.Bool.{cond};
 ghost use mathlib.Core.List.{[], _∷_};
 ghost use Prim.Native.Nat.{_+_, _*_, _<_, _≤_};
 ghost use lib.ListN.{length};
@@ -9,7 +9,7 @@ ghost use Rattle.loops.specs.Judge.{judge};
 ghost use Rattle.loops.specs.Cleared.{plusZero};
 ghost use Rattle.kapitsa_joint.specs.Mass.{massOf};
 ghost use Rattle.kapitsa_joint.specs.Table.{tableOf};
-ghost use Rattle.position.specs.Prepare.{one, rowDiagonal, passes8, isLow, passes9, startOf, rowJudged, preparedDiagonal, preparedResidual};
+ghost use Rattle.position.specs.Prepare.{one, rowDiagonal, passes8, isLow, passes9, rowJudged, preparedDiagonal, preparedResidual};
 ghost use Rattle.position.specs.Answers.{rowOut, BegunHeld};
 use joint_refusals::is_valid_at;
 use kapitsa_joint::ConstraintRow;

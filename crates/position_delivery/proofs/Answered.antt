@@ -2,13 +2,10 @@
 use Prim.Native.Nat.{ℕ}
 use mathlib.Core.Path.{_≡_, refl, sym, ap, _∙_}
 use mathlib.Core.Bool.{Bool, true, false, not}
-use mathlib.Core.List.{List}
-use native.Mathlib.Omega.{arith}
-use lib.Ieee.{Float}
 use borrow.Author.Tests.{not-false}
 use Rattle.loops.specs.Run.{Run, going, ended, next, on}
 use Rattle.loops.specs.Judge.{judge}
-use Rattle.loops.proofs.Loop.{on-going, on-ended}
+use Rattle.loops.proofs.Loop.{on-ended}
 use Rattle.kapitsa_joint.specs.Table.{Table}
 use Rattle.preconditioner.specs.declared.mode.Mode.{Mode}
 use Rattle.recurrence.specs.Step.{Iterate, Carried}

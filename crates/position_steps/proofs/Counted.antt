@@ -21,7 +21,7 @@ use Rattle.position.specs.Residual.{meetsOf}
 use Rattle.position.specs.declared.prepare.Begun.{Begun}
 use Rattle.position.specs.declared.prepare.Begun.the-variants as begun
 use Rattle.steps.specs.Solve.{counting}
-use Rattle.position_iteration.specs.Method.{ownerOf, openingOf, beginOf, positionMethod}
+use Rattle.position_iteration.specs.Method.{ownerOf, openingOf, beginOf}
 use Rattle.position_iteration.specs.Counting.{countedOf}
 use Rattle.position_iteration.specs.Standing.{iteratedOut}
 use Rattle.position_steps.specs.Start.{StartHeld, startOut}

@@ -1,6 +1,6 @@
 // What is judged before step 0, then step 0: diagonal and residual, and of each row what the steps read, side by side.
 ghost use mathlib.Core.Path.{_≡_};
-ghost use Prim.Native.Nat.{_+_, _*_, _≤_};
+ghost use Prim.Native.Nat.{_*_, _≤_};
 ghost use lib.ListN.{length};
 ghost use Rattle.kapitsa_joint.specs.Table.{tableOf};
 ghost use Rattle.position_steps.specs.Start.{StartHeld};

@@ -1,9 +1,6 @@
 // From what is judged before step 0 to the step that is counted: prepare, the count 0 test, factor, steps.
-ghost use mathlib.Core.Path.{_≡_};
-ghost use Prim.Native.Nat.{_+_, _*_, _≤_};
 ghost use lib.ListN.{length};
 ghost use Rattle.kapitsa_joint.specs.Table.{tableOf};
-ghost use Rattle.pairs.specs.Pairs.{pairRoom};
 ghost use Rattle.position_steps.specs.Counting.{CountRoom, CountHeld};
 use crate::beginning::start;
 use crate::running::run_steps;

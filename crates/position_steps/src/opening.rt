@@ -1,7 +1,7 @@
 // Refusals 4, 5 and 6, before step 0.
 ghost use mathlib.Core.Path.{_≡_};
 ghost use mathlib.Core.Bool.{true};
-ghost use Prim.Native.Nat.{_+_, _*_, _≤_};
+ghost use Prim.Native.Nat.{_*_, _≤_};
 ghost use lib.ListN.{length};
 ghost use Rattle.kapitsa_joint.specs.Table.{tableOf};
 ghost use Rattle.position_iteration.specs.Method.{passes5, openingOf};

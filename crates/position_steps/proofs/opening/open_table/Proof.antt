@@ -1,5 +1,4 @@
 -- `position_steps::opening::open_table` meets its contract. Assumes nothing.
-use native.Mathlib.Omega.{arith}
 use Rattle.loops.proofs.Loop.{loops}
 use Rattle.position_steps.proofs.Openings.{masses-six, open-done, open-five, open-four, open-six, words-four}
 use Rattle.position_steps.proofs.opening.open_table.Statement.{statement}

@@ -1,5 +1,4 @@
 -- `position_steps::opening::opens` meets its contract. Assumes nothing.
-use native.Mathlib.Omega.{arith}
 use Rattle.loops.proofs.Loop.{loops}
 use Rattle.position_steps.proofs.Openings.{opens-empty, opens-none, opens-rows}
 use Rattle.position_steps.proofs.opening.opens.Statement.{statement}

@@ -1,5 +1,4 @@
 -- `work_memory::fit::lengths_fit` meets its contract. Assumes nothing.
-use native.Mathlib.Omega.{arith}
 use Rattle.loops.proofs.Loop.{loops}
 use Rattle.work_memory.proofs.Lengths.{lengths-three}
 use Rattle.work_memory.proofs.fit.lengths_fit.Statement.{statement}
