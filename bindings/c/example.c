@@ -1,5 +1,5 @@
 /* Document 01's P1: two bodies, one row; solved, then checked.
-   cc -I bindings/c bindings/c/example.c target/staticlib/libkapitsa_c.a -lm -o example */
+   cc -I bindings/c bindings/c/example.c target/staticlib/libkapitsa_c.a -o example */
 #include "kapitsa.h"
 #include <math.h>
 #include <stdio.h>
@@ -8,7 +8,7 @@
 int main(void)
 {
     double numbers[27] = {0}, masses[20] = {0}, solution[1] = {0}, impulses[12] = {0};
-    uint32_t words[8] = {0, 0, 0, 1, 0, 1, 0, 0}, counts[2];
+    uint32_t words[8] = {0, 0, 0, 1, 0, 1, 0, 0}, counts[2], verdict;
     double maxima[2];
     numbers[0] = 1.0;        /* linear_a */
     numbers[9] = -1.0;       /* linear_b */
@@ -17,21 +17,33 @@ int main(void)
     numbers[21] = INFINITY;  /* max_multiplier */
     masses[0] = masses[10] = 0.5;
 
-    double *work = calloc(kapitsa_doubles(1, 2), sizeof *work);
-    uint32_t *work_words = calloc(kapitsa_words(1), sizeof *work_words);
-    if (!work || !work_words)
+    /* Work memory for the longer of the two calls. */
+    size_t doubles_len = kapitsa_solve_doubles(1, 2, KAPITSA_DIAGONAL);
+    size_t words_len = kapitsa_solve_words(1, 2, KAPITSA_DIAGONAL);
+    if (doubles_len < kapitsa_check_doubles(1, 2))
+        doubles_len = kapitsa_check_doubles(1, 2);
+    if (words_len < kapitsa_check_words(1, 2))
+        words_len = kapitsa_check_words(1, 2);
+    double *work_doubles = (double *)calloc(doubles_len, sizeof(double));
+    uint32_t *work_words = (uint32_t *)calloc(words_len, sizeof(uint32_t));
+    if (!work_doubles || !work_words)
         return 1;
-    uint32_t refusal = kapitsa_solve_in(numbers, 27, words, 8, masses, 20, 0.001, 0.001, 1, 2, 4, 0,
-                                        solution, 1, impulses, 12, counts, maxima, work, work_words);
-    if (refusal) {
-        printf("refused by %u\n", refusal);
+
+    uint32_t refusal = kapitsa_solve_in(
+        numbers, 27, words, 8, masses, 20, 0.001, 0.001, 1, 2, 4, KAPITSA_DIAGONAL,
+        solution, 1, impulses, 12, counts, maxima,
+        work_doubles, doubles_len, work_words, words_len);
+    if (refusal == 0)
+        refusal = kapitsa_check_in(
+            numbers, 27, words, 8, masses, 20, 0.001, 0.001, 1, 2, solution, 1, &verdict,
+            work_doubles, doubles_len, work_words, words_len);
+    free(work_doubles);
+    free(work_words);
+    if (refusal != 0) {
+        printf("refused by %u\n", (unsigned)refusal);
         return 1;
     }
-    uint32_t verdict = kapitsa_check_in(numbers, 27, words, 8, masses, 20, 0.001, 0.001, 1, 2,
-                                        solution, 1, work, work_words);
-    printf("count %u, flag %u\n", counts[0], counts[1]);
-    printf("multiplier %g, verdict %u\n", numbers[24], verdict);
-    free(work);
-    free(work_words);
-    return !(counts[0] == 1 && counts[1] == 1 && verdict == 1);
+    printf("count %u, flag %u\n", (unsigned)counts[0], (unsigned)counts[1]);
+    printf("multiplier %g, %s\n", numbers[24], verdict == KAPITSA_CLOSED ? "closed" : "open");
+    return !(counts[0] == 1 && counts[1] == 1 && verdict == KAPITSA_CLOSED);
 }

@@ -1,180 +1,286 @@
-/* Zapekuri for C: the position solve and the closing check of `rt staticlib kapitsa_c`.
+/* Zapekuri for C and C++: the position solve and the closing check of `rt staticlib kapitsa_c`,
+   an archive for x86-64.
 
-   A slice is a pointer, then its length. For n rows and b bodies: numbers has 27 n doubles,
-   words 8 n, masses 10 b; solution and multipliers have n, impulses 6 b. Row i has its doubles
-   from numbers[27 * i]: linear_a (3), angular_a (3), position_angular_a (3), linear_b (3),
-   angular_b (3), error, target_velocity, force_bias, compliance, damping, min_multiplier,
-   max_multiplier, min_impulse, max_impulse, accumulated_multiplier, accumulated_impulse,
-   cached_velocity_effective_mass; its words from words[8 * i]: key, dimension (0 linear, 1
-   angular), body_a, body_b, force_driven, position_enabled, owner, spare (0). Body j has its
-   inverse mass and its inverse inertia by columns from masses[10 * j].
+   A slice is a pointer, then its length; where the length is 0 the pointer may be NULL. For n rows
+   and b bodies numbers has 27 n doubles, words 8 n, masses 10 b; solution and multipliers have n,
+   impulses 6 b. Row i has its doubles from numbers[27 * i]: linear_a (3), angular_a (3),
+   position_angular_a (3), linear_b (3), angular_b (3), error, target_velocity, force_bias,
+   compliance, damping, min_multiplier, max_multiplier, min_impulse, max_impulse,
+   accumulated_multiplier, accumulated_impulse, cached_velocity_effective_mass; its words from
+   words[8 * i]: key, dimension (0 linear, 1 angular), body_a, body_b, force_driven,
+   position_enabled, owner, spare (0). Body j has its inverse mass and its inverse inertia by
+   columns from masses[10 * j].
 
-   No function asks anything of its caller but that pointers and lengths belong together and
-   that no two slices overlap: what does not fit is refused with its number. */
+   Every call returns 0 or the number of a refusal; what it finds it writes into lent memory, and
+   only where it returns 0. The work memory is 0 after every call but one refused by 3, which
+   writes nothing at all.
+
+   kapitsa_solve_in and kapitsa_check_in, at the end, work in one piece of doubles and one of words,
+   and in whatever floating-point mode the caller is. They ask of a caller that a pointer and its
+   length belong together and that no two slices overlap; all else is tested, and refused where it
+   does not fit. The raw functions, kapitsa_solve_position and kapitsa_closing_check, take each
+   work slice by itself and assume besides that the control word MXCSR is KAPITSA_CONTROL: in
+   another mode their answers, "closed" too, mean nothing. A program starts in that mode, unless it
+   was linked with -ffast-math. */
 #ifndef KAPITSA_H
 #define KAPITSA_H
 
+#if !defined(__x86_64__) || !defined(__GNUC__)
+#error "the archive of rt staticlib kapitsa_c is for x86-64; this header takes gcc or clang"
+#endif
+
 #include <stddef.h>
 #include <stdint.h>
+#include <xmmintrin.h> /* _mm_getcsr, _mm_setcsr */
+
+#define KAPITSA_MUST_USE __attribute__((warn_unused_result))
 
 #ifdef __cplusplus
 extern "C" {
 #endif
 
-/* 0, or the number of the refusal (3 to 17). counts gets count and flag, maxima the linear and
-   the angular residual maximum. Accumulated multipliers, solution and impulses are written only
-   where the answer is 0. The work memory, from jacobians on, is 0 afterwards; 3 writes nothing.
-   With p = n (n - 1) / 2, at most 16384, the work slices have the lengths that
-   kapitsa_solve_in below gives them. */
-uint32_t kapitsa_solve_position(
+/* ---- the numbers that are passed and answered */
+
+enum kapitsa_limit {
+    KAPITSA_MAX_ROWS = 512,
+    KAPITSA_MAX_BODIES = 256,
+    KAPITSA_MAX_PAIRS = 16384 /* rows that share a body, two by two; mode 1 */
+};
+
+enum kapitsa_mode {
+    KAPITSA_DIAGONAL = 0,
+    KAPITSA_INCOMPLETE_CHOLESKY = 1,
+    KAPITSA_BLOCK_JACOBI = 2
+};
+
+enum kapitsa_verdict {
+    KAPITSA_OPEN = 0,  /* some row's exact gap plus twice its radius exceeds its tolerance */
+    KAPITSA_CLOSED = 1 /* every row's exact gap is within its tolerance */
+};
+
+/* MIN is 2^-1022. */
+enum kapitsa_refusal {
+    KAPITSA_ACCEPTED = 0,
+    KAPITSA_REFUSED_LENGTH = 3,     /* a count, the mode or a slice's length does not fit */
+    KAPITSA_REFUSED_WORD = 4,       /* a row has a key, dimension, flag or spare that there is not */
+    KAPITSA_REFUSED_OPENING = 5,    /* rows and limit 0, or a row off, soft, driven or bounded */
+    KAPITSA_REFUSED_MASS = 6,       /* a mass number is not finite */
+    KAPITSA_REFUSED_ROW = 7,        /* a row is not valid, or names a body that there is not */
+    KAPITSA_REFUSED_DIAGONAL = 8,   /* a row's diagonal overflows */
+    KAPITSA_REFUSED_IMMOVABLE = 9,  /* a row's diagonal is at most MIN, its error above tolerance */
+    KAPITSA_REFUSED_PAIRS = 10,     /* mode 1: more than 16,384 pairs of rows share a body */
+    KAPITSA_REFUSED_BLOCK = 11,     /* mode 2: a joint has over six rows, or differing bodies */
+    KAPITSA_REFUSED_VALUE = 12,     /* modes 1, 2: a pair's or a block's value is not finite */
+    KAPITSA_REFUSED_PIVOT = 13,     /* modes 1, 2: a pivot at most MIN, or it or a factor not finite */
+    KAPITSA_REFUSED_RESIDUAL = 14,  /* residual times preconditioned residual is at most MIN */
+    KAPITSA_REFUSED_DIRECTION = 15, /* direction times product is at most MIN */
+    KAPITSA_REFUSED_STEP = 16,      /* a number in the steps is not finite */
+    KAPITSA_REFUSED_RESULT = 17,    /* a final impulse or multiplier is not finite */
+    KAPITSA_REFUSED_RANGE = 18      /* check: a number neither 0 nor from 2^-150 to 2^150 in size */
+};
+
+/* MXCSR as a program starts: round to nearest, subnormal numbers kept, exceptions masked. */
+#define KAPITSA_CONTROL 0x1f80u
+
+/* ---- the work slices, double or uint32_t: name and length for n rows, b bodies and the mode;
+   p is kapitsa_pairs(n) */
+
+#define KAPITSA_SOLVE_WORK(DOUBLES, WORDS)                         \
+    DOUBLES(jacobians, 12 * n)                                     \
+    WORDS(links, 2 * n)                                            \
+    DOUBLES(tolerances, n)                                         \
+    DOUBLES(diagonal, n)                                           \
+    DOUBLES(residual, n)                                           \
+    DOUBLES(pending, n)                                            \
+    DOUBLES(direction, n)                                          \
+    DOUBLES(product, n)                                            \
+    DOUBLES(body_impulses, 6 * b)                                  \
+    WORDS(pattern, KAPITSA_BY_MODE(0, n + 1 + p, n))               \
+    WORDS(order, KAPITSA_BY_MODE(0, n + 2 * p, 0))                 \
+    DOUBLES(values, KAPITSA_BY_MODE(0, p, 36 * n))
+
+#define KAPITSA_CHECK_WORK(DOUBLES, WORDS)                         \
+    DOUBLES(jacobians, 12 * n)                                     \
+    WORDS(links, 2 * n)                                            \
+    DOUBLES(mass_sizes, 10 * b)                                    \
+    DOUBLES(multiplier_sizes, n)                                   \
+    DOUBLES(impulses, 6 * b)                                       \
+    DOUBLES(values, n)                                             \
+    DOUBLES(sizes, n)
+
+#define KAPITSA_BY_MODE(diagonal, cholesky, blocks)                \
+    (mode == KAPITSA_INCOMPLETE_CHOLESKY ? (cholesky)              \
+     : mode == KAPITSA_BLOCK_JACOBI      ? (blocks)                \
+                                         : (diagonal))
+
+/* What is made of the lists: parameters, sums, memory carved in their order, arguments. */
+#define KAPITSA_TAKES_DOUBLES(name, length) , double *name, size_t name##_len
+#define KAPITSA_TAKES_WORDS(name, length) , uint32_t *name, size_t name##_len
+#define KAPITSA_ADD(name, length) + (length)
+#define KAPITSA_SKIP(name, length)
+#define KAPITSA_CARVE_DOUBLES(name, length) \
+    double *name = kapitsa_carve_doubles(&work_doubles, length);
+#define KAPITSA_CARVE_WORDS(name, length) \
+    uint32_t *name = kapitsa_carve_words(&work_words, length);
+#define KAPITSA_LEND(name, length) , name, length
+
+/* ---- the raw functions; at their end a pointer and a length for each work slice, in order */
+
+/* Refusals 3 to 17. counts (2) gets count and flag, maxima (2) the linear and the angular residual
+   maximum; with them accumulated multipliers (in numbers), solution and impulses are written. */
+KAPITSA_MUST_USE uint32_t kapitsa_solve_position(
     double *numbers, size_t numbers_len, const uint32_t *words, size_t words_len,
     const double *masses, size_t masses_len,
     double linear_tolerance, double angular_tolerance,
     uint32_t rows, uint32_t bodies, uint32_t limit, uint32_t mode,
     double *solution, size_t solution_len, double *impulses, size_t impulses_len,
-    uint32_t *counts, size_t counts_len, double *maxima, size_t maxima_len,
-    double *jacobians, size_t jacobians_len,
-    uint32_t *links, size_t links_len,
-    uint32_t *owners, size_t owners_len,
-    double *diagonal, size_t diagonal_len,
-    double *residual, size_t residual_len,
-    double *pending, size_t pending_len,
-    double *preconditioned, size_t preconditioned_len,
-    double *direction, size_t direction_len,
-    double *product, size_t product_len,
-    double *body_impulses, size_t body_impulses_len,
-    double *body_responses, size_t body_responses_len,
-    uint32_t *starts, size_t starts_len,
-    uint32_t *columns, size_t columns_len,
-    double *values, size_t values_len,
-    double *pivots, size_t pivots_len,
-    uint32_t *marks, size_t marks_len,
-    uint32_t *heads, size_t heads_len,
-    uint32_t *nexts, size_t nexts_len,
-    uint32_t *homes, size_t homes_len,
-    double *blocks, size_t blocks_len);
+    uint32_t *counts, size_t counts_len, double *maxima, size_t maxima_len
+    KAPITSA_SOLVE_WORK(KAPITSA_TAKES_DOUBLES, KAPITSA_TAKES_WORDS));
 
-/* 1 closed, 0 open, or the number of the refusal (3, 4, 6, 7 or 18). Work memory as above. */
-uint32_t kapitsa_closing_check(
+/* Refusals 3, 4, 6, 7 and 18. multipliers are the gains since the errors were measured, such as a
+   solve's solution. verdict (1) gets KAPITSA_OPEN or KAPITSA_CLOSED. */
+KAPITSA_MUST_USE uint32_t kapitsa_closing_check(
     const double *numbers, size_t numbers_len, const uint32_t *words, size_t words_len,
     const double *masses, size_t masses_len,
     double linear_tolerance, double angular_tolerance,
     uint32_t rows, uint32_t bodies, const double *multipliers, size_t multipliers_len,
-    double *jacobians, size_t jacobians_len,
-    uint32_t *links, size_t links_len,
-    double *mass_sizes, size_t mass_sizes_len,
-    double *multiplier_sizes, size_t multiplier_sizes_len,
-    double *impulses, size_t impulses_len,
-    double *responses, size_t responses_len,
-    double *values, size_t values_len,
-    double *sizes, size_t sizes_len);
+    uint32_t *verdict, size_t verdict_len
+    KAPITSA_CHECK_WORK(KAPITSA_TAKES_DOUBLES, KAPITSA_TAKES_WORDS));
 
-/* ---- with one piece of memory for the doubles and one for the words */
+/* ---- how much work memory a call needs, exactly: more may be lent, less is refused by 3.
+   0 too where a count or the mode is beyond the limits: whatever is lent, such a call is refused. */
 
-static inline size_t kapitsa_pairs(size_t n)
+static inline int kapitsa_within(uint32_t rows, uint32_t bodies, uint32_t mode)
 {
-    size_t all = n == 0 ? 0 : n * (n - 1) / 2;
-    return all < 16384 ? all : 16384;
+    return rows <= KAPITSA_MAX_ROWS && bodies <= KAPITSA_MAX_BODIES && mode <= 2;
 }
 
-/* How many doubles and words a solve or a check of n rows and b bodies works in. */
-static inline size_t kapitsa_doubles(size_t n, size_t b)
+/* n (n - 1) / 2, at most KAPITSA_MAX_PAIRS. */
+static inline size_t kapitsa_pairs(uint32_t n)
 {
-    size_t p = kapitsa_pairs(n), solve = 55 * n + 12 * b + p, check = 15 * n + 22 * b;
-    return solve < check ? check : solve;
+    uint64_t all = n == 0 ? 0 : (uint64_t)n * (n - 1) / 2;
+    return all < KAPITSA_MAX_PAIRS ? (size_t)all : (size_t)KAPITSA_MAX_PAIRS;
 }
 
-static inline size_t kapitsa_words(size_t n)
+static inline size_t kapitsa_solve_doubles(uint32_t rows, uint32_t bodies, uint32_t mode)
 {
-    size_t p = kapitsa_pairs(n);
-    return 6 * n + 3 * p + 1;
+    size_t n = rows, b = bodies, p = kapitsa_pairs(rows);
+    if (!kapitsa_within(rows, bodies, mode))
+        return 0;
+    return 0 KAPITSA_SOLVE_WORK(KAPITSA_ADD, KAPITSA_SKIP);
 }
 
-/* The same, with doubles and words as long as kapitsa_doubles and kapitsa_words say for the
-   counts (at 512 rows and 256 bodies at the most: more are refused by 3). */
-static inline uint32_t kapitsa_solve_in(
-    double *numbers, size_t numbers_len, const uint32_t *row_words, size_t row_words_len,
+static inline size_t kapitsa_solve_words(uint32_t rows, uint32_t bodies, uint32_t mode)
+{
+    size_t n = rows, p = kapitsa_pairs(rows);
+    if (!kapitsa_within(rows, bodies, mode))
+        return 0;
+    return 0 KAPITSA_SOLVE_WORK(KAPITSA_SKIP, KAPITSA_ADD);
+}
+
+static inline size_t kapitsa_check_doubles(uint32_t rows, uint32_t bodies)
+{
+    size_t n = rows, b = bodies;
+    if (!kapitsa_within(rows, bodies, 0))
+        return 0;
+    return 0 KAPITSA_CHECK_WORK(KAPITSA_ADD, KAPITSA_SKIP);
+}
+
+static inline size_t kapitsa_check_words(uint32_t rows, uint32_t bodies)
+{
+    size_t n = rows;
+    if (!kapitsa_within(rows, bodies, 0))
+        return 0;
+    return 0 KAPITSA_CHECK_WORK(KAPITSA_SKIP, KAPITSA_ADD);
+}
+
+/* ---- the same functions with one piece of memory for the doubles and one for the words, in any
+   floating-point mode: the control word is KAPITSA_CONTROL during the call, and afterwards what
+   it was, its flags too; flags that the call raises are dropped. They are not inlined, since a
+   compiler may move its caller's arithmetic past a change of the control word. */
+
+#define KAPITSA_APART static __attribute__((noinline, unused, warn_unused_result))
+
+/* The next length doubles, or words. Nothing is added to NULL. */
+static inline double *kapitsa_carve_doubles(double **rest, size_t length)
+{
+    double *carved = *rest;
+    if (length != 0)
+        *rest += length;
+    return carved;
+}
+
+static inline uint32_t *kapitsa_carve_words(uint32_t **rest, size_t length)
+{
+    uint32_t *carved = *rest;
+    if (length != 0)
+        *rest += length;
+    return carved;
+}
+
+KAPITSA_APART uint32_t kapitsa_solve_in(
+    double *numbers, size_t numbers_len, const uint32_t *words, size_t words_len,
     const double *masses, size_t masses_len,
     double linear_tolerance, double angular_tolerance,
     uint32_t rows, uint32_t bodies, uint32_t limit, uint32_t mode,
     double *solution, size_t solution_len, double *impulses, size_t impulses_len,
-    uint32_t counts[2], double maxima[2], double *doubles, uint32_t *words)
+    uint32_t counts[2], double maxima[2],
+    double *work_doubles, size_t work_doubles_len, uint32_t *work_words, size_t work_words_len)
 {
-    size_t n = rows < 512 ? rows : 512, b = bodies < 256 ? bodies : 256, p = kapitsa_pairs(n);
-    double *jacobians = doubles; doubles += 12 * n;
-    uint32_t *links = words; words += 2 * n;
-    uint32_t *owners = words; words += n;
-    double *diagonal = doubles; doubles += n;
-    double *residual = doubles; doubles += n;
-    double *pending = doubles; doubles += n;
-    double *preconditioned = doubles; doubles += n;
-    double *direction = doubles; doubles += n;
-    double *product = doubles; doubles += n;
-    double *body_impulses = doubles; doubles += 6 * b;
-    double *body_responses = doubles; doubles += 6 * b;
-    uint32_t *starts = words; words += n + 1;
-    uint32_t *columns = words; words += p;
-    double *values = doubles; doubles += p;
-    double *pivots = doubles; doubles += n;
-    uint32_t *marks = words; words += n;
-    uint32_t *heads = words; words += n;
-    uint32_t *nexts = words; words += p;
-    uint32_t *homes = words; words += p;
-    double *blocks = doubles; doubles += 36 * n;
-    return kapitsa_solve_position(
-        numbers, numbers_len, row_words, row_words_len, masses, masses_len,
+    if (!kapitsa_within(rows, bodies, mode)
+        || work_doubles_len < kapitsa_solve_doubles(rows, bodies, mode)
+        || work_words_len < kapitsa_solve_words(rows, bodies, mode))
+        return KAPITSA_REFUSED_LENGTH;
+    size_t n = rows, b = bodies, p = kapitsa_pairs(rows);
+    KAPITSA_SOLVE_WORK(KAPITSA_CARVE_DOUBLES, KAPITSA_CARVE_WORDS)
+    unsigned control = _mm_getcsr();
+    _mm_setcsr(KAPITSA_CONTROL);
+    uint32_t refusal = kapitsa_solve_position(
+        numbers, numbers_len, words, words_len, masses, masses_len,
         linear_tolerance, angular_tolerance, rows, bodies, limit, mode,
-        solution, solution_len, impulses, impulses_len, counts, 2, maxima, 2,
-        jacobians, 12 * n,
-        links, 2 * n,
-        owners, n,
-        diagonal, n,
-        residual, n,
-        pending, n,
-        preconditioned, n,
-        direction, n,
-        product, n,
-        body_impulses, 6 * b,
-        body_responses, 6 * b,
-        starts, n + 1,
-        columns, p,
-        values, p,
-        pivots, n,
-        marks, n,
-        heads, n,
-        nexts, p,
-        homes, p,
-        blocks, 36 * n);
+        solution, solution_len, impulses, impulses_len, counts, 2, maxima, 2
+        KAPITSA_SOLVE_WORK(KAPITSA_LEND, KAPITSA_LEND));
+    _mm_setcsr(control);
+    return refusal;
 }
 
-static inline uint32_t kapitsa_check_in(
-    const double *numbers, size_t numbers_len, const uint32_t *row_words, size_t row_words_len,
+/* Read *verdict only where 0 was returned: a refusal leaves there what was there. */
+KAPITSA_APART uint32_t kapitsa_check_in(
+    const double *numbers, size_t numbers_len, const uint32_t *words, size_t words_len,
     const double *masses, size_t masses_len,
     double linear_tolerance, double angular_tolerance,
     uint32_t rows, uint32_t bodies, const double *multipliers, size_t multipliers_len,
-    double *doubles, uint32_t *words)
+    uint32_t *verdict,
+    double *work_doubles, size_t work_doubles_len, uint32_t *work_words, size_t work_words_len)
 {
-    size_t n = rows < 512 ? rows : 512, b = bodies < 256 ? bodies : 256;
-    double *jacobians = doubles; doubles += 12 * n;
-    uint32_t *links = words; words += 2 * n;
-    double *mass_sizes = doubles; doubles += 10 * b;
-    double *multiplier_sizes = doubles; doubles += n;
-    double *impulses = doubles; doubles += 6 * b;
-    double *responses = doubles; doubles += 6 * b;
-    double *values = doubles; doubles += n;
-    double *sizes = doubles; doubles += n;
-    return kapitsa_closing_check(
-        numbers, numbers_len, row_words, row_words_len, masses, masses_len,
-        linear_tolerance, angular_tolerance, rows, bodies, multipliers, multipliers_len,
-        jacobians, 12 * n,
-        links, 2 * n,
-        mass_sizes, 10 * b,
-        multiplier_sizes, n,
-        impulses, 6 * b,
-        responses, 6 * b,
-        values, n,
-        sizes, n);
+    if (!kapitsa_within(rows, bodies, 0)
+        || work_doubles_len < kapitsa_check_doubles(rows, bodies)
+        || work_words_len < kapitsa_check_words(rows, bodies))
+        return KAPITSA_REFUSED_LENGTH;
+    size_t n = rows, b = bodies;
+    KAPITSA_CHECK_WORK(KAPITSA_CARVE_DOUBLES, KAPITSA_CARVE_WORDS)
+    unsigned control = _mm_getcsr();
+    _mm_setcsr(KAPITSA_CONTROL);
+    uint32_t refusal = kapitsa_closing_check(
+        numbers, numbers_len, words, words_len, masses, masses_len,
+        linear_tolerance, angular_tolerance, rows, bodies, multipliers, multipliers_len, verdict, 1
+        KAPITSA_CHECK_WORK(KAPITSA_LEND, KAPITSA_LEND));
+    _mm_setcsr(control);
+    return refusal;
 }
+
+#undef KAPITSA_SOLVE_WORK
+#undef KAPITSA_CHECK_WORK
+#undef KAPITSA_BY_MODE
+#undef KAPITSA_TAKES_DOUBLES
+#undef KAPITSA_TAKES_WORDS
+#undef KAPITSA_ADD
+#undef KAPITSA_SKIP
+#undef KAPITSA_CARVE_DOUBLES
+#undef KAPITSA_CARVE_WORDS
+#undef KAPITSA_LEND
+#undef KAPITSA_MUST_USE
+#undef KAPITSA_APART
 
 #ifdef __cplusplus
 }

@@ -1,6 +1,6 @@
 //! Document 01's P1: two bodies, one row; solved, then checked.
 
-#[allow(dead_code)] // the example uses one mode of three
+#[allow(dead_code)] // the example uses one mode of three, and prints no refusal
 mod kapitsa;
 
 use kapitsa::{Mode, Tables, Tolerance, Verdict, Work, closing_check, solve_position};

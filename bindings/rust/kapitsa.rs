@@ -1,25 +1,93 @@
 //! Zapekuri for Rust: safe calls of the position solve and of the closing check in
-//! `libkapitsa_c.a` (`rt staticlib kapitsa_c`). The archive tests every count, length and
-//! number itself; what is tested here is what its callers could not take back: that the
-//! work memory is there, and that slices and counts belong together.
+//! `libkapitsa_c.a` (`rt staticlib kapitsa_c`), an archive for x86-64. The archive tests every
+//! count, length and number itself. Here stands what it cannot see to: that the work memory is
+//! there and carved without overlap, and that the processor is in the mode that it assumes.
 
-use std::ffi::c_double;
+use std::arch::asm;
+use std::fmt;
 
-/// Document 01's refusal: its number, from 3 to 18.
+#[cfg(not(target_arch = "x86_64"))]
+compile_error!("the archive of rt staticlib kapitsa_c is for x86-64");
+
+pub const MAX_ROWS: usize = 512;
+pub const MAX_BODIES: usize = 256;
+pub const MAX_PAIRS: usize = 16_384;
+
 #[derive(Clone, Copy, Debug, PartialEq, Eq)]
-pub struct Refusal(pub u32);
+#[repr(u32)]
+pub enum Mode {
+    Diagonal = 0,
+    IncompleteCholesky = 1,
+    BlockJacobi = 2,
+}
+
+#[derive(Clone, Copy, Debug, PartialEq, Eq)]
+#[repr(u32)]
+pub enum Verdict {
+    /// Some row's exact gap plus twice its radius exceeds its tolerance.
+    Open = 0,
+    /// Every row's exact gap is within its tolerance.
+    Closed = 1,
+}
+
+macro_rules! refusals {
+    ($($name:ident = $number:literal, $meaning:literal;)*) => {
+        /// Document 01's refusal. `as u32` is its number.
+        #[derive(Clone, Copy, Debug, PartialEq, Eq)]
+        #[repr(u32)]
+        pub enum Refusal {
+            $(#[doc = $meaning] $name = $number,)*
+        }
+
+        impl Refusal {
+            fn of(number: u32) -> Self {
+                match number {
+                    $($number => Self::$name,)*
+                    _ => unreachable!("the archive answers 0 or a refusal"),
+                }
+            }
+
+            pub fn meaning(self) -> &'static str {
+                match self {
+                    $(Self::$name => $meaning,)*
+                }
+            }
+        }
+    };
+}
+
+// MIN is 2^-1022.
+refusals! {
+    Length = 3, "a count, the mode or a slice's length does not fit";
+    Word = 4, "a row has a key, dimension, flag or spare that there is not";
+    Opening = 5, "rows and limit 0, or a row off, soft, driven or bounded";
+    Mass = 6, "a mass number is not finite";
+    Row = 7, "a row is not valid, or names a body that there is not";
+    Diagonal = 8, "a row's diagonal overflows";
+    Immovable = 9, "a row's diagonal is at most MIN, its error above tolerance";
+    Pairs = 10, "mode 1: more than 16,384 pairs of rows share a body";
+    Block = 11, "mode 2: a joint has over six rows, or differing bodies";
+    Value = 12, "modes 1, 2: a pair's or a block's value is not finite";
+    Pivot = 13, "modes 1, 2: a pivot at most MIN, or it or a factor not finite";
+    Residual = 14, "residual times preconditioned residual is at most MIN";
+    Direction = 15, "direction times product is at most MIN";
+    Step = 16, "a number in the steps is not finite";
+    Result = 17, "a final impulse or multiplier is not finite";
+    Range = 18, "check: a number neither 0 nor from 2^-150 to 2^150 in size";
+}
+
+impl fmt::Display for Refusal {
+    fn fmt(&self, to: &mut fmt::Formatter) -> fmt::Result {
+        write!(to, "refused by {}: {}", *self as u32, self.meaning())
+    }
+}
+
+impl std::error::Error for Refusal {}
 
 #[derive(Clone, Copy, Debug)]
 pub struct Tolerance {
     pub linear_m: f64,
     pub angular_rad: f64,
-}
-
-#[derive(Clone, Copy, Debug, PartialEq, Eq)]
-pub enum Mode {
-    Diagonal,
-    IncompleteCholesky,
-    BlockJacobi,
 }
 
 #[derive(Clone, Copy, Debug, PartialEq)]
@@ -30,12 +98,6 @@ pub struct Answer {
     pub angular_residual_rad: f64,
 }
 
-#[derive(Clone, Copy, Debug, PartialEq, Eq)]
-pub enum Verdict {
-    Open,
-    Closed,
-}
-
 /// Rows (27 doubles and 8 words each) and masses (10 doubles each), as document 01 has them.
 pub struct Tables<'a> {
     pub numbers: &'a mut [f64],
@@ -44,54 +106,61 @@ pub struct Tables<'a> {
 }
 
 impl Tables<'_> {
+    /// Rows and bodies, within the limits. The archive compares the lengths.
     fn counts(&self) -> Result<(usize, usize), Refusal> {
         let (rows, bodies) = (self.words.len() / 8, self.masses.len() / 10);
-        let whole = self.numbers.len() == 27 * rows
-            && self.words.len() == 8 * rows
-            && self.masses.len() == 10 * bodies;
-        if whole && rows <= 512 && bodies <= 256 { Ok((rows, bodies)) } else { Err(Refusal(3)) }
+        if rows > MAX_ROWS || bodies > MAX_BODIES {
+            return Err(Refusal::Length);
+        }
+        Ok((rows, bodies))
     }
 }
 
-/// The work memory, kept from call to call.
+/// The work memory, kept from call to call; it grows to what a call needs.
 #[derive(Default)]
 pub struct Work {
     doubles: Vec<f64>,
     words: Vec<u32>,
 }
 
-/// A stretch of work memory: where it begins and how long it is.
-struct Carver<T> {
-    at: *mut T,
-    left: usize,
-}
-
-impl<T> Carver<T> {
-    fn of(memory: &mut Vec<T>, length: usize, zero: T) -> Self
-    where
-        T: Clone,
-    {
-        if memory.len() < length {
-            memory.resize(length, zero);
+impl Work {
+    fn lend(&mut self, doubles: usize, words: usize) -> (&mut [f64], &mut [u32]) {
+        if self.doubles.len() < doubles {
+            self.doubles.resize(doubles, 0.0);
         }
-        Self { at: memory.as_mut_ptr(), left: length }
-    }
-
-    fn take(&mut self, length: usize) -> *mut T {
-        assert!(length <= self.left);
-        let taken = self.at;
-        self.at = unsafe { self.at.add(length) };
-        self.left -= length;
-        taken
+        if self.words.len() < words {
+            self.words.resize(words, 0);
+        }
+        (&mut self.doubles[..doubles], &mut self.words[..words])
     }
 }
 
-fn pairs(rows: usize) -> usize {
-    (rows * rows.saturating_sub(1) / 2).min(16_384)
+/// The next `length` numbers of the work memory.
+fn carve<'a, T>(rest: &mut &'a mut [T], length: usize) -> &'a mut [T] {
+    let (carved, left) = std::mem::take(rest).split_at_mut(length);
+    *rest = left;
+    carved
+}
+
+/// n (n - 1) / 2, at most `MAX_PAIRS`; n is within the limits.
+fn pairs(n: usize) -> usize {
+    (n * n.saturating_sub(1) / 2).min(MAX_PAIRS)
+}
+
+/// The lengths of `pattern`, `order` and `values`.
+fn factor_lengths(n: usize, mode: Mode) -> (usize, usize, usize) {
+    let p = pairs(n);
+    match mode {
+        Mode::Diagonal => (0, 0, 0),
+        Mode::IncompleteCholesky => (n + 1 + p, n + 2 * p, p),
+        Mode::BlockJacobi => (n, 0, 36 * n),
+    }
 }
 
 /// Solves; multipliers (in `tables.numbers`), solution (one a row) and impulses (six a body)
-/// are written only where the answer is `Ok`.
+/// are written only where the answer is `Ok`. Not inlined, as the check: a compiler may move its
+/// caller's arithmetic past a change of the control word.
+#[inline(never)]
 pub fn solve_position(
     tables: &mut Tables,
     tolerance: Tolerance,
@@ -102,11 +171,25 @@ pub fn solve_position(
     work: &mut Work,
 ) -> Result<Answer, Refusal> {
     let (n, b) = tables.counts()?;
-    let p = pairs(n);
-    let mut d = Carver::of(&mut work.doubles, 55 * n + 12 * b + p, 0.0);
-    let mut w = Carver::of(&mut work.words, 6 * n + 3 * p + 1, 0);
-    let mut counts = [0u32; 2];
-    let mut maxima = [0f64; 2];
+    let (pattern_len, order_len, values_len) = factor_lengths(n, mode);
+    let (mut doubles, mut words) =
+        work.lend(18 * n + 6 * b + values_len, 2 * n + pattern_len + order_len);
+    let jacobians = carve(&mut doubles, 12 * n);
+    let links = carve(&mut words, 2 * n);
+    let tolerances = carve(&mut doubles, n);
+    let diagonal = carve(&mut doubles, n);
+    let residual = carve(&mut doubles, n);
+    let pending = carve(&mut doubles, n);
+    let direction = carve(&mut doubles, n);
+    let product = carve(&mut doubles, n);
+    let body_impulses = carve(&mut doubles, 6 * b);
+    let pattern = carve(&mut words, pattern_len);
+    let order = carve(&mut words, order_len);
+    let values = carve(&mut doubles, values_len);
+    let mut counts = [0; 2];
+    let mut maxima = [0.0; 2];
+    let control = DefaultControl::set();
+    // SAFETY: each pointer and length is of one slice, and no two of the slices overlap.
     #[rustfmt::skip]
     let refusal = unsafe {
         kapitsa_solve_position(
@@ -115,14 +198,16 @@ pub fn solve_position(
             tables.masses.as_ptr(), tables.masses.len(),
             tolerance.linear_m, tolerance.angular_rad, n as u32, b as u32, limit, mode as u32,
             solution.as_mut_ptr(), solution.len(), impulses.as_mut_ptr(), impulses.len(),
-            counts.as_mut_ptr(), 2, maxima.as_mut_ptr(), 2,
-            d.take(12 * n), 12 * n, w.take(2 * n), 2 * n, w.take(n), n, d.take(n), n,
-            d.take(n), n, d.take(n), n, d.take(n), n, d.take(n), n, d.take(n), n,
-            d.take(6 * b), 6 * b, d.take(6 * b), 6 * b,
-            w.take(n + 1), n + 1, w.take(p), p, d.take(p), p, d.take(n), n,
-            w.take(n), n, w.take(n), n, w.take(p), p, w.take(p), p, d.take(36 * n), 36 * n,
+            counts.as_mut_ptr(), counts.len(), maxima.as_mut_ptr(), maxima.len(),
+            jacobians.as_mut_ptr(), jacobians.len(), links.as_mut_ptr(), links.len(),
+            tolerances.as_mut_ptr(), tolerances.len(), diagonal.as_mut_ptr(), diagonal.len(),
+            residual.as_mut_ptr(), residual.len(), pending.as_mut_ptr(), pending.len(),
+            direction.as_mut_ptr(), direction.len(), product.as_mut_ptr(), product.len(),
+            body_impulses.as_mut_ptr(), body_impulses.len(), pattern.as_mut_ptr(), pattern.len(),
+            order.as_mut_ptr(), order.len(), values.as_mut_ptr(), values.len(),
         )
     };
+    drop(control);
     match refusal {
         0 => Ok(Answer {
             converged: counts[1] == 1,
@@ -130,11 +215,12 @@ pub fn solve_position(
             linear_residual_m: maxima[0],
             angular_residual_rad: maxima[1],
         }),
-        number => Err(Refusal(number)),
+        number => Err(Refusal::of(number)),
     }
 }
 
 /// Measures every joint's gap from `multipliers`, the gains since the errors were measured.
+#[inline(never)]
 pub fn closing_check(
     tables: &Tables,
     tolerance: Tolerance,
@@ -142,60 +228,99 @@ pub fn closing_check(
     work: &mut Work,
 ) -> Result<Verdict, Refusal> {
     let (n, b) = tables.counts()?;
-    let mut d = Carver::of(&mut work.doubles, 15 * n + 22 * b, 0.0);
-    let mut w = Carver::of(&mut work.words, 2 * n, 0);
+    let (mut doubles, mut words) = work.lend(15 * n + 16 * b, 2 * n);
+    let jacobians = carve(&mut doubles, 12 * n);
+    let links = carve(&mut words, 2 * n);
+    let mass_sizes = carve(&mut doubles, 10 * b);
+    let multiplier_sizes = carve(&mut doubles, n);
+    let impulses = carve(&mut doubles, 6 * b);
+    let values = carve(&mut doubles, n);
+    let sizes = carve(&mut doubles, n);
+    let mut verdict = [Verdict::Open as u32];
+    let control = DefaultControl::set();
+    // SAFETY: each pointer and length is of one slice, and what is written overlaps no other.
     #[rustfmt::skip]
-    let found = unsafe {
+    let refusal = unsafe {
         kapitsa_closing_check(
             tables.numbers.as_ptr(), tables.numbers.len(),
             tables.words.as_ptr(), tables.words.len(),
             tables.masses.as_ptr(), tables.masses.len(),
             tolerance.linear_m, tolerance.angular_rad, n as u32, b as u32,
-            multipliers.as_ptr(), multipliers.len(),
-            d.take(12 * n), 12 * n, w.take(2 * n), 2 * n, d.take(10 * b), 10 * b, d.take(n), n,
-            d.take(6 * b), 6 * b, d.take(6 * b), 6 * b, d.take(n), n, d.take(n), n,
+            multipliers.as_ptr(), multipliers.len(), verdict.as_mut_ptr(), verdict.len(),
+            jacobians.as_mut_ptr(), jacobians.len(), links.as_mut_ptr(), links.len(),
+            mass_sizes.as_mut_ptr(), mass_sizes.len(),
+            multiplier_sizes.as_mut_ptr(), multiplier_sizes.len(),
+            impulses.as_mut_ptr(), impulses.len(),
+            values.as_mut_ptr(), values.len(), sizes.as_mut_ptr(), sizes.len(),
         )
     };
-    match found {
-        0 => Ok(Verdict::Open),
-        1 => Ok(Verdict::Closed),
-        number => Err(Refusal(number)),
+    drop(control);
+    match (refusal, verdict) {
+        (0, [1]) => Ok(Verdict::Closed),
+        (0, _) => Ok(Verdict::Open),
+        (number, _) => Err(Refusal::of(number)),
     }
+}
+
+/// The floating-point control word MXCSR as Rust and the archive assume it, while this lives:
+/// round to nearest, subnormal numbers kept, exceptions masked. Afterwards it is what it was, its
+/// flags too: a program whose C part was linked with -ffast-math, or that set another mode, gets
+/// the same answers and finds its mode again. Flags that the call raises are dropped.
+struct DefaultControl {
+    before: u32,
+}
+
+const DEFAULT_CONTROL: u32 = 0x1f80;
+
+impl DefaultControl {
+    fn set() -> Self {
+        let mut before = 0u32;
+        // SAFETY: stores 32 bits into `before`.
+        unsafe { asm!("stmxcsr [{}]", in(reg) &raw mut before, options(nostack, preserves_flags)) };
+        load_control(DEFAULT_CONTROL);
+        Self { before }
+    }
+}
+
+impl Drop for DefaultControl {
+    fn drop(&mut self) {
+        load_control(self.before);
+    }
+}
+
+/// Takes the default word, or one that the register held: no bit of it is reserved.
+fn load_control(word: u32) {
+    // SAFETY: loads 32 bits from `word`; nothing but the archive computes between `set` and `drop`.
+    unsafe { asm!("ldmxcsr [{}]", in(reg) &raw const word, options(nostack)) };
 }
 
 #[rustfmt::skip]
 #[link(name = "kapitsa_c", kind = "static")]
 unsafe extern "C" {
     fn kapitsa_solve_position(
-        numbers: *mut c_double, numbers_len: usize, words: *const u32, words_len: usize,
-        masses: *const c_double, masses_len: usize,
-        linear_tolerance: c_double, angular_tolerance: c_double,
+        numbers: *mut f64, numbers_len: usize, words: *const u32, words_len: usize,
+        masses: *const f64, masses_len: usize,
+        linear_tolerance: f64, angular_tolerance: f64,
         rows: u32, bodies: u32, limit: u32, mode: u32,
-        solution: *mut c_double, solution_len: usize, impulses: *mut c_double, impulses_len: usize,
-        counts: *mut u32, counts_len: usize, maxima: *mut c_double, maxima_len: usize,
-        jacobians: *mut c_double, jacobians_len: usize, links: *mut u32, links_len: usize,
-        owners: *mut u32, owners_len: usize, diagonal: *mut c_double, diagonal_len: usize,
-        residual: *mut c_double, residual_len: usize, pending: *mut c_double, pending_len: usize,
-        preconditioned: *mut c_double, preconditioned_len: usize,
-        direction: *mut c_double, direction_len: usize, product: *mut c_double, product_len: usize,
-        body_impulses: *mut c_double, body_impulses_len: usize,
-        body_responses: *mut c_double, body_responses_len: usize,
-        starts: *mut u32, starts_len: usize, columns: *mut u32, columns_len: usize,
-        values: *mut c_double, values_len: usize, pivots: *mut c_double, pivots_len: usize,
-        marks: *mut u32, marks_len: usize, heads: *mut u32, heads_len: usize,
-        nexts: *mut u32, nexts_len: usize, homes: *mut u32, homes_len: usize,
-        blocks: *mut c_double, blocks_len: usize,
+        solution: *mut f64, solution_len: usize, impulses: *mut f64, impulses_len: usize,
+        counts: *mut u32, counts_len: usize, maxima: *mut f64, maxima_len: usize,
+        jacobians: *mut f64, jacobians_len: usize, links: *mut u32, links_len: usize,
+        tolerances: *mut f64, tolerances_len: usize, diagonal: *mut f64, diagonal_len: usize,
+        residual: *mut f64, residual_len: usize, pending: *mut f64, pending_len: usize,
+        direction: *mut f64, direction_len: usize, product: *mut f64, product_len: usize,
+        body_impulses: *mut f64, body_impulses_len: usize, pattern: *mut u32, pattern_len: usize,
+        order: *mut u32, order_len: usize, values: *mut f64, values_len: usize,
     ) -> u32;
 
     fn kapitsa_closing_check(
-        numbers: *const c_double, numbers_len: usize, words: *const u32, words_len: usize,
-        masses: *const c_double, masses_len: usize,
-        linear_tolerance: c_double, angular_tolerance: c_double, rows: u32, bodies: u32,
-        multipliers: *const c_double, multipliers_len: usize,
-        jacobians: *mut c_double, jacobians_len: usize, links: *mut u32, links_len: usize,
-        mass_sizes: *mut c_double, mass_sizes_len: usize,
-        multiplier_sizes: *mut c_double, multiplier_sizes_len: usize,
-        impulses: *mut c_double, impulses_len: usize, responses: *mut c_double, responses_len: usize,
-        values: *mut c_double, values_len: usize, sizes: *mut c_double, sizes_len: usize,
+        numbers: *const f64, numbers_len: usize, words: *const u32, words_len: usize,
+        masses: *const f64, masses_len: usize,
+        linear_tolerance: f64, angular_tolerance: f64, rows: u32, bodies: u32,
+        multipliers: *const f64, multipliers_len: usize, verdict: *mut u32, verdict_len: usize,
+        jacobians: *mut f64, jacobians_len: usize, links: *mut u32, links_len: usize,
+        mass_sizes: *mut f64, mass_sizes_len: usize,
+        multiplier_sizes: *mut f64, multiplier_sizes_len: usize,
+        impulses: *mut f64, impulses_len: usize,
+        values: *mut f64, values_len: usize, sizes: *mut f64, sizes_len: usize,
     ) -> u32;
 }

@@ -52,4 +52,4 @@ pub mod joint {
     pub mod solver;
 }
 
-pub use joint::solver::harness::{Operator, Outcome, Preconditioners, Prepared, Triangle};
+pub use joint::solver::harness::{Operator, Outcome, Prepared};

@@ -9,9 +9,6 @@ use crate::random::Random;
 use std::hint::black_box;
 use std::time::{Duration, Instant};
 
-mod blocks;
-pub mod operator;
-pub mod preconditioner;
 pub mod program;
 
 /// Name, shape, joints and rows a joint.
@@ -189,9 +186,8 @@ fn short(value: f64) -> String {
 }
 
 /// The closing check of 512 rows on 256 bodies, with the solve's own multipliers, beside
-/// three products of the reference's operator on the same table and list, and of the
-/// port's if its library is given.
-pub fn closing(library: &str, operator_library: Option<&str>) -> Result<bool, String> {
+/// three products of the reference's operator on the same table and list.
+pub fn closing(library: &str) -> Result<bool, String> {
     let own = Implementation::open(library)?;
     let job = mechanism(Shape::Loop, 256, 2, INCOMPLETE_CHOLESKY);
     let list = crate::model::solve(&job).solution;
@@ -200,8 +196,8 @@ pub fn closing(library: &str, operator_library: Option<&str>) -> Result<bool, St
         return Err(format!("the check is refused by {refusal}: no time of a verdict"));
     }
     let mut operator = reference::Operator::new(&job.numbers, &job.words, &job.masses);
-    let product = operator.product(&list).map_err(|error| format!("{error:?}"))?.to_vec();
-    let mut solves: Vec<Solve> = vec![
+    operator.product(&list).map_err(|error| format!("{error:?}"))?;
+    let solves: Vec<Solve> = vec![
         Box::new(|| {
             black_box(own.close(&job, black_box(&list)));
         }),
@@ -211,13 +207,9 @@ pub fn closing(library: &str, operator_library: Option<&str>) -> Result<bool, St
             }
         }),
     ];
-    if let Some(path) = operator_library {
-        let [mut apply, _] = operator::ported(path, &job, &list, &product)?;
-        solves.push(Box::new(move || (0..3).for_each(|_| apply())));
-    }
     let verdict = if closed == 1 { "closed" } else { "open" };
     println!("{} rows, {} bodies: {verdict}; µs, minimum and median", job.rows, job.bodies);
-    let names = ["closing check", "three products of the Rust", "three products of the port"];
+    let names = ["closing check", "three products of the Rust"];
     for (name, times) in names.iter().zip(&times(solves)) {
         println!("{name}: {} {}", short(times.minimum), short(times.median));
     }

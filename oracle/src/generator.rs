@@ -4,16 +4,18 @@ mod doubles;
 mod edges;
 mod examples;
 mod faults;
+mod fixed;
 mod large;
 mod mechanism;
 mod overflows;
-mod tables;
+mod pins;
 mod thresholds;
 
 pub use examples::{chain_along_x, examples, push_x_row};
-pub use large::{large, late_faults, star};
+pub use fixed::fixed;
+pub use large::star;
 pub use mechanism::{Shape, joined};
-pub use tables::{Operand, chain, operand};
+pub use pins::pin;
 
 use crate::job::Job;
 use crate::random::Random;

@@ -134,6 +134,14 @@ impl Solved {
             impulses: Vec::new(),
         }
     }
+
+    /// Answer and delivery have equal bits.
+    pub fn same(&self, other: &Solved) -> bool {
+        self.answer.words() == other.answer.words()
+            && same_bits(&self.solution, &other.solution)
+            && same_bits(&self.multipliers, &other.multipliers)
+            && same_bits(&self.impulses, &other.impulses)
+    }
 }
 
 pub fn same_bits(left: &[f64], right: &[f64]) -> bool {

@@ -3,6 +3,7 @@
 mod bench;
 mod blocks;
 mod closing_jobs;
+mod cover;
 mod differences;
 mod driver;
 mod file_jobs;
@@ -14,9 +15,7 @@ mod judge;
 mod library;
 mod listing;
 mod model;
-mod operator_list;
 mod packing;
-mod preconditioner_list;
 mod program;
 mod random;
 mod recorded;
@@ -28,16 +27,13 @@ use std::path::PathBuf;
 const USAGE: &str = "usage: oracle/run COMMAND
   tally [JOBS] [SEED]             outcomes of generated jobs by mode, reference against model
   drive LIBRARY [JOBS] [SEED]     an implementation (see oracle/wrap) against the judge
-  record                          makes oracle/recorded/*.bin
-  replay                          judges the recorded jobs anew
+  record                          makes the recorded solves in crates/solve_recorded
+  replay                          judges the recorded solves anew
+  cover                           counts what the recorded solves meet
   blocks [JOBS] [SEED]            mode 2 of the model against the Rust's velocity side
-  operator                        the list that crates/operator_recorded replays, to standard output
-  bench-operator [LIBRARY]        time of the reference's operator, and of an implementation's
-  preconditioner                  the list that crates/preconditioner_recorded replays, likewise
   differences                     docs/DIFFERENCES.md's inputs on the reference
   bench [LIBRARY]                 times of the reference, and of an implementation
-  bench-closing LIBRARY [OPERATOR] time of an implementation's closing check at 512 rows
-  bench-preconditioner LIBRARY    times of the build and solve of modes 1 and 2 at 512 rows
+  bench-closing LIBRARY           time of an implementation's closing check at 512 rows
   bench-program PROGRAM           time of the job program's process on the largest job
   job FILE                        what the job program prints of a job file
   files FOLDER [JOBS] [SEED]      job files in every placement, with what the program prints
@@ -69,17 +65,12 @@ fn command(words: &[&str]) -> Result<bool, String> {
         ["drive", library, ..] => driver::run(library, number(2, 100_000)?, number(3, 1)?, &home()),
         ["record"] => recorded::make(&home()),
         ["replay"] => recorded::replay(&home()),
+        ["cover"] => recorded::cover(&home()),
         ["blocks", ..] => Ok(blocks::run(number(1, 100_000)?, number(2, 1)?)),
-        ["operator"] => operator_list::write(),
-        ["bench-operator"] => bench::operator::table(None),
-        ["bench-operator", library] => bench::operator::table(Some(library)),
-        ["preconditioner"] => preconditioner_list::write(),
         ["differences"] => Ok(differences::run()),
         ["bench"] => bench::table(None),
         ["bench", library] => bench::table(Some(library)),
-        ["bench-closing", library] => bench::closing(library, None),
-        ["bench-closing", library, operator] => bench::closing(library, Some(operator)),
-        ["bench-preconditioner", library] => bench::preconditioner::run(library),
+        ["bench-closing", library] => bench::closing(library),
         ["bench-program", program] => bench::program::table(program),
         ["job", file] => {
             let bytes = std::fs::read(file).map_err(|error| format!("{file}: {error}"))?;

@@ -10,12 +10,15 @@ mod preconditioner;
 mod steps;
 mod table;
 
+pub use algebra::{Side, Vector, cross, scaled};
 pub use closing::{closing_check, measure};
+pub use steps::Begun;
+pub use table::{Row, Table};
 
 use crate::job::{Answer, Job, Solved};
 use preconditioner::Preconditioner;
-use steps::{Begun, begin, run};
-use table::{Table, opening};
+use steps::{begin, run};
+use table::opening;
 
 /// A value, or the number of the refusal that turns the job back.
 pub type Judged<T> = Result<T, u32>;
@@ -47,9 +50,12 @@ fn attempt(job: &Job) -> Judged<Solved> {
     Ok(Solved { answer, solution: ended.solution, multipliers, impulses })
 }
 
-/// What turns back the factor of the job's mode, 0 where nothing does. The diagonal is given.
-pub fn factor_refusal(job: &Job, diagonal: &[f64]) -> u32 {
-    Preconditioner::build(job.mode, &Table::of(job), diagonal).err().unwrap_or(0)
+/// The table and step 0 of a job that comes to its factor.
+pub fn at_factor(job: &Job) -> Option<(Table, Begun)> {
+    opening(job).ok()?;
+    let table = Table::of(job);
+    let begun = begin(&table).ok()?;
+    (!table.meets(&begun.residual)).then_some((table, begun))
 }
 
 /// Count 0: multipliers keep their bits, solution and impulses are +0.0.
@@ -63,7 +69,7 @@ fn at_step_zero(job: &Job, table: &Table, residual: &[f64]) -> Solved {
 }
 
 /// Both maxima run over the rows of their dimension, from +0.0 upward.
-fn answer(table: &Table, residual: &[f64], count: u32, flag: bool) -> Answer {
+pub fn answer(table: &Table, residual: &[f64], count: u32, flag: bool) -> Answer {
     let mut maxima = [0.0_f64; 2];
     for (row, value) in table.rows.iter().zip(residual) {
         if value.abs() > maxima[row.dimension] {

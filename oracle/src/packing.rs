@@ -1,4 +1,4 @@
-//! The recorded lists' format (oracle/recorded/README.md says it byte by byte).
+//! The format of the recorded solves (oracle/README.md says it byte by byte).
 
 use crate::job::*;
 

@@ -1,12 +1,15 @@
 /* The adapter of the port's archive (rt staticlib kapitsa_c) for the driver: it lends the work
-   memory, as much as document 01's counts call for. adapter.c has what it stands in for. */
+   memory, exactly as much as the counts and the mode call for. adapter.c has what it stands in
+   for. What a refused call writes of its answer, and it must write nothing, shows as an answer
+   that no job has. */
 #include "kapitsa.h"
+#include <string.h>
 
-enum { ROWS = 512, BODIES = 256, PAIRS = 16384 };
+/* The most that any call asks for: doubles in mode 2, words in mode 1. */
+static double work_doubles[54 * KAPITSA_MAX_ROWS + 6 * KAPITSA_MAX_BODIES];
+static uint32_t work_words[4 * KAPITSA_MAX_ROWS + 3 * KAPITSA_MAX_PAIRS + 1];
 
-/* The most that kapitsa_doubles and kapitsa_words ask for. */
-static double doubles[55 * ROWS + 12 * BODIES + PAIRS];
-static uint32_t words_memory[6 * ROWS + 3 * PAIRS + 1];
+static const uint64_t untouched = 0x5eed5eed5eed5eed;
 
 void oracle_solve_position(
     double *numbers, size_t numbers_len, const uint32_t *words, size_t words_len,
@@ -15,24 +18,23 @@ void oracle_solve_position(
     double *solution, size_t solution_len, double *impulses, size_t impulses_len,
     uint64_t *answer, size_t answer_len)
 {
-    uint32_t counts[2] = {0, 0};
-    double maxima[2] = {0.0, 0.0};
+    uint32_t counts[2] = {(uint32_t)untouched, (uint32_t)untouched};
+    uint64_t bits[2] = {untouched, untouched};
+    double maxima[2];
+    memcpy(maxima, bits, sizeof maxima);
     uint32_t refusal = kapitsa_solve_in(
         numbers, numbers_len, words, words_len, masses, masses_len, linear_tolerance,
         angular_tolerance, rows, bodies, limit, mode, solution, solution_len, impulses,
-        impulses_len, counts, maxima, doubles, words_memory);
-    union {
-        double number;
-        uint64_t bits;
-    } maximum[2];
-    maximum[0].number = maxima[0];
-    maximum[1].number = maxima[1];
-    if (answer_len == 5) {
-        answer[0] = refusal;
-        answer[1] = counts[0];
-        answer[2] = counts[1];
-        answer[3] = maximum[0].bits;
-        answer[4] = maximum[1].bits;
+        impulses_len, counts, maxima,
+        work_doubles, kapitsa_solve_doubles(rows, bodies, mode),
+        work_words, kapitsa_solve_words(rows, bodies, mode));
+    memcpy(bits, maxima, sizeof bits);
+    if (answer_len != 5)
+        return;
+    answer[0] = refusal;
+    for (int i = 0; i < 2; i++) {
+        answer[1 + i] = refusal && counts[i] == (uint32_t)untouched ? 0 : counts[i];
+        answer[3 + i] = refusal && bits[i] == untouched ? 0 : bits[i];
     }
 }
 
@@ -42,26 +44,27 @@ void oracle_closing_check(
     uint32_t rows, uint32_t bodies, const double *multipliers, size_t multipliers_len,
     uint64_t *answer, size_t answer_len)
 {
-    uint32_t found = kapitsa_check_in(
+    uint32_t verdict = (uint32_t)untouched;
+    uint32_t refusal = kapitsa_check_in(
         numbers, numbers_len, words, words_len, masses, masses_len, linear_tolerance,
-        angular_tolerance, rows, bodies, multipliers, multipliers_len, doubles, words_memory);
-    if (answer_len == 2) {
-        answer[0] = found < 2 ? 0 : found;
-        answer[1] = found == 1;
-    }
+        angular_tolerance, rows, bodies, multipliers, multipliers_len, &verdict,
+        work_doubles, kapitsa_check_doubles(rows, bodies),
+        work_words, kapitsa_check_words(rows, bodies));
+    if (answer_len != 2)
+        return;
+    answer[0] = refusal;
+    answer[1] = refusal && verdict == (uint32_t)untouched ? 0 : verdict;
 }
 
+/* The first byte is 0, and each is like the one before it. */
 static int all_zero(const void *memory, size_t size)
 {
     const unsigned char *bytes = memory;
-    for (size_t i = 0; i < size; i++)
-        if (bytes[i])
-            return 0;
-    return 1;
+    return bytes[0] == 0 && memcmp(bytes, bytes + 1, size - 1) == 0;
 }
 
 /* Is all of the work memory +0.0 (integers 0)? */
 int oracle_work_cleared(void)
 {
-    return all_zero(doubles, sizeof doubles) && all_zero(words_memory, sizeof words_memory);
+    return all_zero(work_doubles, sizeof work_doubles) && all_zero(work_words, sizeof work_words);
 }

@@ -1,50 +1,86 @@
-//! Makes the recorded lists, and replays them.
+//! Makes the recorded solves that crates/solve_recorded replays, judges them anew, and counts
+//! what they meet.
 
-use crate::generator::{self, Sizes, chain_along_x, examples, large, late_faults, star};
-use crate::job::{BLOCK_JACOBI, Job, MASS_NUMBERS, ROW_NUMBERS, Solved, same_bits};
+use crate::blocks;
+use crate::cover::Cover;
+use crate::generator::{self, Sizes};
+use crate::job::{BLOCK_JACOBI, Job, MASS_NUMBERS, ROW_NUMBERS, Solved};
 use crate::judge::{Judged, judge};
 use crate::listing::verdict;
 use crate::packing::{Entry, pack, pack_list};
 use crate::tally::{Outcome, Tally};
-use crate::unpacking::unpack_list;
+use crate::unpacking::unpack_both;
 use std::collections::BTreeMap;
 use std::path::Path;
 
-pub const POSITION: &str = "recorded/position.bin";
-pub const DEFINED: &str = "recorded/defined.bin";
+/// What the program reads, two lists one straight after the other, and what it must print.
+const LISTS: &str = "../crates/solve_recorded/stdin";
+const PRINTED: &str = "../crates/solve_recorded/stdout";
+/// The program has room for no more.
+const MOST_BYTES: usize = 2_000_000;
+/// Whose answers the lists have.
+const NAMES: [&str; 2] = ["answers of the reference", "answers by definition"];
 
 const SEED: u64 = 20;
 const CANDIDATES: u64 = 400_000;
-/// A recorded job of the generator takes at most this many bytes.
+const PINS: u64 = 100_000;
+/// A job that was drawn takes at most this many bytes.
 const MAX_ENTRY: usize = 1_400;
+
+/// Why a job is taken: always, while its outcome is wanted, or while `cover` wants what it
+/// meets.
+#[derive(Clone, Copy, PartialEq)]
+enum Taken {
+    Always,
+    ForOutcome,
+    ForItem,
+}
 
 struct List {
     entries: Vec<Vec<u8>>,
-    filled: BTreeMap<(u32, Outcome), usize>,
+    drawn: BTreeMap<(u32, Outcome), usize>,
     tally: Tally,
     quota: fn(u32, Outcome) -> usize,
 }
 
 impl List {
     fn new(quota: fn(u32, Outcome) -> usize) -> Self {
-        Self { entries: Vec::new(), filled: BTreeMap::new(), tally: Tally::default(), quota }
+        Self { entries: Vec::new(), drawn: BTreeMap::new(), tally: Tally::default(), quota }
     }
+}
 
-    /// Takes a fixed job always, a drawn one while its outcome is wanted and it is short.
-    fn keep(&mut self, job: Job, solved: Solved, drawn: bool) {
+struct Recording {
+    lists: [List; 2],
+    cover: Cover,
+}
+
+impl Recording {
+    fn offer(&mut self, job: Job, taken: Taken) -> Result<(), String> {
+        let Judged { solved, compared, dispute } = judge(&job);
+        if let Some(dispute) = dispute {
+            return Err(format!("the model differs from the reference: {dispute}"));
+        }
         let (mode, answer) = (job.mode, solved.answer);
-        let outcome = Outcome::of(&answer);
-        let filled = self.filled.entry((mode, outcome)).or_default();
-        if drawn && *filled >= (self.quota)(mode, outcome) {
-            return;
+        let list = &mut self.lists[usize::from(!compared)];
+        let drawn = list.drawn.entry((mode, Outcome::of(&answer))).or_default();
+        if taken == Taken::ForOutcome && *drawn >= (list.quota)(mode, Outcome::of(&answer)) {
+            return Ok(());
         }
         let closing = closing_word(&job, &solved);
-        let packed = pack(&Entry { job, solved, closing });
-        if !drawn || packed.len() <= MAX_ENTRY {
-            *filled += usize::from(drawn);
-            self.tally.add(mode, &answer);
-            self.entries.push(packed);
+        let entry = Entry { job, solved, closing };
+        let packed = pack(&entry);
+        if taken != Taken::Always && packed.len() > MAX_ENTRY {
+            return Ok(());
         }
+        let met = self.cover.met(&entry.job, &entry.solved)?;
+        if taken == Taken::ForItem && !self.cover.wants(&met) {
+            return Ok(());
+        }
+        *drawn += usize::from(taken == Taken::ForOutcome);
+        list.tally.add(mode, &answer);
+        list.entries.push(packed);
+        self.cover.add(&met);
+        Ok(())
     }
 }
 
@@ -72,46 +108,6 @@ fn defined_quota(mode: u32, outcome: Outcome) -> usize {
     }
 }
 
-/// Each job, and whether it was drawn.
-fn candidates() -> impl Iterator<Item = (Job, bool)> {
-    let examples = examples().into_iter().map(|example| example.job);
-    let largest = (0..8).map(|index| large(512, index));
-    let between = [16, 25, 33, 64, 100, 128, 200, 256, 400].into_iter();
-    let between = between.flat_map(|rows| [large(rows, 0), large(rows, 1)]);
-    let with_blocks = |rows| Job { mode: BLOCK_JACOBI, ..large(rows, 0) };
-    let blocks = [16, 33, 64, 128, 256, 512].into_iter().map(with_blocks);
-    let large = largest.chain(between).chain(blocks).chain([star(181), star(182), late_faults()]);
-    let drawn = (0..CANDIDATES).map(|index| generator::job(SEED, index, Sizes::Small));
-    let fixed = examples.chain(large).chain(one_change());
-    fixed.map(|job| (job, false)).chain(drawn.map(|job| (job, true)))
-}
-
-/// P1 with one of its numbers or words changed: every test of 4 to 7, field by field.
-fn one_change() -> Vec<Job> {
-    let p1 = chain_along_x(0.5, &[-0.25]);
-    let mut jobs = Vec::new();
-    let signalling = f64::from_bits(0xfff0_0000_0000_0001);
-    for value in [f64::NAN, signalling, f64::INFINITY, f64::NEG_INFINITY, -1.0] {
-        for at in 0..ROW_NUMBERS {
-            let mut job = p1.clone();
-            job.numbers[at] = value;
-            jobs.push(job);
-        }
-        for at in 0..MASS_NUMBERS {
-            let mut job = p1.clone();
-            job.masses[at] = value;
-            jobs.push(job);
-        }
-    }
-    for (at, value) in (0..8).flat_map(|at| [0, 1, 2, 255, 256, u32::MAX].map(|value| (at, value)))
-    {
-        let mut job = p1.clone();
-        job.words[at] = value;
-        jobs.push(job);
-    }
-    jobs
-}
-
 /// A list says its lengths by its counts, so jobs whose lengths do not fit are left out.
 fn recordable(job: &Job) -> bool {
     job.numbers.len() == ROW_NUMBERS * job.rows as usize
@@ -119,47 +115,99 @@ fn recordable(job: &Job) -> bool {
 }
 
 pub fn make(home: &Path) -> Result<bool, String> {
-    let (mut position, mut defined) = (List::new(position_quota), List::new(defined_quota));
-    for (job, drawn) in candidates().filter(|(job, _)| recordable(job)) {
-        let Judged { solved, compared, dispute } = judge(&job);
-        if let Some(dispute) = dispute {
-            return Err(format!("the model differs from the reference: {dispute}"));
-        }
-        let list = if compared { &mut position } else { &mut defined };
-        list.keep(job, solved, drawn);
+    let lists = [List::new(position_quota), List::new(defined_quota)];
+    let mut recording = Recording { lists, cover: Cover::new() };
+    for job in generator::fixed() {
+        recording.offer(job, Taken::Always)?;
     }
-    write(home, POSITION, &position)?;
-    write(home, DEFINED, &defined)?;
-    Ok(true)
+    let drawn = (0..CANDIDATES).map(|index| generator::job(SEED, index, Sizes::Small));
+    for job in drawn.filter(recordable) {
+        recording.offer(job, Taken::ForOutcome)?;
+    }
+    let mut pins = (0..PINS).map(|index| generator::pin(SEED, index));
+    while let (false, Some(job)) = (recording.cover.full(), pins.next()) {
+        recording.offer(job, Taken::ForItem)?;
+    }
+    write(home, &recording)
 }
 
-fn write(home: &Path, name: &str, list: &List) -> Result<(), String> {
-    let bytes = pack_list(&list.entries);
-    println!("{name}: {} jobs, {} bytes", list.entries.len(), bytes.len());
-    list.tally.print();
-    std::fs::write(home.join(name), bytes).map_err(|error| format!("{name}: {error}"))
+fn write(home: &Path, recording: &Recording) -> Result<bool, String> {
+    let mut bytes = Vec::new();
+    for (name, list) in NAMES.iter().zip(&recording.lists) {
+        let packed = pack_list(&list.entries);
+        println!("{name}: {} jobs, {} bytes", list.entries.len(), packed.len());
+        list.tally.print();
+        bytes.extend(packed);
+    }
+    let printed = printed(&recording.lists.each_ref().map(|list| &list.tally));
+    println!("{} bytes; the program prints:\n{printed}", bytes.len());
+    if bytes.len() > MOST_BYTES {
+        return Err(format!("the program has room for {MOST_BYTES} bytes"));
+    }
+    std::fs::write(home.join(LISTS), bytes)
+        .and_then(|()| std::fs::write(home.join(PRINTED), printed))
+        .map_err(|error| error.to_string())?;
+    if !recording.cover.full() {
+        recording.cover.print();
+    }
+    Ok(recording.cover.full())
 }
 
-/// Reads both lists back and judges every job of them anew.
+/// What the program prints where no job differs; at count 0 the flag is 1.
+fn printed(tallies: &[&Tally]) -> String {
+    let count = |of: fn(&Outcome) -> bool| tallies.iter().map(|tally| tally.count(of)).sum::<u64>();
+    let jobs = count(|_| true);
+    let met = count(|outcome| matches!(outcome, Outcome::CountZero | Outcome::FlagOne));
+    let open = count(|outcome| matches!(outcome, Outcome::FlagZero));
+    let refused = count(|outcome| matches!(outcome, Outcome::Refused(_)));
+    format!(
+        "{jobs} jobs\n{met} accepted with flag 1\n{open} accepted with flag 0\n{refused} refused\n0 differ\n"
+    )
+}
+
+fn read(home: &Path) -> Result<[Vec<Entry>; 2], String> {
+    unpack_both(&std::fs::read(home.join(LISTS)).map_err(|error| format!("{LISTS}: {error}"))?)
+}
+
+/// Reads both lists back, judges every job of them anew, holds mode 2 to the blocks that the
+/// Rust has, and tallies all for what is printed.
 pub fn replay(home: &Path) -> Result<bool, String> {
+    let both = read(home)?;
     let mut good = true;
-    for name in [POSITION, DEFINED] {
-        let bytes = std::fs::read(home.join(name)).map_err(|error| format!("{name}: {error}"))?;
-        let entries = unpack_list(&bytes)?;
-        let differ = entries.iter().filter(|entry| !stands(entry, name == POSITION)).count();
-        println!("{name}: {} jobs, {differ} differ", entries.len());
+    for (at, entries) in both.iter().enumerate() {
+        let differ = entries.iter().filter(|entry| !stands(entry, at == 0)).count();
+        println!("{}: {} jobs, {differ} differ", NAMES[at], entries.len());
         good &= differ == 0;
     }
-    Ok(good)
+    let blocks = both.iter().flatten().filter(|entry| entry.job.mode == BLOCK_JACOBI);
+    let witnessed: Vec<bool> =
+        blocks.filter_map(|entry| blocks::witnessed(&entry.job, &entry.solved)).collect();
+    let differ = witnessed.iter().filter(|same| !**same).count();
+    println!("mode 2: {} jobs as the velocity side's blocks, {differ} differ", witnessed.len());
+    good &= differ == 0;
+    let mut tally = Tally::default();
+    both.iter().flatten().for_each(|entry| tally.add(entry.job.mode, &entry.solved.answer));
+    let wanted = std::fs::read_to_string(home.join(PRINTED)).map_err(|error| error.to_string())?;
+    let same = wanted == printed(&[&tally]);
+    println!("what the program prints: {}", if same { "as the lists have it" } else { "DIFFERS" });
+    Ok(good && same)
 }
 
 fn stands(entry: &Entry, compared: bool) -> bool {
     let judged = judge(&entry.job);
     judged.dispute.is_none()
         && judged.compared == compared
-        && judged.solved.answer.words() == entry.solved.answer.words()
-        && same_bits(&judged.solved.solution, &entry.solved.solution)
-        && same_bits(&judged.solved.multipliers, &entry.solved.multipliers)
-        && same_bits(&judged.solved.impulses, &entry.solved.impulses)
+        && judged.solved.same(&entry.solved)
         && closing_word(&entry.job, &judged.solved) == entry.closing
+}
+
+/// Counts what the lists meet; false where an item has too few jobs.
+pub fn cover(home: &Path) -> Result<bool, String> {
+    let mut cover = Cover::new();
+    for entry in read(home)?.iter().flatten() {
+        let met = cover.met(&entry.job, &entry.solved)?;
+        cover.add(&met);
+    }
+    cover.print();
+    Ok(cover.full())
 }

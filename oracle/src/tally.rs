@@ -47,6 +47,15 @@ impl Tally {
         self.counts.entry(Outcome::of(answer)).or_default()[mode.min(3) as usize] += 1;
     }
 
+    /// How many came to an outcome of these, in any mode.
+    pub fn count(&self, of: fn(&Outcome) -> bool) -> u64 {
+        self.counts
+            .iter()
+            .filter(|(outcome, _)| of(outcome))
+            .map(|(_, by)| by.iter().sum::<u64>())
+            .sum()
+    }
+
     pub fn print(&self) {
         println!("{:<12}{:>9}{:>9}{:>9}{:>9}", "outcome", "mode 0", "mode 1", "mode 2", "other");
         for (outcome, [a, b, c, d]) in &self.counts {

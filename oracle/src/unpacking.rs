@@ -1,4 +1,4 @@
-//! Reads the recorded lists with a byte cursor, as a program without Rust would.
+//! Reads the recorded solves with a byte cursor, as a program without Rust would.
 
 use crate::job::*;
 use crate::packing::{DELIVERY_RECORD, Entry, MAGIC, ROW_RECORD};
@@ -53,19 +53,20 @@ impl Cursor<'_> {
     }
 }
 
-pub fn unpack_list(bytes: &[u8]) -> Result<Vec<Entry>, String> {
-    if bytes.get(..8) != Some(MAGIC.as_slice()) {
+/// Two lists, one straight after the other, to the end of the bytes.
+pub fn unpack_both(bytes: &[u8]) -> Result<[Vec<Entry>; 2], String> {
+    let mut cursor = Cursor { bytes, at: 0 };
+    let both = [list(&mut cursor)?, list(&mut cursor)?];
+    if cursor.at == bytes.len() { Ok(both) } else { Err("bytes follow the lists".to_string()) }
+}
+
+fn list(cursor: &mut Cursor) -> Result<Vec<Entry>, String> {
+    if cursor.little(8)? != u64::from_le_bytes(*MAGIC) {
         return Err("this is not a recorded list".to_string());
     }
-    let mut cursor = Cursor { bytes, at: 8 };
     let count = cursor.word()?;
     cursor.word()?;
-    let entries = (0..count).map(|_| entry(&mut cursor)).collect::<Result<_, _>>()?;
-    if cursor.at == bytes.len() {
-        Ok(entries)
-    } else {
-        Err("the list goes on too long".to_string())
-    }
+    (0..count).map(|_| entry(cursor)).collect()
 }
 
 fn entry(cursor: &mut Cursor) -> Result<Entry, String> {

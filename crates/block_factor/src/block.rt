@@ -11,10 +11,10 @@ ghost use Rattle.block_factor.specs.Answers.{cellOut, cellRun};
 use compact_table::compact_at;
 use kapitsa_joint::RowJacobian;
 use kapitsa_joint::mass_at;
+use loops::wide;
 use pairs::cross_value;
 use sparse::is_fit;
 use sparse::pivot_root;
-use sparse::wide;
 
 pub enum Cell {
     Number(f64),

@@ -16,7 +16,7 @@ use Rattle.mass_operator.specs.System.{System}
 use Rattle.block_factor.specs.Answers.{cellRun, columnTurn, rowTurn, rowsRun, noNumbers, blockOf}
 use Rattle.block_jacobi.specs.Runs.{begins, runLength, RunsFit}
 use Rattle.block_jacobi.specs.Blocks.{stretch, putStretch, blockIn, putBlock, blockTurn, blocksRun}
-use Rattle.block_jacobi.proofs.Turned.{apart, turned}
+use Rattle.loops.proofs.Turned.{unlike, turned}
 
 -- ---- a stretch of a list, after another was written
 module _ (l z : List Float) (a n : ℕ) where
@@ -43,7 +43,7 @@ column-long s start row column t u e = by (cellRun s start row column t) e
   where
     by : (r : Run Float ℕ) → on r (λ x. going (set t (row * 6 + column) x)) ended ≡ going u → length u ≡ length t
     by (going x) q = let z : set t (row * 6 + column) x ≡ u = cc in rw (← z) (length-set t (row * 6 + column) x)
-    by (ended k) q = apart k u q
+    by (ended k) q = unlike k u q
 
 row-long : (s : System) (start row : ℕ) (t u : List Float) → rowTurn s start row t ≡ going u → length u ≡ length t
 unfolding rowTurn
@@ -57,7 +57,7 @@ module _ (s : System) (start len : ℕ) (b : List Float) (made : blockOf s start
   by-test : (t : Bool) → leb len 6 ≡ t → check t (rowsRun s start len noNumbers) (ended 11) ≡ going b → (len ≤ 6) × (length b ≡ 36)
   unfolding check
   by-test true e q = (leb-true len 6 e, rows-long s start len b q)
-  by-test false e q = apart 11 b q
+  by-test false e q = unlike 11 b q
 
   both : (len ≤ 6) × (length b ≡ 36)
   unfolding blockOf
@@ -115,7 +115,7 @@ module _ (s : System) (owner : ℕ → ℕ) (l : List Float) (room : 36 * s .row
     by-block : (r : Run (List Float) ℕ) → blockOf s k (runLength owner k (s .rows)) ≡ r → (u : List Float) → on {R = Run (List Float) (ℕ × List Float)} r (λ b. going (putBlock t k b)) (λ n. ended (n, t)) ≡ going u → KeptTo (suc k) u
     unfolding on
     by-block (going b) e u q = let z : putBlock t k b ≡ u = cc in rw (← z) (keep b e)
-    by-block (ended n) e u q = apart (n, t) u q
+    by-block (ended n) e u q = unlike (n, t) u q
 
     by-run : (c : Bool) → begins owner k ≡ c → (u : List Float) → check c (on {R = Run (List Float) (ℕ × List Float)} (blockOf s k (runLength owner k (s .rows))) (λ b. going (putBlock t k b)) (λ n. ended (n, t))) (going t) ≡ going u → KeptTo (suc k) u
     unfolding check

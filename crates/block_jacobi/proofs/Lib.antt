@@ -3,6 +3,5 @@ pub mod Leading
 pub mod RunsOf
 pub mod RowPairs
 pub mod Solving
-pub mod Turned
 pub mod BlocksHeld
 pub mod Stores

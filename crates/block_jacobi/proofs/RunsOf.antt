@@ -10,15 +10,11 @@ use lib.Dec.{eqb}
 use borrow.Author.Tests.{eq-eqb, ne-eqb, eqb-true, eqb-false}
 use Rattle.loops.specs.Run.{Run, going, ended, turns}
 use Rattle.loops.proofs.Loop.{on-going, on-ended, loops}
+use Rattle.loops.proofs.Both.{both}
 use Rattle.sparse.proofs.Hop.{glide}
 use Rattle.block_jacobi.specs.Runs.{begins, leading, runLength, RunIs}
 
 -- ---- `leading`
-both : (a b : Bool) → (a && b) ≡ true → (a ≡ true) × (b ≡ true)
-both true true e = (refl, refl)
-both true false e = absurd (subst (λ (t : Bool). cond t ⊥ Unit) e tt)
-both false b e = absurd (subst (λ (t : Bool). cond t ⊥ Unit) e tt)
-
 one-fails : (a b : Bool) → a ≡ true → (a && b) ≡ false → b ≡ false
 one-fails true b e h = h
 one-fails false b e h = absurd (subst (λ (t : Bool). cond t ⊥ Unit) e tt)

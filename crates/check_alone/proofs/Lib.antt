@@ -1,2 +1,2 @@
--- What cleared work memory shows, and what a check that fits answers.
-pub mod Clearing
+-- The check alone, from the check with lent memory.
+pub mod Alone

@@ -1,78 +1,16 @@
-// The check: refusal 3 of what is lent, then the work memory, and what the check leaves in it.
+// The check: refusal 3 of what is lent, then the work memory.
 ghost use mathlib.Core.Path.{_≡_};
 ghost use mathlib.Core.Bool.{true};
 ghost use Rattle.kapitsa_joint.specs.Table.{tableOf};
 ghost use Rattle.mass_operator.specs.Flat.{coefficients};
-ghost use Rattle.check_refusals.specs.Refusals.{tableLengths, workLengths};
-ghost use Rattle.check_answer.specs.Answer.{NumberMeaning};
-ghost use Rattle.check_work.specs.Work.{Room};
-ghost use Rattle.check_alone.specs.Checked.{givenFits, checkedOf};
-use crate::fit::given_fits;
-use crate::zeros::is_clear;
+ghost use Rattle.check_refusals.specs.Refusals.{givenFits, tableLengths};
+ghost use Rattle.check_answer.specs.Answer.{CheckMeaning};
+ghost use Rattle.check_alone.specs.Checked.{checkedOf};
+use check_answer::CheckAnswer;
 use check_refusals::TableLengths;
+use check_refusals::given_fits;
 use closing_check::closing_check;
 use kapitsa_joint::JointTolerance;
-
-// The answer's number.
-pub struct Found {
-    pub answer: u32,
-    pub cleared: bool,
-}
-
-// With all of the memory, as long as the counts call for.
-fn check_in(
-    n: u32,
-    b: u32,
-    numbers: &[f64],
-    words: &[u32],
-    masses: &[f64],
-    multipliers: &[f64],
-    tolerance: JointTolerance,
-    jacobians: &mut [f64],
-    links: &mut [u32],
-    mass_sizes: &mut [f64],
-    multiplier_sizes: &mut [f64],
-    impulses: &mut [f64],
-    responses: &mut [f64],
-    values: &mut [f64],
-    sizes: &mut [f64],
-) -> Found
-    requires { ⌜ Room n b (tableLengths (now numbers) (now words) (now masses) (now multipliers)) (workLengths (now jacobians) (now links) (now «mass_sizes») (now «multiplier_sizes») (now impulses) (now responses) (now values) (now sizes)) ⌝ }
-    requires { ⌜ givenFits n b (tableLengths (now numbers) (now words) (now masses) (now multipliers)) ≡ true ⌝ }
-    ensures { λ r. ⌜ r ≡ checkedOf n b (now (numbers .entry)) (now (words .entry)) (now (masses .entry)) (now (multipliers .entry)) tolerance ⌝ }
-{
-    let answer = closing_check(
-        n,
-        b,
-        numbers,
-        words,
-        masses,
-        multipliers,
-        tolerance,
-        jacobians,
-        links,
-        mass_sizes,
-        multiplier_sizes,
-        impulses,
-        responses,
-        values,
-        sizes,
-    );
-    let cleared = is_clear(
-        jacobians,
-        links,
-        mass_sizes,
-        multiplier_sizes,
-        impulses,
-        responses,
-        values,
-        sizes,
-    );
-    Found {
-        answer: answer.number(),
-        cleared,
-    }
-}
 
 // With memory for the largest table: 512 rows and 256 bodies.
 fn with_memory(
@@ -83,16 +21,16 @@ fn with_memory(
     masses: &[f64],
     multipliers: &[f64],
     tolerance: JointTolerance,
-) -> Found
+) -> CheckAnswer
     requires { ⌜ givenFits n b (tableLengths (now numbers) (now words) (now masses) (now multipliers)) ≡ true ⌝ }
     ensures { λ r. ⌜ r ≡ checkedOf n b (now (numbers .entry)) (now (words .entry)) (now (masses .entry)) (now (multipliers .entry)) tolerance ⌝ }
+    ensures { λ r. ⌜ CheckMeaning (givenFits n b (tableLengths (now (numbers .entry)) (now (words .entry)) (now (masses .entry)) (now (multipliers .entry)))) (tableOf n b (now (numbers .entry)) (now (words .entry)) (now (masses .entry)) tolerance) (coefficients (now (multipliers .entry))) r ⌝ }
 {
     let mut jacobians: [f64; 6144] = [0.0; 6144];
     let mut links: [u32; 1024] = [0; 1024];
     let mut mass_sizes: [f64; 2560] = [0.0; 2560];
     let mut multiplier_sizes: [f64; 512] = [0.0; 512];
     let mut impulses: [f64; 1536] = [0.0; 1536];
-    let mut responses: [f64; 1536] = [0.0; 1536];
     let mut values: [f64; 512] = [0.0; 512];
     let mut sizes: [f64; 512] = [0.0; 512];
     let rows = n as usize;
@@ -101,7 +39,7 @@ fn with_memory(
     let row_links = 2 * rows;
     let mass_numbers = 10 * bodies;
     let body_numbers = 6 * bodies;
-    check_in(
+    closing_check(
         n,
         b,
         numbers,
@@ -114,13 +52,12 @@ fn with_memory(
         &mut mass_sizes[..mass_numbers],
         &mut multiplier_sizes[..rows],
         &mut impulses[..body_numbers],
-        &mut responses[..body_numbers],
         &mut values[..rows],
         &mut sizes[..rows],
     )
 }
 
-// A call refused by 3 uses no memory.
+// Are the joints closed by these multipliers? A call refused by 3 uses no memory.
 pub fn checked(
     n: u32,
     b: u32,
@@ -129,9 +66,9 @@ pub fn checked(
     masses: &[f64],
     multipliers: &[f64],
     tolerance: JointTolerance,
-) -> Found
+) -> CheckAnswer
     ensures { λ r. ⌜ r ≡ checkedOf n b (now (numbers .entry)) (now (words .entry)) (now (masses .entry)) (now (multipliers .entry)) tolerance ⌝ }
-    ensures { λ r. ⌜ NumberMeaning (givenFits n b (tableLengths (now (numbers .entry)) (now (words .entry)) (now (masses .entry)) (now (multipliers .entry)))) (tableOf n b (now (numbers .entry)) (now (words .entry)) (now (masses .entry)) tolerance) (coefficients (now (multipliers .entry))) (r .answer) ⌝ }
+    ensures { λ r. ⌜ CheckMeaning (givenFits n b (tableLengths (now (numbers .entry)) (now (words .entry)) (now (masses .entry)) (now (multipliers .entry)))) (tableOf n b (now (numbers .entry)) (now (words .entry)) (now (masses .entry)) tolerance) (coefficients (now (multipliers .entry))) r ⌝ }
 {
     let table = TableLengths {
         numbers: numbers.len(),
@@ -140,10 +77,7 @@ pub fn checked(
         multipliers: multipliers.len(),
     };
     if !given_fits(n, b, table) {
-        return Found {
-            answer: 3,
-            cleared: true,
-        };
+        return CheckAnswer::Refused(3);
     }
     with_memory(n, b, numbers, words, masses, multipliers, tolerance)
 }

@@ -1,40 +1,37 @@
 -- A number that refusal 18 lets pass is 0 or from 2 ^ 924 to 2 ^ 1224 units: an exact input of the error analysis. Assumes nothing.
-use Prim.Native.Nat.{ℕ, _+_, _*_, _^_, _≤_, zero-le}
-use mathlib.Core.Path.{_≡_, refl, sym, ap, _∙_, subst}
-use mathlib.Core.Bool.{Bool, true, false, not, _&&_, _||_, true≢false}
+use Prim.Native.Nat.{ℕ, _+_, _^_, _≤_, zero-le}
+use mathlib.Core.Path.{_≡_, refl, sym, _∙_, subst}
+use mathlib.Core.Bool.{Bool, true, false, _&&_, _||_, true≢false}
 use mathlib.Core.Logic.{_⊎_, inl, inr}
 use native.Mathlib.Nat.{one-mul, le-trans, le-of-eq}
 use native.Mathlib.Omega.{arith}
-use lib.Dec.{T, eqb, leb, lit≤}
-use lib.IntN.{ℤ}
+use lib.Dec.{T}
 use lib.Ieee.{Float, nan, inf, fin, binary64, eq, le, lt, fits, ofBits}
 use lib.Ieee.Scale.{finite}
 use borrow.Author.Tests.{eqb-true, leb-true}
+use Rattle.loops.specs.Cleared.{plusZero}
 use Rattle.binary64.specs.Units.{unitsOf}
 use Rattle.binary64.specs.Order.{absolute}
 use Rattle.rounding.specs.Value.{plus, less}
 use Rattle.rounding.proofs.Parts.{one-side}
 use Rattle.rounding.proofs.Compare.{eq-is, le-is}
 use Rattle.rounding.proofs.Near.{Floor}
-use Rattle.rounding.proofs.Absolute.{absolute-fits, absolute-finite, absolute-parts, Input, near-of}
+use Rattle.rounding.proofs.Absolute.{absolute-fits, absolute-finite, absolute-parts, near-of}
 use Rattle.check_range.specs.Range.{least, most, inRange}
 use Rattle.check_measure.proofs.Values.{Listed}
 
 -- ---- the three numbers of the test
-abbrev nought : Float
-nought = ofBits binary64 0
-
-nought-fits : T (fits binary64 nought)
+zero-fits : T (fits binary64 plusZero)
 unfolding ofBits fits
-nought-fits = tt
+zero-fits = tt
 
-nought-finite : T (finite nought)
+zero-finite : T (finite plusZero)
 unfolding ofBits
-nought-finite = tt
+zero-finite = tt
 
-nought-parts : (plus binary64 nought ≡ 0) × (less binary64 nought ≡ 0)
+zero-parts : (plus binary64 plusZero ≡ 0) × (less binary64 plusZero ≡ 0)
 unfolding ofBits plus less unitsOf
-nought-parts = (refl, refl)
+zero-parts = (refl, refl)
 
 least-fits : T (fits binary64 least)
 unfolding ofBits fits
@@ -66,18 +63,18 @@ record Ranged (x : Float) : Type 0 where
   floor : Floor 924 (plus binary64 x + less binary64 x)
   top : plus binary64 x + less binary64 x ≤ 2 ^ 1224
 
-zero-finite : (x : Float) → eq x nought ≡ true → T (finite x)
+equal-finite : (x : Float) → eq x plusZero ≡ true → T (finite x)
 unfolding eq ofBits
-zero-finite nan h = absurd (true≢false (sym h))
-zero-finite (inf s) h = absurd (true≢false (sym h))
-zero-finite (fin s m e) h = tt
+equal-finite nan h = absurd (true≢false (sym h))
+equal-finite (inf s) h = absurd (true≢false (sym h))
+equal-finite (fin s m e) h = tt
 
-at-zero : (x : Float) → T (fits binary64 x) → eq x nought ≡ true → Ranged x
+at-zero : (x : Float) → T (fits binary64 x) → eq x plusZero ≡ true → Ranged x
 at-zero x t h =
-    let i = zero-finite x h in
-    let p = nought-parts .0 in
-    let q = nought-parts .1 in
-    let e : plus binary64 x + less binary64 nought ≡ plus binary64 nought + less binary64 x = eqb-true (plus binary64 x + less binary64 nought) (plus binary64 nought + less binary64 x) (sym (eq-is binary64 x nought t nought-fits i nought-finite) ∙ h) in
+    let i = equal-finite x h in
+    let p = zero-parts .0 in
+    let q = zero-parts .1 in
+    let e : plus binary64 x + less binary64 plusZero ≡ plus binary64 plusZero + less binary64 x = eqb-true (plus binary64 x + less binary64 plusZero) (plus binary64 plusZero + less binary64 x) (sym (eq-is binary64 x plusZero t zero-fits i zero-finite) ∙ h) in
     let z = none (plus binary64 x) (less binary64 x) (one-side binary64 x) (omega arith) in
     record { isFinite = i; floor = inl z; top = subst (λ (k : ℕ). k ≤ 2 ^ 1224) (sym z) zero-le }
   where
@@ -115,9 +112,9 @@ at-size x t h k =
 
 ranged : (x : Float) → T (fits binary64 x) → inRange x ≡ true → Ranged x
 unfolding inRange
-ranged x t h = go (eq x nought) (le least (absolute x)) (le (absolute x) most) refl refl refl h
+ranged x t h = go (eq x plusZero) (le least (absolute x)) (le (absolute x) most) refl refl refl h
   where
-    go : (a b c : Bool) → eq x nought ≡ a → le least (absolute x) ≡ b → le (absolute x) most ≡ c → (a || (b && c)) ≡ true → Ranged x
+    go : (a b c : Bool) → eq x plusZero ≡ a → le least (absolute x) ≡ b → le (absolute x) most ≡ c → (a || (b && c)) ≡ true → Ranged x
     go true b c p q r h = at-zero x t p
     go false true true p q r h = at-size x t q r
     go false true false p q r h = absurd (true≢false (sym h))

@@ -1,11 +1,11 @@
 -- What the check's answer means: a verdict exactly where the refusals named pass, and what closed and open say of the exact gaps. Assumes nothing.
-use Prim.Native.Nat.{ℕ, zero, suc, _+_, _*_, _<_, _≤_}
-use mathlib.Core.Path.{_≡_, refl, sym, ap, _∙_, subst}
+use Prim.Native.Nat.{ℕ, _+_, _*_, _<_, _≤_}
+use mathlib.Core.Path.{_≡_, refl, sym, ap, _∙_}
 use mathlib.Core.Bool.{Bool, true, false, not, _&&_, true≢false}
-use mathlib.Core.List.{List, [], _∷_}
-use mathlib.Core.Logic.{_↔_, _⊎_, inl, inr}
+use mathlib.Core.List.{[], _∷_}
+use mathlib.Core.Logic.{inl, inr}
 use native.Mathlib.Omega.{arith}
-use lib.Dec.{T, eqb, ltb, leb}
+use lib.Dec.{T, eqb, ltb}
 use lib.IntN.{pos, _+ℤ_, _*ℤ_}
 use lib.Signed.{_≤ℤ_, _<ℤ_}
 use lib.Ieee.{Float, binary64, le, fits}
@@ -14,11 +14,11 @@ use borrow.Author.Tests.{not-true, ltb-true}
 use Rattle.loops.specs.Run.{Run, going, ended, on, check}
 use Rattle.loops.specs.Every.{every}
 use Rattle.loops.specs.Judge.{judge, test, FirstToFail}
+use Rattle.loops.proofs.Both.{both}
 use Rattle.loops.proofs.Every.{every-iff, every-false}
 use Rattle.loops.proofs.Judge.{judge-ended}
 use Rattle.kapitsa_math.specs.Vector.{absOf}
 use Rattle.kapitsa_math.specs.declared.vector.Vec3.{Vec3}
-use Rattle.kapitsa_math.specs.declared.matrix.Mat3.{Mat3}
 use Rattle.kapitsa_joint.specs.Row.{jacobianOf}
 use Rattle.kapitsa_joint.specs.Table.{Table}
 use Rattle.joint_refusals.specs.Refusals.{passes4, passes6, passes7, isValidOf, bodiesBelowOf, jacobiansFiniteOf, scalarsFiniteOf, scalarsInRangeOf}
@@ -26,7 +26,7 @@ use Rattle.kapitsa_joint.specs.declared.row.RowJacobian.{RowJacobian}
 use Rattle.kapitsa_joint.specs.declared.row.RowWords.{RowWords}
 use Rattle.kapitsa_joint.specs.declared.row.ConstraintRow.{ConstraintRow}
 use Rattle.kapitsa_joint.specs.declared.mass.SolverMass.{SolverMass}
-use Rattle.mass_operator.specs.System.{System, systemOf}
+use Rattle.mass_operator.specs.System.{systemOf}
 use Rattle.check_range.specs.Range.{inRange, vecInRange, matInRange, jacobianInRange, massInRange, rowInRange, tableInRange, passes18}
 use Rattle.check_measure.specs.Verdict.{valueOf, sizeOf, radius, reach, closes}
 use Rattle.check_measure.specs.Gap.{gap, scaled, valueZ}
@@ -64,10 +64,6 @@ pub record Held (t : Table) (x : ℕ → Float) : Type 0 where
   pub tolerance : (i : ℕ) → T (fits binary64 (t .tolerance i))
 
 -- ---- tests taken apart
-pub both : (a b : Bool) → (a && b) ≡ true → (a ≡ true) × (b ≡ true)
-both true b h = (refl, h)
-both false b h = absurd (true≢false (sym h))
-
 listed-vec : (v : Vec3) → HeldVec v → vecInRange v ≡ true → ListedVec v
 unfolding vecInRange
 listed-vec v t h =
@@ -251,3 +247,27 @@ module _ (fits : Bool) (t : Table) (x : ℕ → Float) (held : Held t x) (few : 
 
 pub means-of : (fits : Bool) (t : Table) (x : ℕ → Float) {r : CheckAnswer} → Held t x → (fits ≡ true → t .rows ≤ 512) → r ≡ checkOf fits t x → CheckMeaning fits t x r
 means-of fits t x held few e = rw e (means fits t x held few)
+
+-- refusal 3 turns every check back
+pub means-3 : {fits : Bool} (t : Table) (x : ℕ → Float) → fits ≡ false → CheckMeaning fits t x (Refused 3)
+unfolding judgements FirstToFail
+means-3 {fits} t x e = record {
+  verdict = (λ h. absurd (h 3 refl), λ p n h. true≢false (sym (p .0) ∙ e));
+  refused = λ n. (λ h. inl (e, cc), back n);
+  closed = λ h. let z : _≡_ {A = ℕ} 0 1 = cc in absurd (omega arith);
+  opened = λ h. let z : _≡_ {A = ℕ} 0 1 = cc in absurd (omega arith);
+}
+  where
+    back : (n : ℕ) → FirstToFail (judgements fits t x) n → Refused 3 ≡ Refused n
+    back n (inl h) = ap Refused (h .1)
+    back n (inr h) = absurd (true≢false (sym (h .0) ∙ e))
+
+-- the refusals are 3, 4, 6, 7 and 18: none has the number of a verdict
+pub refusal-above : (fits : Bool) (t : Table) (x : ℕ → Float) (n : ℕ) → FirstToFail (judgements fits t x) n → 1 < n
+unfolding judgements FirstToFail
+refusal-above fits t x n (inl (_, e)) = omega arith
+refusal-above fits t x n (inr (_, inl (_, e))) = omega arith
+refusal-above fits t x n (inr (_, inr (_, inl (_, e)))) = omega arith
+refusal-above fits t x n (inr (_, inr (_, inr (_, inl (_, e))))) = omega arith
+refusal-above fits t x n (inr (_, inr (_, inr (_, inr (_, inl (_, e)))))) = omega arith
+refusal-above fits t x n (inr (_, inr (_, inr (_, inr (_, inr (_, none)))))) = absurd none

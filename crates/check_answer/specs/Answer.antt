@@ -3,7 +3,7 @@ use Prim.Native.Nat.{ℕ, _<_}
 use mathlib.Core.Path.{_≡_}
 use mathlib.Core.Bool.{Bool, true}
 use mathlib.Core.List.{List, [], _∷_}
-use mathlib.Core.Logic.{_↔_, _⊎_}
+use mathlib.Core.Logic.{_↔_}
 use lib.Dec.{T}
 use lib.IntN.{pos, _+ℤ_, _*ℤ_}
 use lib.Signed.{_≤ℤ_, _<ℤ_}
@@ -19,7 +19,7 @@ use Rattle.check_measure.specs.Gap.{gap, scaled}
 use Rattle.check_answer.specs.declared.CheckAnswer.{CheckAnswer}
 use Rattle.check_answer.specs.declared.CheckAnswer.the-variants.{Closed, Open, Refused}
 
--- document 01's number for each case: "verdict (0 open, 1 closed, 18)"
+-- document 01's number for each case, as a sheet and a recorded list have it: "verdict (0 open, 1 closed, 18)"
 abbrev pub numberOf : CheckAnswer → ℕ
 numberOf Closed = 1
 numberOf Open = 0
@@ -42,10 +42,3 @@ pub record CheckMeaning (fits : Bool) (t : Table) (x : ℕ → Float) (answer : 
   pub refused : (n : ℕ) → (answer ≡ Refused n) ↔ FirstToFail (judgements fits t x) n
   pub closed : answer ≡ Closed → (i : ℕ) → i < t .rows → T (finite (t .tolerance i)) → pos (gap t x i) ≤ℤ scaled (t .tolerance i)
   pub opened : answer ≡ Open → ((i : ℕ) → i < t .rows → T (finite (t .tolerance i))) → (i : ℕ) × (i < t .rows) × (scaled (t .tolerance i) <ℤ (pos (gap t x i) +ℤ pos 2 *ℤ scaled (radius t x i)))
-
--- the same of the answer's number: no refusal has the number of a verdict
-pub record NumberMeaning (fits : Bool) (t : Table) (x : ℕ → Float) (number : ℕ) : Type 0 where
-  pub verdict : ((number ≡ 0) ⊎ (number ≡ 1)) ↔ ((fits ≡ true) × (passes4 t ≡ true) × (passes6 t ≡ true) × (passes7 t ≡ true) × (passes18 t x ≡ true))
-  pub refused : (n : ℕ) → 1 < n → (number ≡ n) ↔ FirstToFail (judgements fits t x) n
-  pub closed : number ≡ 1 → (i : ℕ) → i < t .rows → T (finite (t .tolerance i)) → pos (gap t x i) ≤ℤ scaled (t .tolerance i)
-  pub opened : number ≡ 0 → ((i : ℕ) → i < t .rows → T (finite (t .tolerance i))) → (i : ℕ) × (i < t .rows) × (scaled (t .tolerance i) <ℤ (pos (gap t x i) +ℤ pos 2 *ℤ scaled (radius t x i)))

@@ -2,18 +2,18 @@
 use Prim.Native.Nat.{ℕ, zero, suc, _+_, _*_, _^_, _<_, _≤_, zero-le}
 use mathlib.Core.Path.{_≡_, refl, sym, ap, _∙_, subst}
 use mathlib.Core.Bool.{true, false}
-use native.Mathlib.Nat.{le-refl, le-trans, le-of-eq, mul-assoc, zero-mul, mul-le-mul-right}
+use native.Mathlib.Nat.{le-trans, le-of-eq, mul-assoc, zero-mul, mul-le-mul-right}
 use native.Mathlib.Omega.{arith}
 use lib.Dec.{T, lit≤, lit<}
 use lib.IntN.{ℤ, pos, negsuc, negℤ, natAbs, _+ℤ_, _-ℤ_, _*ℤ_, negℤ-negℤ, negℤ-+ℤ}
 use lib.Signed.{_≤ℤ_, _<ℤ_}
 use lib.Pow.{pow-pos}
-use lib.Ieee.{Float, binary64, add, sub, mul, neg, le, fits, ofInt, ofBits}
+use lib.Ieee.{Float, binary64, mul, neg, le, fits, ofInt, ofBits}
 use lib.Ieee.Fits.{mul-fits}
 use lib.Ieee.Scale.{finite}
 use Rattle.binary64.specs.Units.{unitsOf}
 use Rattle.binary64.specs.Order.{absolute}
-use Rattle.rounding.specs.Value.{plus, less, val}
+use Rattle.rounding.specs.Value.{plus, less}
 use Rattle.rounding.proofs.Parts.{Parts}
 use Rattle.rounding.proofs.Near.{Near, near-neg, near-scale, near-weaken, near-sub}
 use Rattle.rounding.proofs.Absolute.{absolute-fits, absolute-finite, absolute-parts}

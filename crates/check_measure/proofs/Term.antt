@@ -1,17 +1,17 @@
 -- A number of the operator with its error bound and its upper bound, at a level: what the numbers of the same degree share. A level has the scale of its exact integers, and the powers of two (in units) that the sizes are zero or between.
 -- A sum of two terms stays on the level, a product with a listed number rises to the next. Assumes nothing.
 use Prim.Native.Nat.{ℕ, zero, suc, _+_, _*_, _^_, _<_, _≤_, zero-le}
-use mathlib.Core.Path.{_≡_, refl, sym, ap, _∙_, subst}
+use mathlib.Core.Path.{_≡_, refl, sym, subst}
 use mathlib.Core.Logic.{inl}
-use native.Mathlib.Nat.{add-zero, zero-add, mul-one, one-mul, zero-mul, lt-of-lt-of-le, le-refl, le-trans, mul-le-mul-right}
+use native.Mathlib.Nat.{add-zero, zero-add, mul-one, one-mul, zero-mul, lt-of-lt-of-le, le-refl, mul-le-mul-right}
 use native.Mathlib.Omega.{arith}
 use lib.Dec.{T, lit≤}
 use lib.IntN.{ℤ, pos, _+ℤ_, _*ℤ_}
-use lib.Pow.{pow-add, pow-mono, shl-lt}
+use lib.Pow.{pow-mono, shl-lt}
 use lib.Ieee.{Float, binary64, add, mul, fits, ofBits}
 use lib.Ieee.Scale.{finite, overflow}
 use Rattle.loops.specs.Cleared.{plusZero}
-use Rattle.rounding.specs.Value.{plus, less, val}
+use Rattle.rounding.specs.Value.{plus, less}
 use Rattle.rounding.proofs.Near.{Near, near-add, near-mul, near-weaken}
 use Rattle.rounding.proofs.Most.{Most, most-add, most-mul, most-weaken}
 use Rattle.rounding.proofs.Gap.{Gap, gap-refl}

@@ -1,26 +1,25 @@
 -- The operator as terms: the impulses of n rows are off by n + 1 steps, the responses by n + 4, a row's value by n + 10. Assumes nothing.
-use Prim.Native.Nat.{ℕ, zero, suc, _+_, _*_, _^_, _<_, _≤_, zero-le}
-use mathlib.Core.Path.{_≡_, refl, sym, ap, _∙_}
-use mathlib.Core.Bool.{Bool, true, false, not, cond, true≢false}
+use Prim.Native.Nat.{ℕ, zero, suc, _+_, _*_, _<_, _≤_, zero-le}
+use mathlib.Core.Path.{_≡_, refl, sym, _∙_}
+use mathlib.Core.Bool.{Bool, true, false, cond, true≢false}
 use native.Mathlib.Nat.{le-refl}
 use native.Mathlib.Omega.{arith}
-use lib.Dec.{T, eqb, lit≤, lit<}
-use lib.IntN.{ℤ, pos}
+use lib.Dec.{eqb, lit≤, lit<}
+use lib.IntN.{pos}
 use lib.Ieee.{Float}
 use borrow.Author.Tests.{eqb-true, eq-eqb}
 use Rattle.loops.specs.Cleared.{plusZero}
 use Rattle.binary64.specs.Order.{absolute}
-use Rattle.kapitsa_math.specs.Vector.{dotOf, addOf, scaleOf, absOf}
-use Rattle.kapitsa_math.specs.Matrix.{mulVectorOf, absColumnsOf}
+use Rattle.kapitsa_math.specs.Vector.{absOf}
+use Rattle.kapitsa_math.specs.Matrix.{absColumnsOf}
 use Rattle.kapitsa_math.specs.declared.vector.Vec3.{Vec3}
-use Rattle.kapitsa_math.specs.declared.matrix.Mat3.{Mat3}
 use Rattle.kapitsa_joint.specs.declared.row.RowJacobian.{RowJacobian}
 use Rattle.kapitsa_joint.specs.declared.mass.SolverMass.{SolverMass}
 use Rattle.kapitsa_joint.specs.declared.impulse.GeneralizedImpulse.{GeneralizedImpulse}
 use Rattle.mass_operator.specs.System.{System}
-use Rattle.mass_operator.specs.Operator.{addImpulseOf, addRowOf, noImpulse, impulseAt, responseOf, responseAt, rowValueOf, valueAt}
+use Rattle.mass_operator.specs.Operator.{addImpulseOf, addRowOf, impulseAt, responseOf, responseAt, rowValueOf, valueAt}
 use Rattle.check_measure.specs.Verdict.{sizeOfRow, sizeOfMass, sizesOf}
-use Rattle.check_measure.specs.Gap.{exact, Exact3, exactVec, ExactImpulse, nothing, addImpulseZ, addRowZ, impulseZ, responseZ, rowValueZ, valueZ}
+use Rattle.check_measure.specs.Gap.{exact, exactVec, ExactImpulse, nothing, addImpulseZ, addRowZ, impulseZ, responseZ, rowValueZ, valueZ}
 use Rattle.check_measure.proofs.Term.{Level, one, two, three, four, one-two, two-three, three-four, Term, term-add, term-weaken, term-zero}
 use Rattle.check_measure.proofs.Vectors.{TermVec, vec-weaken, vec-add, vec-right, dot-term, mat-term}
 

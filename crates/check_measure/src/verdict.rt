@@ -1,7 +1,7 @@
 // The verdict: each row's reach against its tolerance.
 ghost use mathlib.Core.Path.{_≡_};
 ghost use Prim.Native.Nat.{_+_, _*_, _≤_};
-ghost use lib.ListN.{length, getD};
+ghost use lib.ListN.{length};
 ghost use Rattle.loops.specs.Every.{every};
 ghost use Rattle.check_measure.specs.Rows.{rowCloses};
 use crate::measure::reach;

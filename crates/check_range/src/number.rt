@@ -6,15 +6,13 @@ use kapitsa_joint::SolverMass;
 use kapitsa_math::Mat3;
 use kapitsa_math::Vec3;
 
-const LEAST: f64 = 7.006492321624085e-46; // 2^-150
-
-const MOST: f64 = 1.42724769270596e45; // 2^150
-
+// By whole numbers on the bits: a processor told to take subnormal numbers for zero would change a comparison of doubles.
 pub fn in_range(x: f64) -> bool
     ensures { λ r. ⌜ r ≡ inRange x ⌝ }
 {
-    let size = binary64::abs(x);
-    (x == 0.0) | ((LEAST <= size) & (size <= MOST))
+    let size = binary64::to_bits(x) % 0x8000_0000_0000_0000; // without the sign
+    let sized = (0x3690_0000_0000_0000 <= size) & (size <= 0x4950_0000_0000_0000); // 2^-150, 2^150
+    (size == 0) | sized
 }
 
 fn vec_in_range(v: Vec3) -> bool

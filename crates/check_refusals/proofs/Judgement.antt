@@ -1,15 +1,14 @@
 -- The ways through the tests 4, 6, 7 and 18, as the code takes them. Assumes nothing.
-use Prim.Native.Nat.{ℕ, _+_, _*_}
-use mathlib.Core.Path.{_≡_, refl, sym, _∙_}
-use mathlib.Core.Bool.{Bool, true, false, not, _&&_}
-use mathlib.Core.List.{List, [], _∷_}
-use lib.ListN.{getD}
-use lib.Ieee.{Float, nan}
+use Prim.Native.Nat.{ℕ, _*_}
+use mathlib.Core.Path.{_≡_}
+use mathlib.Core.Bool.{Bool, true, false, not}
+use mathlib.Core.List.{List}
+use lib.Ieee.{Float}
 use borrow.Author.Tests.{not-true, not-false}
 use Rattle.loops.specs.Run.{on, check}
 use Rattle.loops.specs.Every.{every}
 use Rattle.loops.specs.Judge.{judge, test}
-use Rattle.kapitsa_joint.specs.Row.{scalarsOf, wordsOf, rowOf, jacobianOf}
+use Rattle.kapitsa_joint.specs.Row.{wordsOf, rowOf}
 use Rattle.kapitsa_joint.specs.Mass.{massOf}
 use Rattle.kapitsa_joint.specs.Table.{Table, tableOf}
 use Rattle.joint_refusals.specs.Refusals.{wordsFitOf, massFiniteOf, isValidOf, passes4, passes6, passes7}
@@ -17,7 +16,6 @@ use Rattle.kapitsa_joint.specs.declared.tolerance.JointTolerance.{JointToleranc
 use Rattle.mass_operator.specs.Flat.{coefficients}
 use Rattle.check_range.specs.Range.{tableInRange, passes18}
 use Rattle.check_refusals.specs.Judged.{judgedOf}
-use Rattle.check_refusals.specs.declared.judge.TableJudged.{TableJudged}
 use Rattle.check_refusals.specs.declared.judge.TableJudged.the-variants.{Passed, Refused}
 
 module _ (rows bodies : ℕ) (numbers : List Float) (words : List ℕ) (masses multipliers : List Float) (tolerance : JointTolerance) where

@@ -1,7 +1,9 @@
 // Refusal 3: the counts, and the lengths of what is lent.
 ghost use mathlib.Core.Path.{_≡_};
 ghost use Prim.Native.Nat.{_<_};
-ghost use Rattle.check_refusals.specs.Refusals.{countsFit, tableFits, workFits, passes3};
+ghost use Rattle.check_refusals.specs.Refusals.{tableFits, givenFits, workFits, passes3};
+use joint_refusals::table_counts_fit;
+use loops::wide;
 
 // What is given.
 pub struct TableLengths {
@@ -18,15 +20,8 @@ pub struct WorkLengths {
     pub mass_sizes: usize,
     pub multiplier_sizes: usize,
     pub impulses: usize,
-    pub responses: usize,
     pub values: usize,
     pub sizes: usize,
-}
-
-fn counts_fit(rows: u32, bodies: u32) -> bool
-    ensures { λ r. ⌜ r ≡ countsFit rows bodies ⌝ }
-{
-    (rows <= 512) & (bodies <= 256)
 }
 
 fn table_fits(n: usize, b: usize, lengths: TableLengths) -> bool
@@ -39,6 +34,13 @@ fn table_fits(n: usize, b: usize, lengths: TableLengths) -> bool
         & (lengths.multipliers == n)
 }
 
+// The counts, and the lengths of what is given.
+pub fn given_fits(rows: u32, bodies: u32, table: TableLengths) -> bool
+    ensures { λ r. ⌜ r ≡ givenFits rows bodies table ⌝ }
+{
+    table_counts_fit(rows, bodies) & table_fits(wide(rows), wide(bodies), table)
+}
+
 fn work_fits(n: usize, b: usize, lengths: WorkLengths) -> bool
     requires { ⌜ (n < 4294967296) × (b < 4294967296) ⌝ }
     ensures { λ r. ⌜ r ≡ workFits n b lengths ⌝ }
@@ -48,7 +50,6 @@ fn work_fits(n: usize, b: usize, lengths: WorkLengths) -> bool
         & (lengths.mass_sizes == 10 * b)
         & (lengths.multiplier_sizes == n)
         & (lengths.impulses == 6 * b)
-        & (lengths.responses == 6 * b)
         & (lengths.values == n)
         & (lengths.sizes == n)
 }
@@ -57,7 +58,5 @@ fn work_fits(n: usize, b: usize, lengths: WorkLengths) -> bool
 pub fn fits(rows: u32, bodies: u32, table: TableLengths, work: WorkLengths) -> bool
     ensures { λ r. ⌜ r ≡ passes3 rows bodies table work ⌝ }
 {
-    let n = rows as usize;
-    let b = bodies as usize;
-    counts_fit(rows, bodies) & table_fits(n, b, table) & work_fits(n, b, work)
+    given_fits(rows, bodies, table) & work_fits(wide(rows), wide(bodies), work)
 }

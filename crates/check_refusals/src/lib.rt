@@ -5,5 +5,6 @@ pub mod judge; // judge.rt: refusals 4, 6, 7 and 18
 pub use fit::TableLengths;
 pub use fit::WorkLengths;
 pub use fit::fits;
+pub use fit::given_fits;
 pub use judge::TableJudged;
 pub use judge::judge_table;

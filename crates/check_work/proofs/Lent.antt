@@ -1,25 +1,24 @@
 -- The work memory while the rows are measured: its lengths, its links, and what the operator left in it. Assumes nothing.
-use Prim.Native.Nat.{ℕ, _+_, _*_, _<_, _≤_}
+use Prim.Native.Nat.{ℕ, _<_}
 use mathlib.Core.Path.{_≡_, refl, sym, ap, _∙_, subst}
 use mathlib.Core.List.{List, map}
-use lib.ListN.{length, getD, length-map}
+use lib.ListN.{length, length-map}
 use lib.Ieee.{Float}
 use Rattle.loops.specs.Tabulate.{tabulate}
 use Rattle.loops.proofs.Tabulate.{tabulate-same}
 use Rattle.binary64.specs.Order.{absolute}
 use Rattle.kapitsa_joint.specs.Row.{rowOf, jacobianOf}
-use Rattle.kapitsa_joint.specs.Mass.{massOf}
 use Rattle.kapitsa_joint.specs.Table.{Table, tableOf}
 use Rattle.kapitsa_joint.specs.declared.row.RowJacobian.{RowJacobian}
 use Rattle.kapitsa_joint.specs.declared.tolerance.JointTolerance.{JointTolerance}
 use Rattle.compact_table.specs.Compact.{compactOf, Gathered}
-use Rattle.mass_operator.specs.System.{System, systemOf, compactSystem}
+use Rattle.mass_operator.specs.System.{systemOf, compactSystem}
 use Rattle.mass_operator.specs.Operator.{valueAt}
 use Rattle.mass_operator.specs.Flat.{coefficients, productOf, Multiplied}
 use Rattle.compact_table.specs.Compact.{Linked}
 use Rattle.mass_operator.specs.declared.finite.Applied.{Applied}
-use Rattle.mass_operator.proofs.Same.{Agree, value-same}
-use Rattle.check_measure.specs.Verdict.{sizeOfRow, sizeOfMass, sizesOf, valueOf, sizeOf}
+use Rattle.mass_operator.proofs.Same.{value-same}
+use Rattle.check_measure.specs.Verdict.{sizeOfRow, sizesOf, valueOf, sizeOf}
 use Rattle.check_work.specs.Work.{Valid}
 use Rattle.check_measure.proofs.SizesOf.{size-at, mass-size, row-size}
 
@@ -36,8 +35,8 @@ linked-of n b numbers words {links = links} v g = record {
 }
 
 -- what the operator leaves on sizes
-pub sizes-product : (b : ℕ) (links : List ℕ) (jacobians masses multipliers : List Float) {j m x : List Float} {r : Applied} {u v p : List Float}
-    → j ≡ map absolute jacobians → m ≡ map absolute masses → x ≡ map absolute multipliers → Multiplied (compactSystem (length x) b j links m) (coefficients x) r u v p
+pub sizes-product : (b : ℕ) (links : List ℕ) (jacobians masses multipliers : List Float) {j m x : List Float} {r : Applied} {v p : List Float}
+    → j ≡ map absolute jacobians → m ≡ map absolute masses → x ≡ map absolute multipliers → Multiplied (compactSystem (length x) b j links m) (coefficients x) r v p
     → p ≡ productOf (compactSystem (length multipliers) b (map absolute jacobians) links (map absolute masses)) (coefficients (map absolute multipliers))
 sizes-product b links jacobians masses multipliers {j} {m} {x} e f g h =
     h .multiplied

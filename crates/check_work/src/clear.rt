@@ -1,6 +1,6 @@
 // The work memory after a call of the closing check.
-ghost use Rattle.check_refusals.specs.Refusals.{workLengths};
-ghost use Rattle.check_work.specs.Work.{Cleared};
+ghost use mathlib.Core.Path.{_≡_};
+ghost use Rattle.check_work.specs.Work.{memoryOf, clearedMemory};
 
 // +0.0, integers 0.
 pub fn clear_work(
@@ -9,19 +9,17 @@ pub fn clear_work(
     mass_sizes: &mut [f64],
     multiplier_sizes: &mut [f64],
     impulses: &mut [f64],
-    responses: &mut [f64],
     values: &mut [f64],
     sizes: &mut [f64],
 )
-    ensures { λ _. ⌜ Cleared (workLengths (now (jacobians .entry)) (now (links .entry)) (now («mass_sizes» .entry)) (now («multiplier_sizes» .entry)) (now (impulses .entry)) (now (responses .entry)) (now (values .entry)) (now (sizes .entry)))
-        (now (jacobians .exit)) (now (links .exit)) (now («mass_sizes» .exit)) (now («multiplier_sizes» .exit)) (now (impulses .exit)) (now (responses .exit)) (now (values .exit)) (now (sizes .exit)) ⌝ }
+    ensures { λ _. ⌜ memoryOf (now (jacobians .exit)) (now (links .exit)) (now («mass_sizes» .exit)) (now («multiplier_sizes» .exit)) (now (impulses .exit)) (now (values .exit)) (now (sizes .exit))
+        ≡ clearedMemory (memoryOf (now (jacobians .entry)) (now (links .entry)) (now («mass_sizes» .entry)) (now («multiplier_sizes» .entry)) (now (impulses .entry)) (now (values .entry)) (now (sizes .entry))) ⌝ }
 {
     loops::clear(jacobians);
     loops::clear_words(links);
     loops::clear(mass_sizes);
     loops::clear(multiplier_sizes);
     loops::clear(impulses);
-    loops::clear(responses);
     loops::clear(values);
     loops::clear(sizes);
 }

@@ -9,11 +9,8 @@ ghost use Rattle.compact_table.specs.Compact.{Gathered};
 ghost use Rattle.mass_operator.specs.System.{compactSystem};
 ghost use Rattle.compact_table.specs.Compact.{Linked};
 ghost use Rattle.mass_operator.specs.Flat.{coefficients, productOf};
-ghost use Rattle.loops.specs.Tabulate.{tabulate};
-ghost use Rattle.kapitsa_joint.specs.Table.{tableOf};
-ghost use Rattle.check_refusals.specs.Refusals.{tableLengths, workLengths};
-ghost use Rattle.check_measure.specs.Verdict.{valueOf, sizeOf};
-ghost use Rattle.check_work.specs.Work.{Valid, Room};
+ghost use Rattle.check_refusals.specs.Refusals.{tableLengths};
+ghost use Rattle.check_work.specs.Work.{memoryOf, Room, Valid, Measured};
 use check_measure::copy_sizes;
 use check_measure::take_sizes;
 use compact_table::gather;
@@ -30,28 +27,18 @@ fn measure_values(
     jacobians: &mut [f64],
     links: &mut [u32],
     impulses: &mut [f64],
-    responses: &mut [f64],
     values: &mut [f64],
 )
     requires { ⌜ (27 * length (now multipliers) ≤ length (now numbers)) × (8 * length (now multipliers) ≤ length (now words)) × (10 * b ≤ length (now masses)) ⌝ }
     requires { ⌜ (12 * length (now multipliers) ≤ length (now jacobians)) × (2 * length (now multipliers) ≤ length (now links)) ⌝ }
-    requires { ⌜ (length (now impulses) ≡ 6 * b) × (length (now responses) ≡ 6 * b) × (length (now values) ≡ length (now multipliers)) ⌝ }
+    requires { ⌜ (length (now impulses) ≡ 6 * b) × (length (now values) ≡ length (now multipliers)) ⌝ }
     requires { ⌜ Valid (length (now multipliers)) b (now numbers) (now words) ⌝ }
     ensures { λ _. ⌜ Gathered (λ i. jacobianOf (rowOf (now (numbers .entry)) (now (words .entry)) i)) (length (now (multipliers .entry)))
         (now (jacobians .entry)) (now (links .entry)) (now (jacobians .exit)) (now (links .exit)) ⌝ }
     ensures { λ _. ⌜ now (values .exit) ≡ productOf (compactSystem (length (now (multipliers .entry))) b (now (jacobians .exit)) (now (links .exit)) (now (masses .entry))) (coefficients (now (multipliers .entry))) ⌝ }
 {
     gather(numbers, words, multipliers.len(), jacobians, links);
-    global_velocity_matrix_vector(
-        jacobians,
-        links,
-        masses,
-        multipliers,
-        b,
-        impulses,
-        responses,
-        values,
-    );
+    global_velocity_matrix_vector(jacobians, links, masses, multipliers, b, impulses, values);
 }
 
 // The values on sizes; the compact table becomes one of sizes.
@@ -64,12 +51,11 @@ fn measure_sizes(
     mass_sizes: &mut [f64],
     multiplier_sizes: &mut [f64],
     impulses: &mut [f64],
-    responses: &mut [f64],
     sizes: &mut [f64],
 )
     requires { ⌜ (12 * length (now multipliers) ≤ length (now jacobians)) × (2 * length (now multipliers) ≤ length (now links)) × (10 * b ≤ length (now masses)) ⌝ }
     requires { ⌜ (length (now «mass_sizes») ≡ length (now masses)) × (length (now «multiplier_sizes») ≡ length (now multipliers)) ⌝ }
-    requires { ⌜ (length (now impulses) ≡ 6 * b) × (length (now responses) ≡ 6 * b) × (length (now sizes) ≡ length (now multipliers)) ⌝ }
+    requires { ⌜ (length (now impulses) ≡ 6 * b) × (length (now sizes) ≡ length (now multipliers)) ⌝ }
     requires { ⌜ Linked (now links) (length (now multipliers)) b ⌝ }
     ensures { λ _. ⌜ now (sizes .exit) ≡ productOf (compactSystem (length (now (multipliers .entry))) b (map absolute (now (jacobians .entry))) (now (links .entry)) (map absolute (now (masses .entry))))
         (coefficients (map absolute (now (multipliers .entry)))) ⌝ }
@@ -84,7 +70,6 @@ fn measure_sizes(
         multiplier_sizes,
         b,
         impulses,
-        responses,
         sizes,
     );
 }
@@ -102,14 +87,12 @@ pub fn measure_rows(
     mass_sizes: &mut [f64],
     multiplier_sizes: &mut [f64],
     impulses: &mut [f64],
-    responses: &mut [f64],
     values: &mut [f64],
     sizes: &mut [f64],
 )
-    requires { ⌜ Room (length (now multipliers)) b (tableLengths (now numbers) (now words) (now masses) (now multipliers)) (workLengths (now jacobians) (now links) (now «mass_sizes») (now «multiplier_sizes») (now impulses) (now responses) (now values) (now sizes)) ⌝ }
+    requires { ⌜ Room (length (now multipliers)) b (tableLengths (now numbers) (now words) (now masses) (now multipliers)) (memoryOf (now jacobians) (now links) (now «mass_sizes») (now «multiplier_sizes») (now impulses) (now values) (now sizes)) ⌝ }
     requires { ⌜ Valid (length (now multipliers)) b (now numbers) (now words) ⌝ }
-    ensures { λ _. ⌜ now (values .exit) ≡ tabulate (valueOf (tableOf (length (now (multipliers .entry))) b (now (numbers .entry)) (now (words .entry)) (now (masses .entry)) tolerance) (coefficients (now (multipliers .entry)))) (length (now (multipliers .entry))) ⌝ }
-    ensures { λ _. ⌜ now (sizes .exit) ≡ tabulate (sizeOf (tableOf (length (now (multipliers .entry))) b (now (numbers .entry)) (now (words .entry)) (now (masses .entry)) tolerance) (coefficients (now (multipliers .entry)))) (length (now (multipliers .entry))) ⌝ }
+    ensures { λ _. ⌜ Measured b (now (numbers .entry)) (now (words .entry)) (now (masses .entry)) (now (multipliers .entry)) tolerance (now (values .exit)) (now (sizes .exit)) ⌝ }
 {
     measure_values(
         b,
@@ -120,7 +103,6 @@ pub fn measure_rows(
         jacobians,
         links,
         impulses,
-        responses,
         values,
     );
     measure_sizes(
@@ -132,7 +114,6 @@ pub fn measure_rows(
         mass_sizes,
         multiplier_sizes,
         impulses,
-        responses,
         sizes,
     );
 }

@@ -4,9 +4,10 @@ ghost use Prim.Native.Nat.{_≤_};
 ghost use mathlib.Core.Bool.{true};
 ghost use Rattle.kapitsa_joint.specs.Table.{tableOf};
 ghost use Rattle.mass_operator.specs.Flat.{coefficients};
-ghost use Rattle.check_refusals.specs.Refusals.{passes3, tableLengths, workLengths};
-ghost use Rattle.check_answer.specs.Answer.{checkOf, CheckMeaning};
-ghost use Rattle.check_work.specs.Work.{Room, After};
+ghost use Rattle.check_refusals.specs.Refusals.{passes3, tableLengths};
+ghost use Rattle.check_answer.specs.Answer.{checkOf};
+ghost use Rattle.check_work.specs.Work.{memoryOf, workLengths, Room};
+ghost use Rattle.closing_check.specs.Checked.{Checked};
 use check_answer::CheckAnswer;
 use check_measure::rows_close;
 use check_refusals::TableJudged;
@@ -32,11 +33,10 @@ fn judged_check(
     mass_sizes: &mut [f64],
     multiplier_sizes: &mut [f64],
     impulses: &mut [f64],
-    responses: &mut [f64],
     values: &mut [f64],
     sizes: &mut [f64],
 ) -> CheckAnswer
-    requires { ⌜ Room rows bodies (tableLengths (now numbers) (now words) (now masses) (now multipliers)) (workLengths (now jacobians) (now links) (now «mass_sizes») (now «multiplier_sizes») (now impulses) (now responses) (now values) (now sizes)) ⌝ }
+    requires { ⌜ Room rows bodies (tableLengths (now numbers) (now words) (now masses) (now multipliers)) (memoryOf (now jacobians) (now links) (now «mass_sizes») (now «multiplier_sizes») (now impulses) (now values) (now sizes)) ⌝ }
     requires { ⌜ rows ≤ 512 ⌝ }
     ensures { λ r. ⌜ r ≡ checkOf true (tableOf rows bodies (now (numbers .entry)) (now (words .entry)) (now (masses .entry)) tolerance) (coefficients (now (multipliers .entry))) ⌝ }
 {
@@ -59,7 +59,6 @@ fn judged_check(
         mass_sizes,
         multiplier_sizes,
         impulses,
-        responses,
         values,
         sizes,
     );
@@ -84,20 +83,13 @@ pub fn closing_check(
     mass_sizes: &mut [f64],
     multiplier_sizes: &mut [f64],
     impulses: &mut [f64],
-    responses: &mut [f64],
     values: &mut [f64],
     sizes: &mut [f64],
 ) -> CheckAnswer
-    ensures { λ r. ⌜ r ≡ checkOf (passes3 rows bodies (tableLengths (now (numbers .entry)) (now (words .entry)) (now (masses .entry)) (now (multipliers .entry)))
-        (workLengths (now (jacobians .entry)) (now (links .entry)) (now («mass_sizes» .entry)) (now («multiplier_sizes» .entry)) (now (impulses .entry)) (now (responses .entry)) (now (values .entry)) (now (sizes .entry))))
-        (tableOf rows bodies (now (numbers .entry)) (now (words .entry)) (now (masses .entry)) tolerance) (coefficients (now (multipliers .entry))) ⌝ }
-    ensures { λ r. ⌜ CheckMeaning (passes3 rows bodies (tableLengths (now (numbers .entry)) (now (words .entry)) (now (masses .entry)) (now (multipliers .entry)))
-        (workLengths (now (jacobians .entry)) (now (links .entry)) (now («mass_sizes» .entry)) (now («multiplier_sizes» .entry)) (now (impulses .entry)) (now (responses .entry)) (now (values .entry)) (now (sizes .entry))))
-        (tableOf rows bodies (now (numbers .entry)) (now (words .entry)) (now (masses .entry)) tolerance) (coefficients (now (multipliers .entry))) r ⌝ }
-    ensures { λ r. ⌜ After (passes3 rows bodies (tableLengths (now (numbers .entry)) (now (words .entry)) (now (masses .entry)) (now (multipliers .entry)))
-        (workLengths (now (jacobians .entry)) (now (links .entry)) (now («mass_sizes» .entry)) (now («multiplier_sizes» .entry)) (now (impulses .entry)) (now (responses .entry)) (now (values .entry)) (now (sizes .entry))))
-        (now (jacobians .entry)) (now (links .entry)) (now («mass_sizes» .entry)) (now («multiplier_sizes» .entry)) (now (impulses .entry)) (now (responses .entry)) (now (values .entry)) (now (sizes .entry))
-        (now (jacobians .exit)) (now (links .exit)) (now («mass_sizes» .exit)) (now («multiplier_sizes» .exit)) (now (impulses .exit)) (now (responses .exit)) (now (values .exit)) (now (sizes .exit)) ⌝ }
+    ensures { λ r. ⌜ Checked (passes3 rows bodies (tableLengths (now (numbers .entry)) (now (words .entry)) (now (masses .entry)) (now (multipliers .entry))) (workLengths (memoryOf (now (jacobians .entry)) (now (links .entry)) (now («mass_sizes» .entry)) (now («multiplier_sizes» .entry)) (now (impulses .entry)) (now (values .entry)) (now (sizes .entry)))))
+        (tableOf rows bodies (now (numbers .entry)) (now (words .entry)) (now (masses .entry)) tolerance) (coefficients (now (multipliers .entry))) r
+        (memoryOf (now (jacobians .entry)) (now (links .entry)) (now («mass_sizes» .entry)) (now («multiplier_sizes» .entry)) (now (impulses .entry)) (now (values .entry)) (now (sizes .entry)))
+        (memoryOf (now (jacobians .exit)) (now (links .exit)) (now («mass_sizes» .exit)) (now («multiplier_sizes» .exit)) (now (impulses .exit)) (now (values .exit)) (now (sizes .exit))) ⌝ }
 {
     let table = TableLengths {
         numbers: numbers.len(),
@@ -111,7 +103,6 @@ pub fn closing_check(
         mass_sizes: mass_sizes.len(),
         multiplier_sizes: multiplier_sizes.len(),
         impulses: impulses.len(),
-        responses: responses.len(),
         values: values.len(),
         sizes: sizes.len(),
     };
@@ -131,7 +122,6 @@ pub fn closing_check(
         mass_sizes,
         multiplier_sizes,
         impulses,
-        responses,
         values,
         sizes,
     );
@@ -141,7 +131,6 @@ pub fn closing_check(
         mass_sizes,
         multiplier_sizes,
         impulses,
-        responses,
         values,
         sizes,
     );

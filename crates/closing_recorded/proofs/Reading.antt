@@ -1,12 +1,11 @@
 -- A case as read: the table that its bytes hold, checked and compared. Assumes nothing.
 use Prim.Native.Nat.{ℕ, _+_, _*_}
-use mathlib.Core.Path.{_≡_, refl, sym, ap, _∙_}
+use mathlib.Core.Path.{_≡_, _∙_}
 use mathlib.Core.List.{List}
 use lib.Ieee.{Float}
 use Rattle.little_endian.specs.Words.{wordAt, doubleAt, doublesAt, halvesAt}
-use Rattle.kapitsa_joint.specs.declared.tolerance.JointTolerance.{JointTolerance}
+use Rattle.check_answer.specs.declared.CheckAnswer.{CheckAnswer}
 use Rattle.check_alone.specs.Checked.{checkedOf}
-use Rattle.check_alone.specs.declared.check.Found.{Found}
 use Rattle.closing_recorded.specs.Case.{comparedOf, seenIn}
 use Rattle.closing_recorded.specs.declared.tally.Seen.{Seen}
 
@@ -15,7 +14,7 @@ module _ (case : List ℕ) (n b : ℕ) {k₁ k₂ k₃ k₄ : ℕ} {numbers : Li
   pub seen-in : k₁ ≡ 27 * n → k₂ ≡ 8 * n → k₃ ≡ 10 * b → k₄ ≡ n
       → numbers ≡ doublesAt case 48 k₁ → words ≡ halvesAt case (48 + 216 * n) k₂ → masses ≡ doublesAt case (48 + 280 * n) k₃ → multipliers ≡ doublesAt case (48 + 280 * n + 80 * b) k₄
       → {linear angular : Float} → linear ≡ doubleAt case 24 → angular ≡ doubleAt case 32
-      → {found : Found} → found ≡ checkedOf n b numbers words masses multipliers (record { «linear_m» = linear; «angular_rad» = angular })
-      → {recorded : ℕ} → recorded ≡ wordAt case 40 → {s : Seen} → s ≡ comparedOf found recorded → s ≡ seenIn case n b
+      → {answer : CheckAnswer} → answer ≡ checkedOf n b numbers words masses multipliers (record { «linear_m» = linear; «angular_rad» = angular })
+      → {recorded : ℕ} → recorded ≡ wordAt case 40 → {s : Seen} → s ≡ comparedOf answer recorded → s ≡ seenIn case n b
   unfolding seenIn
   seen-in l1 l2 l3 l4 e1 e2 e3 e4 p q f r h = h ∙ rw (r, f, p, q, e1, e2, e3, e4, l1, l2, l3, l4)

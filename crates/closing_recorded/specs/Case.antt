@@ -1,15 +1,16 @@
 -- A recorded check in its bytes. oracle/closing/record.py: "A check is a run of 64-bit words, little end first: its length in bytes, rows n, bodies b, the linear and the angular tolerance, the answer (0 open, 1 closed, else the refusal's number), 27n row numbers, 8n row words, 10b mass numbers, n multipliers."
 use Prim.Native.Nat.{ℕ, _+_, _*_, _≤_}
 use mathlib.Core.Path.{_≡_}
-use mathlib.Core.Bool.{Bool, true, false, _&&_}
+use mathlib.Core.Bool.{Bool, false}
 use mathlib.Core.List.{List}
 use lib.Dec.{leb, eqb}
 use lib.ListN.{length}
 use Rattle.loops.specs.Run.{check}
 use Rattle.little_endian.specs.Words.{wordAt, doubleAt, doublesAt, halvesAt}
 use Rattle.kapitsa_joint.specs.declared.tolerance.JointTolerance.{JointTolerance}
+use Rattle.check_answer.specs.Answer.{numberOf}
+use Rattle.check_answer.specs.declared.CheckAnswer.{CheckAnswer}
 use Rattle.check_alone.specs.Checked.{checkedOf}
-use Rattle.check_alone.specs.declared.check.Found.{Found}
 use Rattle.closing_recorded.specs.Tally.{malformed}
 use Rattle.closing_recorded.specs.declared.tally.Seen.{Seen}
 
@@ -27,8 +28,8 @@ abbrev pub toleranceIn : List ℕ → JointTolerance
 toleranceIn case = record { «linear_m» = doubleAt case 24; «angular_rad» = doubleAt case 32 }
 
 -- beside the recorded answer
-unfoldable pub comparedOf : Found → ℕ → Seen
-comparedOf found recorded = record { answer = found .answer; same = found .cleared && eqb (found .answer) recorded }
+unfoldable pub comparedOf : CheckAnswer → ℕ → Seen
+comparedOf answer recorded = record { answer = numberOf answer; same = eqb (numberOf answer) recorded }
 
 -- what a case of n rows and b bodies shows: the definition's answer beside the recorded one
 unfoldable pub seenIn : List ℕ → ℕ → ℕ → Seen

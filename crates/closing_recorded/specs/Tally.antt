@@ -1,6 +1,6 @@
 -- The counts: of each answer, and of the cases that differ.
 use Prim.Native.Nat.{ℕ, _+_, _%_, _^_}
-use mathlib.Core.Bool.{Bool, true, false, not, cond, _||_}
+use mathlib.Core.Bool.{Bool, false, not, cond, _||_}
 use lib.Dec.{leb, eqb}
 use Rattle.closing_recorded.specs.declared.tally.Seen.{Seen}
 use Rattle.closing_recorded.specs.declared.tally.Tally.{Tally}

@@ -1,6 +1,5 @@
 // Replays a list of closing checks that were worked in exact rational arithmetic (oracle/closing/record.py has its layout and makes it)
 // through `closing_check`, and prints how many were closed, open or refused, and how many differ from the list.
-// Work memory that is not cleared counts as differing.
 mod input; // input.rt: the cases of standard input
 mod replay; // replay.rt: one case read out of its bytes
 mod tally; // tally.rt: the counts

@@ -4,8 +4,8 @@ ghost use Prim.Native.Nat.{_*_};
 ghost use lib.ListN.{length};
 ghost use Rattle.closing_recorded.specs.Case.{wellFormed, Formed, comparedOf, seenIn, seenOf};
 use crate::tally::Seen;
-use check_alone::Found;
 use check_alone::checked;
+use check_answer::CheckAnswer;
 use kapitsa_joint::JointTolerance;
 use little_endian::double;
 use little_endian::read_doubles;
@@ -30,13 +30,13 @@ fn well_formed(case: &[u8]) -> bool
     case.len() as u64 == 48 + 288 * n + 80 * b
 }
 
-fn compared(found: Found, recorded: u64) -> Seen
-    ensures { λ r. ⌜ r ≡ comparedOf found recorded ⌝ }
+fn compared(answer: CheckAnswer, recorded: u64) -> Seen
+    ensures { λ r. ⌜ r ≡ comparedOf answer recorded ⌝ }
 {
-    let same = found.answer as u64 == recorded;
+    let number = answer.number();
     Seen {
-        answer: found.answer,
-        same: found.cleared & same,
+        answer: number,
+        same: number as u64 == recorded,
     }
 }
 
@@ -65,8 +65,8 @@ fn read_in(
     read_halves(case, 48 + 216 * rows, words);
     read_doubles(case, at, masses);
     read_doubles(case, at + 80 * b as usize, multipliers);
-    let found = checked(n, b, numbers, words, masses, multipliers, tolerance);
-    compared(found, recorded)
+    let answer = checked(n, b, numbers, words, masses, multipliers, tolerance);
+    compared(answer, recorded)
 }
 
 fn read(case: &[u8], n: u32, b: u32) -> Seen

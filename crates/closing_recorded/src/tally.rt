@@ -2,7 +2,7 @@
 ghost use mathlib.Core.Path.{_≡_};
 ghost use Rattle.closing_recorded.specs.Tally.{moreOf, malformed, none, withOf};
 
-// The answer, and whether all is as it should be.
+// The answer's number, and whether it is the recorded one.
 pub struct Seen {
     pub answer: u32,
     pub same: bool,

@@ -1,32 +1,36 @@
 -- The ways through the functions that build the factor of mode 1. Assumes nothing.
-use Prim.Native.Nat.{ℕ, _+_, _<_, _≤_}
+use Prim.Native.Nat.{ℕ, _+_, _*_, _≤_}
 use mathlib.Core.Path.{_≡_, refl, sym, ap, _∙_}
 use mathlib.Core.Bool.{Bool, true, false, cond}
-use mathlib.Core.List.{List}
+use mathlib.Core.List.{List, _++_}
 use native.Mathlib.Decide.{decLe}
 use native.Mathlib.Omega.{arith}
 use lib.Dec.{ltb}
-use lib.ListN.{length, getD, getD-replicate, length-replicate, List·getD-eq-default}
+use lib.ListN.{length, getD, take, drop, getD-replicate, length-replicate, List·getD-eq-default}
+use lib.Seq.{drop-at, length-take-le}
 use lib.Ieee.{Float}
 use Rattle.loops.specs.Run.{Run, going, ended, on, check}
-use Rattle.loops.specs.Cleared.{cleared, clearedWords}
+use Rattle.loops.specs.Cleared.{clearedWords}
 use Rattle.mass_operator.specs.System.{System}
 use Rattle.sparse.specs.Triangle.{Sparse}
 use Rattle.sparse.specs.Cholesky.{Factor, factorRun}
 use Rattle.sparse.specs.Kept.{Kept, numbers}
-use Rattle.triangular.specs.Column.{Indexed}
 use Rattle.sparse.specs.Marks.{AtMost}
 use Rattle.sparse.specs.Answers.{factorOut}
 use Rattle.sparse.specs.declared.cholesky.Factored.{Factored}
 use Rattle.sparse.specs.declared.cholesky.Factored.the-variants as factors
+use Rattle.triangular.specs.Column.{Indexed}
 use Rattle.pairs.specs.Pairs.{patternOf, pairCount, pairLimit, pairsOf, finitePairs}
-use Rattle.pairs.specs.Answers.{pairedOf, Collected, PairsHeld}
+use Rattle.pairs.specs.Pattern.{startsIn, columnsIn}
+use Rattle.pairs.specs.Answers.{pairedOf, PairsHeld}
 use Rattle.pairs.specs.declared.gathering.Paired.{Paired}
 use Rattle.pairs.specs.declared.gathering.Paired.the-variants as paired
-use Rattle.incomplete_cholesky.specs.Build.{zeros, choleskyRun, buildOut, finishOut, Index, Finished, FactorHeld}
+use Rattle.pairs.proofs.Parted.{restOf, columns-lent-long, starts-lent, columns-lent}
+use Rattle.incomplete_cholesky.specs.Build.{choleskyRun, buildOut, finishOut, Finished, FactorHeld}
 use Rattle.incomplete_cholesky.specs.declared.build.Built.{Built}
 use Rattle.incomplete_cholesky.specs.declared.build.Built.the-variants as built
 
+-- ---- `factor_afresh`
 pub marks-clear : (marks₀ marks : List ℕ) → marks ≡ clearedWords marks₀ → AtMost marks 0
 marks-clear marks₀ marks e = rw e (record { most = λ k. go k (decLe (length marks₀) k) })
   where
@@ -34,23 +38,38 @@ marks-clear marks₀ marks e = rw e (record { most = λ k. go k (decLe (length m
     go k (yes h) = let z : length (clearedWords marks₀) ≤ k = rw length-replicate h in omega (arith, List·getD-eq-default (clearedWords marks₀) 0 {n = k} z)
     go k (no h) = omega (arith, getD-replicate {A = ℕ} (length marks₀) k 0 0 (omega arith))
 
-pub factored-afresh : (diagonal : List Float) (L : Sparse) (pivots₀ pivots : List Float) (o : Run Factor Factor) → pivots ≡ cleared pivots₀ → factorRun diagonal L pivots ≡ o → factorRun diagonal L (cleared pivots₀) ≡ o
-factored-afresh diagonal L pivots₀ pivots o e h = rw (← e) h
+-- ---- `finish`; w is the number of rows in 64 bits
 
--- ---- `finish`
-module _ (diagonal : List Float) (starts columns : List ℕ) (values₀ values pivots₀ pivots : List Float) (f : Factored)
-    (called : factorRun diagonal (numbers starts columns values₀) (cleared pivots₀) ≡ factorOut f (numbers starts columns values) pivots) where
-  pub finish-refused : (index : Index) → f ≡ factors.Refused → Finished diagonal (built.Refused 13) starts columns values₀ values pivots₀ pivots index index
-  finish-refused index t = record {
-    answered = called ∙ rw t;
+-- the lengths of what it lends
+module _ (w rows : ℕ) (ew : w ≡ rows) where
+  pub starts-fit : (pattern : List ℕ) (diagonal : List Float) (k : ℕ) → length pattern ≡ rows + 1 + k → length diagonal ≡ rows → length (take (w + 1) pattern) ≡ length diagonal + 1
+  starts-fit pattern diagonal k h e = length-take-le (w + 1) pattern (omega arith) ∙ omega arith
+
+  pub marks-fit : (order : List ℕ) (diagonal : List Float) (k : ℕ) → length order ≡ rows + k → length diagonal ≡ rows → length (take w order) ≡ length diagonal
+  marks-fit order diagonal k h e = length-take-le w order (omega arith) ∙ omega arith
+
+  pub order-fit : (pattern order₀ order : List ℕ) (k : ℕ) → length pattern ≡ rows + 1 + k → length order₀ ≡ rows + 2 * k → length order ≡ length order₀ → length order ≡ rows + 2 * length (restOf (w + 1) pattern)
+  order-fit pattern order₀ order k h h₀ e = omega (arith, columns-lent-long w rows ew pattern k h)
+
+module _ (w rows : ℕ) (ew : w ≡ rows) (pattern : List ℕ) (diagonal₀ values₀ values diagonal : List Float) (f : Factored)
+    (called : factorRun (numbers (take (w + 1) pattern) (restOf (w + 1) pattern) values₀) diagonal₀ ≡ factorOut f (numbers (take (w + 1) pattern) (restOf (w + 1) pattern) values) diagonal) where
+  made : factorRun (numbers (startsIn rows pattern) (columnsIn rows pattern) values₀) diagonal₀ ≡ factorOut f (numbers (startsIn rows pattern) (columnsIn rows pattern) values) diagonal
+  made = rw (starts-lent w rows ew pattern, columns-lent w rows ew pattern) at called
+
+  -- `&mut order[..w]` came back as marks
+  pub finish-refused : (order marks : List ℕ) (k : ℕ) → length order ≡ rows + k → length marks ≡ length (take w order) → f ≡ factors.Refused
+      → Finished rows diagonal₀ (built.Refused 13) (startsIn rows pattern) (columnsIn rows pattern) order (marks ++ drop w order) values₀ values diagonal
+  finish-refused order marks k l g t = record {
+    answered = made ∙ rw t;
     indexed = λ c e. absurd (let z : _≡_ {A = ℕ} 0 1 = cc in omega arith);
-    refused = λ k e. let z : 13 ≡ k = cc in (sym z, refl);
+    refused = λ c e. let z : 13 ≡ c = cc in (sym z, rw (← ew) (drop-at marks (drop w order) w (g ∙ length-take-le w order (omega arith))));
   }
 
-  pub finish-done : (index₀ index : Index) (count : ℕ) → f ≡ factors.Done → Indexed starts columns (index .heads) (index .nexts) (index .homes) count → Finished diagonal (built.Done count) starts columns values₀ values pivots₀ pivots index₀ index
-  finish-done index₀ index count t h = record {
-    answered = called ∙ rw t;
-    indexed = λ c e. let z : count ≡ c = cc in rw z at h;
+  pub finish-done : (order₀ order : List ℕ) (count : ℕ) → f ≡ factors.Done → Indexed (take (w + 1) pattern) (restOf (w + 1) pattern) order rows count
+      → Finished rows diagonal₀ (built.Done count) (startsIn rows pattern) (columnsIn rows pattern) order₀ order values₀ values diagonal
+  finish-done order₀ order count t h = record {
+    answered = made ∙ rw t;
+    indexed = λ c e. let z : count ≡ c = cc in rw (starts-lent w rows ew pattern, columns-lent w rows ew pattern, z) at h;
     refused = λ k e. absurd (let z : _≡_ {A = ℕ} 0 1 = cc in omega arith);
   }
 
@@ -59,7 +78,7 @@ abbrev judged : Bool → Bool → Run Factor Factor → Run Factor ℕ
 judged a b x = cond a (ended 10) (check b (on x going (λ _. ended 13)) (ended 12))
 
 -- ---- `build_incomplete_cholesky_preconditioner`
-module _ (s : System) (diagonal : List Float) (starts columns : List ℕ) (values₀ values : List Float) (r : Paired) (held : PairsHeld s r values₀ starts columns values) where
+module _ (s : System) (starts columns : List ℕ) (values₀ values : List Float) (r : Paired) (held : PairsHeld s r values₀ starts columns values) where
   pub paired-kept : (count : ℕ) → r ≡ paired.Done count → Kept starts columns
   paired-kept count t = held .done count t .kept
 
@@ -78,42 +97,48 @@ module _ (s : System) (diagonal : List Float) (starts columns : List ℕ) (value
   going-on false true x e c t = refl
   going-on false false x e c t = absurd (let z : _≡_ {A = ℕ} 0 1 = cc in omega arith)
 
-  numbered : (a b : Bool) → cond a (paired.Refused 10) (check b (paired.Done (pairCount (patternOf s) (s .rows))) (paired.Refused 12)) ≡ r → r ≡ paired.Refused 13 → ⊥
+  -- a refusal is 10 or 12
+  refusal : (a b : Bool) → cond a (paired.Refused 10) (check b (paired.Done (pairCount (patternOf s) (s .rows))) (paired.Refused 12)) ≡ r → (k : ℕ) → r ≡ paired.Refused k → (k ≡ 10 → ⊥) → k ≡ 12
   unfolding check
-  numbered true b e t = let z : _≡_ {A = ℕ} 10 13 = cc in omega arith
-  numbered false true e t = let z : _≡_ {A = ℕ} 0 1 = cc in omega arith
-  numbered false false e t = let z : _≡_ {A = ℕ} 12 13 = cc in omega arith
+  refusal true b e k t n = absurd (n (cc))
+  refusal false true e k t n = absurd (let z : _≡_ {A = ℕ} 0 1 = cc in omega arith)
+  refusal false false e k t n = cc
 
-  pub build-refused : (pivots : List Float) (index : Index) (k : ℕ) → r ≡ paired.Refused k → FactorHeld s diagonal (built.Refused k) starts columns values₀ values pivots pivots index index
+  refused-as : (k : ℕ) → r ≡ paired.Refused k → (k ≡ 10 → ⊥) → k ≡ 12
+  unfolding pairedOf
+  refused-as = refusal (ltb pairLimit (pairCount (patternOf s) (s .rows))) (finitePairs (pairsOf s) (s .rows)) (sym (held .answered))
+
+  pub build-refused : (order : List ℕ) (diagonal : List Float) (k : ℕ) → r ≡ paired.Refused k → FactorHeld s diagonal (built.Refused k) starts columns order order values₀ values diagonal
   unfolding choleskyRun pairedOf
-  build-refused pivots index k t = record {
-    answered = split (ltb pairLimit (pairCount (patternOf s) (s .rows))) (finitePairs (pairsOf s) (s .rows)) (factorRun diagonal (pairsOf s) (zeros (s .rows))) (sym (held .answered)) k t;
+  build-refused order diagonal k t = record {
+    answered = split (ltb pairLimit (pairCount (patternOf s) (s .rows))) (finitePairs (pairsOf s) (s .rows)) (factorRun (pairsOf s) diagonal) (sym (held .answered)) k t;
+    pattern = λ n. let z = refused-as k t (λ z. n (ap built.Refused z)) in let c = held .twelve (rw z at t) in (c .kept, c .places);
     indexed = λ c e. absurd (let z : _≡_ {A = ℕ} 0 1 = cc in omega arith);
-    refused = λ _ _. refl;
-    ten = λ e. let z : k ≡ 10 = cc in (held .ten (rw z at t), refl);
+    ten = λ e. let z : k ≡ 10 = cc in (refl, held .ten (rw z at t), refl);
     tenWords = λ e. let z : k ≡ 10 = cc in held .tenWords (rw z at t);
-    twelve = λ e. let z : k ≡ 12 = cc in (held .twelve (rw z at t) .pairs, refl);
-    thirteen = λ e. let z : k ≡ 13 = cc in absurd (numbered (ltb pairLimit (pairCount (patternOf s) (s .rows))) (finitePairs (pairsOf s) (s .rows)) (sym (held .answered)) (rw z at t));
+    twelve = λ e. let z : k ≡ 12 = cc in (held .twelve (rw z at t) .pairs, refl, refl);
+    thirteen = λ e. let z : k ≡ 13 = cc in absurd (let u = refused-as k t (λ u. omega arith) in omega arith);
   }
 
-  module _ (values′ pivots₀ pivots : List Float) (index₀ index : Index) (count : ℕ) (b : Built) (long : length pivots₀ ≡ s .rows) (t : r ≡ paired.Done count) (h : Finished diagonal b starts columns values values′ pivots₀ pivots index₀ index) where
-    made : factorRun diagonal (pairsOf s) (zeros (s .rows)) ≡ finishOut b (numbers starts columns values′) pivots
-    made = ap (λ (L : Sparse). factorRun diagonal L (zeros (s .rows))) (sym (held .done count t .pairs)) ∙ ap (λ (n : ℕ). factorRun diagonal (numbers starts columns values) (zeros n)) (sym long) ∙ h .answered
+  module _ (diagonal₀ : List Float) (b : Built) (order₀ order : List ℕ) (values′ diagonal : List Float) (count : ℕ) (t : r ≡ paired.Done count)
+      (h : Finished (s .rows) diagonal₀ b starts columns order₀ order values values′ diagonal) where
+    made-of : factorRun (pairsOf s) diagonal₀ ≡ finishOut b (numbers starts columns values′) diagonal
+    made-of = ap (λ (L : Sparse). factorRun L diagonal₀) (sym (held .done count t .pairs)) ∙ h .answered
 
-    told : (q : Built) → b ≡ q → ((k : ℕ) → q ≡ built.Refused k → k ≡ 13) → on (finishOut q (numbers starts columns values′) pivots) going (λ _. ended 13) ≡ buildOut q (numbers starts columns values′) pivots
+    told : (q : Built) → ((k : ℕ) → q ≡ built.Refused k → k ≡ 13) → on (finishOut q (numbers starts columns values′) diagonal) going (λ _. ended 13) ≡ buildOut q (numbers starts columns values′) diagonal
     unfolding on
-    told (built.Done c) e n = refl
-    told (built.Refused k) e n = let z : k ≡ 13 = n k refl in rw z
+    told (built.Done c) n = refl
+    told (built.Refused k) n = let z : k ≡ 13 = n k refl in rw z
 
-    pub build-finished : FactorHeld s diagonal b starts columns values₀ values′ pivots₀ pivots index₀ index
+    pub build-finished : FactorHeld s diagonal₀ b starts columns order₀ order values₀ values′ diagonal
     unfolding choleskyRun pairedOf
     build-finished = record {
-      answered = going-on (ltb pairLimit (pairCount (patternOf s) (s .rows))) (finitePairs (pairsOf s) (s .rows)) (factorRun diagonal (pairsOf s) (zeros (s .rows))) (sym (held .answered)) count t
-          ∙ ap (λ (x : Run Factor Factor). on x going (λ _. ended 13)) made ∙ told b refl (λ k e. h .refused k e .0);
+      answered = going-on (ltb pairLimit (pairCount (patternOf s) (s .rows))) (finitePairs (pairsOf s) (s .rows)) (factorRun (pairsOf s) diagonal₀) (sym (held .answered)) count t
+          ∙ ap (λ (x : Run Factor Factor). on x going (λ _. ended 13)) made-of ∙ told b (λ k e. h .refused k e .0);
+      pattern = λ _. (held .done count t .kept, held .done count t .places);
       indexed = h .indexed;
-      refused = λ k e. h .refused k e .1;
       ten = λ e. absurd (let z = h .refused 10 e .0 in omega arith);
       tenWords = λ e. absurd (let z = h .refused 10 e .0 in omega arith);
       twelve = λ e. absurd (let z = h .refused 12 e .0 in omega arith);
-      thirteen = λ e. made ∙ rw e;
+      thirteen = λ e. (made-of ∙ rw e, h .refused 13 e .1);
     }

@@ -1,17 +1,18 @@
 -- The ways through the tests 1 to 4, as the code takes them, and what a file that has passed holds. Assumes nothing.
 use Prim.Native.Nat.{ℕ, _+_, _*_, _-_, _<_, _≤_}
 use mathlib.Core.Path.{_≡_, refl, sym, ap, _∙_}
-use mathlib.Core.Bool.{Bool, true, false, not, _&&_, false≢true}
+use mathlib.Core.Bool.{Bool, true, false, not, _&&_}
 use mathlib.Core.List.{List, [], _∷_}
 use native.Mathlib.Omega.{arith}
 use lib.Dec.{leb}
 use lib.ListN.{length}
 use borrow.Author.Tests.{not-true, not-false, le-leb, lt-leb, leb-true}
+use Rattle.loops.proofs.Both.{both}
 use Rattle.loops.specs.Run.{on, check}
 use Rattle.loops.specs.Judge.{judge, test}
 use Rattle.job_file.specs.Layout.{rowsEnd, massesEnd}
 use Rattle.job_file.specs.File.{trailerOf}
-use Rattle.job_file.specs.Refusals.{sizeFits, limitsFit, apart, endsFit, sectionsFit, countsFit, keysFit, passes1, passes2, passes3, passes4}
+use Rattle.job_file.specs.Refusals.{sizeFits, limitsFit, apart, endsFit, sectionsFit, trailerCountsFit, keysFit, passes1, passes2, passes3, passes4}
 use Rattle.job_file.specs.Job.{answerOf, openedOf, judgedOf}
 use Rattle.job_file.specs.declared.trailer.Trailer.{Trailer}
 use Rattle.job_file.specs.declared.judge.FileJudged.{FileJudged}
@@ -42,10 +43,10 @@ module _ (file : List ℕ) where
       unfolding openedOf answerOf judge test check on
       opened-2 n = rw (← is1, not-false p p1, ← is2, not-true q n)
 
-      module _ (p2 : not q ≡ false) {r : Bool} (three : r ≡ countsFit t) where
+      module _ (p2 : not q ≡ false) {r : Bool} (three : r ≡ trailerCountsFit t) where
         is3 : r ≡ passes3 file
         unfolding passes3
-        is3 = three ∙ ap countsFit e
+        is3 = three ∙ ap trailerCountsFit e
 
         pub opened-3 : not r ≡ true → Refused 3 ≡ openedOf file
         unfolding openedOf answerOf judge test check on
@@ -56,14 +57,6 @@ module _ (file : List ℕ) where
         opened-passed n = rw (← is1, not-false p p1, ← is2, not-false q p2, ← is3, not-false r n, e)
 
 -- ---- where 1 to 3 are judged before more tests
-
-pub and-left : (a b : Bool) → a && b ≡ true → a ≡ true
-and-left true b h = refl
-and-left false b h = h
-
-pub and-right : (a b : Bool) → a && b ≡ true → b ≡ true
-and-right true b h = h
-and-right false b h = absurd (false≢true h)
 
 -- what the first three refuse, the longer lists refuse with the same number
 refused-longer : (t : Trailer) (a b c d : Bool) (n : ℕ) → answerOf t ((1, a) ∷ (2, b) ∷ (3, c) ∷ []) ≡ Refused n → answerOf t ((1, a) ∷ (2, b) ∷ (3, c) ∷ (4, d) ∷ []) ≡ Refused n
@@ -99,16 +92,18 @@ module _ (file : List ℕ) {r : FileJudged} (o : r ≡ openedOf file) where
 
     ends : endsFit (trailerOf file) (length file - 48) ≡ true
     unfolding passes2 sectionsFit
-    ends = and-right (limitsFit (trailerOf file) && apart (trailerOf file)) _ (passed .two)
+    ends = let (_, h) = both (limitsFit (trailerOf file) && apart (trailerOf file)) (endsFit (trailerOf file) (length file - 48)) (passed .two) in h
+
+    ends-both : (leb (rowsEnd (trailerOf file .«row_offset») (trailerOf file .rows)) (length file - 48) ≡ true) × (leb (massesEnd (trailerOf file .«mass_offset») (trailerOf file .bodies)) (length file - 48) ≡ true)
+    unfolding endsFit
+    ends-both = both _ _ ends
 
     -- both sections end within the file
     pub rows-inside : t .«row_offset» + 248 * t .rows ≤ length file
-    unfolding endsFit
-    rows-inside = rw (passed .same) (let h : rowsEnd (trailerOf file .«row_offset») (trailerOf file .rows) ≤ length file - 48 = leb-true _ _ (and-left _ (leb (massesEnd (trailerOf file .«mass_offset») (trailerOf file .bodies)) (length file - 48)) ends) in omega arith)
+    rows-inside = rw (passed .same) (let h : rowsEnd (trailerOf file .«row_offset») (trailerOf file .rows) ≤ length file - 48 = leb-true _ _ (ends-both .0) in omega arith)
 
     pub masses-inside : t .«mass_offset» + 80 * t .bodies ≤ length file
-    unfolding endsFit
-    masses-inside = rw (passed .same) (let h : massesEnd (trailerOf file .«mass_offset») (trailerOf file .bodies) ≤ length file - 48 = leb-true _ _ (and-right (leb (rowsEnd (trailerOf file .«row_offset») (trailerOf file .rows)) (length file - 48)) _ ends) in omega arith)
+    masses-inside = rw (passed .same) (let h : massesEnd (trailerOf file .«mass_offset») (trailerOf file .bodies) ≤ length file - 48 = leb-true _ _ (ends-both .1) in omega arith)
 
     module _ {p : Bool} (four : p ≡ keysFit file (t .«row_offset») (t .rows)) where
       pub is4 : p ≡ passes4 file

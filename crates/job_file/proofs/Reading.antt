@@ -8,6 +8,7 @@ use lib.Dec.{eqb}
 use lib.ListN.{length}
 use lib.Ieee.{Float}
 use borrow.Author.Tests.{not-true, not-false, eqb-true}
+use Rattle.loops.proofs.Both.{both}
 use Rattle.loops.specs.Run.{on, check}
 use Rattle.loops.specs.Judge.{judge, test}
 use Rattle.job_file.specs.File.{trailerOf, sectionNumbers, sectionWords, sectionMasses}
@@ -16,7 +17,7 @@ use Rattle.job_file.specs.Job.{answerOf, openedOf, readOf, lentAfter, Re
 use Rattle.job_file.specs.declared.trailer.Trailer.{Trailer}
 use Rattle.job_file.specs.declared.judge.FileJudged.{FileJudged}
 use Rattle.job_file.specs.declared.judge.FileJudged.the-variants.{Passed, Refused}
-use Rattle.job_file.proofs.Judgement.{and-left, and-right, passed, is4}
+use Rattle.job_file.proofs.Judgement.{passed, is4}
 
 refused-lent : (t : Trailer) (a b c e d : Bool) (n : ℕ) → answerOf t ((1, a) ∷ (2, b) ∷ (3, c) ∷ []) ≡ Refused n → answerOf t ((1, a) ∷ (2, b) ∷ (3, c && e) ∷ (4, d) ∷ []) ≡ Refused n
 unfolding answerOf judge test check on
@@ -30,17 +31,18 @@ module _ (t : Trailer) (n w m : ℕ) {p : Bool} (fit : p ≡ lengthsFit t n w m)
   all : lengthsFit t n w m ≡ true
   all = sym fit ∙ not-false p h
 
-  pub numbers-long : n ≡ 27 * t .rows
+  fits : ((eqb n (27 * t .rows) ≡ true) × (eqb w (8 * t .rows) ≡ true)) × (eqb m (10 * t .bodies) ≡ true)
   unfolding lengthsFit
-  numbers-long = eqb-true _ _ (and-left _ (eqb w (8 * t .rows)) (and-left _ (eqb m (10 * t .bodies)) all))
+  fits = let (l, r) = both (eqb n (27 * t .rows) && eqb w (8 * t .rows)) (eqb m (10 * t .bodies)) all in (both (eqb n (27 * t .rows)) (eqb w (8 * t .rows)) l, r)
+
+  pub numbers-long : n ≡ 27 * t .rows
+  numbers-long = eqb-true _ _ (fits .0 .0)
 
   pub words-long : w ≡ 8 * t .rows
-  unfolding lengthsFit
-  words-long = eqb-true _ _ (and-right (eqb n (27 * t .rows)) _ (and-left _ (eqb m (10 * t .bodies)) all))
+  words-long = eqb-true _ _ (fits .0 .1)
 
   pub masses-long : m ≡ 10 * t .bodies
-  unfolding lengthsFit
-  masses-long = eqb-true _ _ (and-right (eqb n (27 * t .rows) && eqb w (8 * t .rows)) _ all)
+  masses-long = eqb-true _ _ (fits .1)
 
 module _ (file : List ℕ) (numbers : List Float) (words : List ℕ) (masses : List Float) {r : FileJudged} (o : r ≡ openedOf file) where
   kept : (n : ℕ) → Refused n ≡ readOf file (length numbers) (length words) (length masses) → Reads file numbers words masses (Refused n) numbers words masses

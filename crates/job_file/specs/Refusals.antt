@@ -5,6 +5,7 @@ use mathlib.Core.List.{List}
 use lib.Dec.{leb, eqb}
 use lib.ListN.{length}
 use Rattle.loops.specs.Every.{every}
+use Rattle.joint_refusals.specs.Counts.{countsFit, rowsFit}
 use Rattle.joint_refusals.specs.Refusals.{wordsFitOf}
 use Rattle.job_file.specs.Layout.{rowsEnd, massesEnd, trailerAt}
 use Rattle.job_file.specs.File.{trailerOf, rowWords}
@@ -34,16 +35,16 @@ sectionsFit t end = (limitsFit t && apart t) && endsFit t end
 unfoldable pub passes2 : List ℕ → Bool
 passes2 file = sectionsFit (trailerOf file) (trailerAt file)
 
--- ---- 3. "The row count, body count or mode is beyond this paper": at most 512 rows and 256 bodies, modes 0 to 2;
-unfoldable pub countsFit : Trailer → Bool
-countsFit t = (leb (t .rows) 512 && leb (t .bodies) 256) && leb (t .mode) 2
+-- ---- 3. "The row count, body count or mode is beyond this paper"
+abbrev pub trailerCountsFit : Trailer → Bool
+trailerCountsFit t = countsFit (t .rows) (t .bodies) (t .mode)
 
 unfoldable pub passes3 : List ℕ → Bool
-passes3 file = countsFit (trailerOf file)
+passes3 file = trailerCountsFit (trailerOf file)
 
 -- "or a lent slice has not the length the counts call for", where slices are lent
 unfoldable pub lengthsFit : Trailer → ℕ → ℕ → ℕ → Bool
-lengthsFit t numbers words masses = (eqb numbers (27 * t .rows) && eqb words (8 * t .rows)) && eqb masses (10 * t .bodies)
+lengthsFit t numbers words masses = rowsFit (t .rows) (t .bodies) numbers words masses
 
 -- ---- 4. "A row's key, dimension, flag or spare has another value than those above."
 unfoldable pub keysFit : List ℕ → ℕ → ℕ → Bool

@@ -3,7 +3,7 @@ ghost use mathlib.Core.Path.{_≡_};
 ghost use Prim.Native.Nat.{_+_, _≤_};
 ghost use lib.ListN.{length};
 ghost use Rattle.job_file.specs.Layout.{rowsEnd};
-ghost use Rattle.job_file.specs.Refusals.{sizeFits, sectionsFit, countsFit, lengthsFit, keysFit};
+ghost use Rattle.job_file.specs.Refusals.{sizeFits, sectionsFit, lengthsFit, keysFit};
 ghost use Rattle.job_file.specs.File.{rowWords};
 ghost use Rattle.joint_refusals.specs.Refusals.{wordsFitOf};
 use crate::layout::MASS_BYTES;
@@ -37,14 +37,7 @@ pub fn sections_fit(t: Trailer, trailer_at: usize) -> bool
     limits & apart & ends
 }
 
-// Refusal 3 of the file itself,
-pub fn counts_fit(t: Trailer) -> bool
-    ensures { λ r. ⌜ r ≡ countsFit t ⌝ }
-{
-    (t.rows <= 512) & (t.bodies <= 256) & (t.mode <= 2)
-}
-
-// and of what is lent for its job.
+// Refusal 3, of what is lent for the job.
 pub fn lengths_fit(t: Trailer, numbers: usize, words: usize, masses: usize) -> bool
     ensures { λ r. ⌜ r ≡ lengthsFit t numbers words masses ⌝ }
 {

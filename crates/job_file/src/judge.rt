@@ -1,13 +1,13 @@
 // Refusals 1 to 4 of a job file in their order.
 ghost use mathlib.Core.Path.{_≡_};
 ghost use Rattle.job_file.specs.Job.{openedOf, judgedOf};
-use crate::fit::counts_fit;
 use crate::fit::keys_fit;
 use crate::fit::sections_fit;
 use crate::fit::size_fits;
 use crate::layout::TRAILER_BYTES;
 use crate::trailer::Trailer;
 use crate::trailer::read_trailer;
+use joint_refusals::counts_fit;
 
 pub enum FileJudged {
     Passed(Trailer),
@@ -29,7 +29,7 @@ pub fn judge_trailer(file: &[u8]) -> FileJudged
     if !sections_fit(trailer, length - TRAILER_BYTES) {
         return FileJudged::Refused(2);
     }
-    if !counts_fit(trailer) {
+    if !counts_fit(trailer.rows, trailer.bodies, trailer.mode) {
         return FileJudged::Refused(3);
     }
     FileJudged::Passed(trailer)

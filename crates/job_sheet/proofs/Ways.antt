@@ -8,27 +8,30 @@ use lib.Dec.{leb}
 use lib.ListN.{length}
 use lib.Ieee.{Float}
 use borrow.Author.Tests.{leb-true, le-leb, eq-eqb}
+use Rattle.loops.proofs.Both.{both}
 use Rattle.loops.specs.Run.{going, ended, on, check}
 use Rattle.loops.specs.Judge.{judge, test}
 use Rattle.loops.proofs.Loop.{on-going, on-ended}
-use Rattle.position_delivery.specs.Outcome.{Lent, Outcome, Answer, outcomeOf}
+use Rattle.position_delivery.specs.Outcome.{Lent, Outcome, Answer, proposalOf, committedOf, outcomeOf}
 use Rattle.position_delivery.specs.declared.answer.PositionPcgResult.{PositionPcgResult}
 use Rattle.position_delivery.specs.declared.answer.PositionPcg.{PositionPcg}
 use Rattle.position_delivery.specs.declared.answer.PositionPcg.the-variants as answers
 use Rattle.kapitsa_joint.specs.Table.{tableOf}
 use Rattle.preconditioner.specs.Mode.{modeOf}
+use Rattle.joint_refusals.specs.Counts.{tableCountsFit, countsFit}
 use Rattle.work_memory.specs.Lengths as lengths
 use Rattle.position_solve.specs.Job.{jobFits, JobSolved}
-use Rattle.check_refusals.specs.Refusals.{countsFit, tableFits}
-use Rattle.check_alone.specs.Checked.{givenFits, foundOf, checkedOf}
-use Rattle.check_alone.specs.declared.check.Found.{Found}
+use Rattle.check_refusals.specs.Refusals.{tableFits, givenFits}
+use Rattle.check_answer.specs.Answer.{numberOf}
+use Rattle.check_answer.specs.declared.CheckAnswer.{CheckAnswer}
+use Rattle.check_alone.specs.Checked.{checkedOf}
 use Rattle.job_file.specs.Refusals as refusals
 use Rattle.job_file.specs.File.{trailerOf, sectionNumbers, sectionWords, sectionMasses}
 use Rattle.job_file.specs.Job.{Job, jobWith, answerOf, openedOf, judgedOf}
 use Rattle.job_file.specs.declared.trailer.Trailer.{Trailer}
 use Rattle.job_file.specs.declared.judge.FileJudged.{FileJudged}
 use Rattle.job_file.specs.declared.judge.FileJudged.the-variants.{Passed, Refused}
-use Rattle.job_file.proofs.Judgement.{and-left, and-right, passed, rows-inside, masses-inside}
+use Rattle.job_file.proofs.Judgement.{passed, rows-inside, masses-inside}
 use Rattle.job_file.proofs.Meaning.{passed-job, refused-job}
 use Rattle.listing.specs.Listing.{listingOf, refusedListing}
 use Rattle.job_sheet.specs.Sheet.{answerTo, closingOf, printedOf, answerSheet, jobSheet, sheetOf}
@@ -61,18 +64,20 @@ module _ (file : List ℕ) (t : Trailer) (h : judgedOf file ≡ Passed t) where
 
   limits : (leb (trailerOf file .rows) 128 && leb (trailerOf file .bodies) 64) ≡ true
   unfolding refusals.passes2 refusals.sectionsFit refusals.limitsFit
-  limits = and-left (refusals.limitsFit (trailerOf file)) (refusals.apart (trailerOf file)) (and-left (refusals.limitsFit (trailerOf file) && refusals.apart (trailerOf file)) _ (passed file refl opened .two))
+  limits =
+      let (l, _) = both (refusals.limitsFit (trailerOf file) && refusals.apart (trailerOf file)) _ (passed file refl opened .two) in
+      let (m, _) = both (refusals.limitsFit (trailerOf file)) (refusals.apart (trailerOf file)) l in m
 
   -- the counts and the mode
   pub rows-few : t .rows ≤ 128
-  rows-few = rw same (leb-true _ _ (and-left (leb (trailerOf file .rows) 128) (leb (trailerOf file .bodies) 64) limits))
+  rows-few = let (l, _) = both (leb (trailerOf file .rows) 128) (leb (trailerOf file .bodies) 64) limits in rw same (leb-true _ _ l)
 
   pub bodies-few : t .bodies ≤ 64
-  bodies-few = rw same (leb-true _ _ (and-right (leb (trailerOf file .rows) 128) (leb (trailerOf file .bodies) 64) limits))
+  bodies-few = let (_, r) = both (leb (trailerOf file .rows) 128) (leb (trailerOf file .bodies) 64) limits in rw same (leb-true _ _ r)
 
   pub mode-small : t .mode ≤ 2
-  unfolding refusals.passes3 refusals.countsFit
-  mode-small = rw same (leb-true _ _ (and-right (leb (trailerOf file .rows) 512 && leb (trailerOf file .bodies) 256) (leb (trailerOf file .mode) 2) (passed file refl opened .three)))
+  unfolding refusals.passes3 countsFit
+  mode-small = let (_, r) = both (tableCountsFit (trailerOf file .rows) (trailerOf file .bodies)) (leb (trailerOf file .mode) 2) (passed file refl opened .three) in rw same (leb-true _ _ r)
 
   -- the sections
   pub rows-held : t .«row_offset» + 248 * t .rows ≤ length file
@@ -92,13 +97,13 @@ module _ (file : List ℕ) (t : Trailer) (h : judgedOf file ≡ Passed t) where
 -- ---- the memory
 
 module _ {t : Trailer} {numbers words masses solution impulses : ℕ} (r : JobRoom t numbers words masses solution impulses) where
-  pub solve-fits : jobFits (t .rows) (t .bodies) (t .mode) (record { numbers = numbers; words = words; masses = masses; solution = solution; impulses = impulses }) ≡ true
-  unfolding jobFits lengths.countsFit lengths.tableFits
+  pub solve-fits : jobFits (t .rows) (t .bodies) (t .mode) numbers words masses solution impulses ≡ true
+  unfolding jobFits countsFit lengths.tableFits
   solve-fits = let n = r .few-rows in let b = r .few-bodies in
       rw (le-leb (t .rows) 512 (omega arith), le-leb (t .bodies) 256 (omega arith), le-leb (t .mode) 2 (r .mode-known), eq-eqb _ _ (r .numbers-long), eq-eqb _ _ (r .words-long), eq-eqb _ _ (r .masses-long), eq-eqb _ _ (r .solution-long), eq-eqb _ _ (r .impulses-long))
 
   pub check-fits : givenFits (t .rows) (t .bodies) (record { numbers = numbers; words = words; masses = masses; multipliers = solution }) ≡ true
-  unfolding givenFits countsFit tableFits
+  unfolding givenFits tableFits
   check-fits = let n = r .few-rows in let b = r .few-bodies in
       rw (le-leb (t .rows) 512 (omega arith), le-leb (t .bodies) 256 (omega arith), eq-eqb _ _ (r .numbers-long), eq-eqb _ _ (r .words-long), eq-eqb _ _ (r .masses-long), eq-eqb _ _ (r .solution-long))
 
@@ -109,16 +114,16 @@ room-after r a b c d e = rw (a, b, c, d, e) r
 
 -- ---- the check
 
-pub closing-is : (t : Trailer) (numbers : List Float) (words : List ℕ) (masses solution impulses : List Float) {found : Found} → JobRoom t (length numbers) (length words) (length masses) (length solution) (length impulses)
-    → found ≡ checkedOf (t .rows) (t .bodies) numbers words masses solution (t .tolerance) → found .answer ≡ closingOf (jobWith t numbers words masses) numbers solution
-unfolding closingOf foundOf
-closing-is t numbers words masses solution impulses r e = rw (e, check-fits r)
+pub closing-is : (t : Trailer) (numbers : List Float) (words : List ℕ) (masses solution impulses : List Float) {answer : CheckAnswer} {number : ℕ} → JobRoom t (length numbers) (length words) (length masses) (length solution) (length impulses)
+    → answer ≡ checkedOf (t .rows) (t .bodies) numbers words masses solution (t .tolerance) → number ≡ numberOf answer → number ≡ closingOf (jobWith t numbers words masses) numbers solution
+unfolding closingOf
+closing-is t numbers words masses solution impulses r e n = n ∙ rw (e, check-fits r)
 
-pub printed-is : (t : Trailer) (r : PositionPcgResult) (numbers : List Float) (words : List ℕ) (masses solution impulses : List Float) {found : Found} → JobRoom t (length numbers) (length words) (length masses) (length solution) (length impulses)
-    → found ≡ checkedOf (t .rows) (t .bodies) numbers words masses solution (t .tolerance)
-    → listingOf (r .iterations) (r .converged) (r .«linear_residual_m») (r .«angular_residual_rad») (found .answer) (t .rows) (t .bodies) numbers impulses ≡ printedOf (jobWith t numbers words masses) r numbers solution impulses
+pub printed-is : (t : Trailer) (r : PositionPcgResult) (numbers : List Float) (words : List ℕ) (masses solution impulses : List Float) {answer : CheckAnswer} {number : ℕ} → JobRoom t (length numbers) (length words) (length masses) (length solution) (length impulses)
+    → answer ≡ checkedOf (t .rows) (t .bodies) numbers words masses solution (t .tolerance) → number ≡ numberOf answer
+    → listingOf (r .iterations) (r .converged) (r .«linear_residual_m») (r .«angular_residual_rad») number (t .rows) (t .bodies) numbers impulses ≡ printedOf (jobWith t numbers words masses) r numbers solution impulses
 unfolding printedOf
-printed-is t r numbers words masses solution impulses room e = ap (λ v. listingOf (r .iterations) (r .converged) (r .«linear_residual_m») (r .«angular_residual_rad») v (t .rows) (t .bodies) numbers impulses) (closing-is t numbers words masses solution impulses room e)
+printed-is t r numbers words masses solution impulses room e n = ap (λ v. listingOf (r .iterations) (r .converged) (r .«linear_residual_m») (r .«angular_residual_rad») v (t .rows) (t .bodies) numbers impulses) (closing-is t numbers words masses solution impulses room e n)
 
 -- ---- the solve
 
@@ -137,12 +142,12 @@ module _ (j : Job) (solution impulses : List Float) where
   before = record { numbers = j .numbers; solution = solution; impulses = impulses }
 
   accepted-in : (a : Answer) {r : PositionPcgResult} {after : Lent} → outcomeOf (j .rows) before a ≡ record { answer = answers.Accepted r; lent = after } → printedOf j r (after .numbers) (after .solution) (after .impulses) ≡ answerSheet j a
-  unfolding outcomeOf answerSheet
+  unfolding proposalOf committedOf answerSheet
   accepted-in (going ((flag, count, v), f)) e = let p = accepted-same (ap (λ (o : Outcome). o .answer) e) in let q = ap (λ (o : Outcome). o .lent) e in rw (p, ← q)
   accepted-in (ended n) e = never (sym (ap (λ (o : Outcome). o .answer) e))
 
   refused-in : (a : Answer) {n : ℕ} {after : Lent} → outcomeOf (j .rows) before a ≡ record { answer = answers.Refused n; lent = after } → refusedListing n ≡ answerSheet j a
-  unfolding outcomeOf answerSheet
+  unfolding proposalOf committedOf answerSheet
   refused-in (going ((flag, count, v), f)) e = never (ap (λ (o : Outcome). o .answer) e)
   refused-in (ended n) e = ap refusedListing (refused-same (ap (λ (o : Outcome). o .answer) e))
 

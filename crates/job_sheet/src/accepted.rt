@@ -5,7 +5,7 @@ ghost use Rattle.job_file.specs.Job.{jobWith};
 ghost use Rattle.listing.specs.Written.{Wrote};
 ghost use Rattle.job_sheet.specs.Sheet.{printedOf};
 ghost use Rattle.job_sheet.specs.Room.{JobRoom};
-use check_alone::checked;
+use check_alone::checked_small;
 use job_file::Trailer;
 use listing::write_listing;
 use position_delivery::PositionPcgResult;
@@ -25,7 +25,7 @@ pub fn write_accepted(
     requires { ⌜ 16384 ≤ length (now out) ⌝ }
     ensures { λ r. ⌜ Wrote (now (out .entry)) 0 (printedOf (jobWith trailer (now (numbers .entry)) (now (words .entry)) (now (masses .entry))) result (now (numbers .entry)) (now (solution .entry)) (now (impulses .entry))) (now (out .exit)) r ⌝ }
 {
-    let found = checked(
+    let answer = checked_small(
         trailer.rows,
         trailer.bodies,
         numbers,
@@ -39,7 +39,7 @@ pub fn write_accepted(
         result.converged,
         result.linear_residual_m,
         result.angular_residual_rad,
-        found.answer,
+        answer.number(),
         trailer.rows,
         trailer.bodies,
         numbers,

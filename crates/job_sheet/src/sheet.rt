@@ -16,7 +16,7 @@ use job_file::read_numbers;
 use job_file::read_words;
 use listing::write_refusal;
 use position_delivery::PositionPcg;
-use position_solve::solve_position;
+use position_solve::solve_small_position;
 
 // A job that has been read.
 fn write_job(
@@ -32,7 +32,7 @@ fn write_job(
     requires { ⌜ 16384 ≤ length (now out) ⌝ }
     ensures { λ r. ⌜ Wrote (now (out .entry)) 0 (jobSheet (jobWith trailer (now (numbers .entry)) (now (words .entry)) (now (masses .entry)))) (now (out .exit)) r ⌝ }
 {
-    let answer = solve_position(
+    let answer = solve_small_position(
         numbers,
         words,
         masses,

@@ -5,6 +5,7 @@ use lib.Dec.{leb, ltb, eqb}
 use lib.Ieee.{Float, inf, binary64, eq, le, neg, ofBits}
 use lib.Ieee.Scale.{finite}
 use Rattle.loops.specs.Every.{every}
+use Rattle.loops.specs.Cleared.{plusZero}
 use Rattle.kapitsa_math.specs.Vector.{isFiniteOf}
 use Rattle.kapitsa_math.specs.Matrix.{finiteColumnsOf}
 use Rattle.kapitsa_joint.specs.Table.{Table}
@@ -21,15 +22,12 @@ unfoldable pub passes4 : Table → Bool
 passes4 t = every (λ i. wordsFitOf (t .row i .words)) (t .rows)
 
 -- ---- 5. "a row fails the Rust's opening test (position off, compliance, damping, force_driven, a multiplier bound other than −infinity below and +infinity above)"
-abbrev pub zero : Float
-zero = ofBits binary64 0
-
 abbrev pub infinity : Float
 infinity = ofBits binary64 0x7ff0_0000_0000_0000
 
 unfoldable pub opensOf : RowScalars → RowWords → Bool
 opensOf s w =
-    ((((eqb (w .«position_enabled») 1 && eq (s .compliance) zero) && eq (s .damping) zero) && eqb (w .«force_driven») 0) && eq (s .«min_multiplier») (neg infinity)) && eq (s .«max_multiplier») infinity
+    ((((eqb (w .«position_enabled») 1 && eq (s .compliance) plusZero) && eq (s .damping) plusZero) && eqb (w .«force_driven») 0) && eq (s .«min_multiplier») (neg infinity)) && eq (s .«max_multiplier») infinity
 
 -- "There are rows and the limit is 0, or a row fails ..": the limit is judged apart, where it is given
 unfoldable pub rowsOpen : Table → Bool
@@ -56,7 +54,7 @@ scalarsFiniteOf s =
 
 unfoldable pub scalarsInRangeOf : RowScalars → Bool
 scalarsInRangeOf s =
-    (((le zero (s .compliance) && le zero (s .damping)) && le (s .«min_multiplier») (s .«max_multiplier»)) && le (s .«min_impulse») (s .«max_impulse»)) && le zero (s .«cached_velocity_effective_mass»)
+    (((le plusZero (s .compliance) && le plusZero (s .damping)) && le (s .«min_multiplier») (s .«max_multiplier»)) && le (s .«min_impulse») (s .«max_impulse»)) && le plusZero (s .«cached_velocity_effective_mass»)
 
 unfoldable pub isValidOf : ℕ → ConstraintRow → Bool
 isValidOf bodies r = ((bodiesBelowOf bodies (r .words) && jacobiansFiniteOf r) && scalarsFiniteOf (r .scalars)) && scalarsInRangeOf (r .scalars)

@@ -1,6 +1,9 @@
-// Refusals 4 to 7 of document 01 over the lent tables, each judged by itself: true where it does not apply.
+// Refusals 3 (of the counts) to 7 of document 01 over the lent tables, each judged by itself: true where it does not apply.
+pub mod counts; // counts.rt: of the counts and the mode
 pub mod judge; // judge.rt: of one row or mass, and of a whole table
 
+pub use counts::counts_fit;
+pub use counts::table_counts_fit;
 pub use judge::is_valid_at;
 pub use judge::masses_finite;
 pub use judge::rows_open;

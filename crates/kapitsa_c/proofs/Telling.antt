@@ -1,6 +1,6 @@
 -- What a solve tells C, from the promise of the entry. Assumes nothing.
 use Prim.Native.Nat.{ℕ}
-use mathlib.Core.Path.{_≡_, refl, sym, ap, _∙_}
+use mathlib.Core.Path.{_≡_, refl, sym, ap, subst, _∙_}
 use mathlib.Core.Bool.{Bool, true, false, not, _&&_, cond}
 use mathlib.Core.List.{List, [], _∷_}
 use native.Mathlib.Omega.{arith}
@@ -13,14 +13,14 @@ use Rattle.kapitsa_joint.specs.Table.{Table}
 use Rattle.preconditioner.specs.declared.mode.Mode.{Mode}
 use Rattle.steps.specs.Solve.{solve}
 use Rattle.position_iteration.specs.Method.{positionMethod}
-use Rattle.position_delivery.specs.Outcome.{Lent, Outcome, outcomeOf}
+use Rattle.position_delivery.specs.Outcome.{Lent, Outcome, outcomeOf, SolveMeaning}
 use Rattle.position_delivery.specs.declared.answer.PositionPcg.{PositionPcg}
 use Rattle.position_delivery.specs.declared.answer.PositionPcg.the-variants as answers
 use Rattle.position_delivery.specs.declared.answer.PositionPcgResult.{PositionPcgResult}
 use Rattle.work_memory.specs.Work.{WorkMemory, After}
 use Rattle.pcg.specs.Solved.{Solved}
 use Rattle.position_delivery.proofs.Answered.{entry-means, entry-refused}
-use Rattle.check_answer.proofs.Meaning.{both}
+use Rattle.loops.proofs.Both.{both}
 use Rattle.kapitsa_c.specs.Solving.{Told, toldOf, toldFits, SolveTold}
 
 abbrev outcome : PositionPcg → Lent → Outcome
@@ -32,7 +32,7 @@ module _ (t : Table) (mode : Mode) (limit n : ℕ) (before : Lent) (counts : Lis
       record {
         answered = h ∙ ap (λ (o : Outcome). toldOf (o .answer) counts maxima) (sym e);
         delivered = sym (ap (λ (o : Outcome). o .lent) e);
-        means = rw e (entry-means (positionMethod fits t mode) limit n before after a e);
+        means = subst (λ (o : Outcome). SolveMeaning (positionMethod fits t mode) limit n before (o .answer) after) (sym e) (entry-means (positionMethod fits t mode) limit n before after a e);
         memory = w;
       }
 

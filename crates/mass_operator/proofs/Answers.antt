@@ -1,9 +1,8 @@
 -- What the functions of the operator come to together. Assumes nothing.
-use Prim.Native.Nat.{ℕ, _*_, _<_, _≤_}
-use mathlib.Core.Path.{_≡_, refl, sym, ap, _∙_, subst}
+use Prim.Native.Nat.{ℕ, _<_}
+use mathlib.Core.Path.{_≡_, ap, _∙_}
 use mathlib.Core.Bool.{Bool, true, false, not}
 use mathlib.Core.List.{List}
-use native.Mathlib.Omega.{arith}
 use lib.ListN.{length}
 use lib.Ieee.{Float}
 use borrow.Author.Tests.{not-true, not-false}
@@ -13,14 +12,13 @@ use Rattle.loops.proofs.Tabulate.{tabulate-same}
 use Rattle.kapitsa_joint.specs.Impulse.{impulseOf}
 use Rattle.kapitsa_joint.specs.Mass.{massOf}
 use Rattle.kapitsa_joint.specs.declared.row.RowJacobian.{RowJacobian}
-use Rattle.kapitsa_joint.specs.declared.impulse.GeneralizedImpulse.{GeneralizedImpulse}
 use Rattle.mass_operator.specs.Applied.{allFiniteOf, appliedOf}
 use Rattle.mass_operator.specs.declared.finite.Applied.{Applied}
 use Rattle.mass_operator.specs.declared.finite.Applied.the-variants.{Done, Overflow}
 use Rattle.compact_table.specs.Compact.{compactOf, Linked}
 use Rattle.mass_operator.specs.System.{compactSystem}
-use Rattle.mass_operator.specs.Operator.{impulseAt, responseOf, responseAt, rowValueOf, valueAt}
-use Rattle.mass_operator.specs.Flat.{coefficients, flatImpulses, impulsesOf, responsesOf, productOf, Summed, Multiplied}
+use Rattle.mass_operator.specs.Operator.{impulseAt, responseOf, responseAt, valueAt}
+use Rattle.mass_operator.specs.Flat.{coefficients, impulsesOf, responsesOf, productOf, Summed, Multiplied}
 use Rattle.mass_operator.specs.Lent.{Impulses, Summing, valueIn}
 use Rattle.mass_operator.proofs.Flat.{impulses-flat}
 
@@ -36,7 +34,7 @@ pub summed-is : (j : ℕ → RowJacobian) (x : ℕ → Float) (rows bodies : ℕ
 unfolding impulsesOf
 summed-is j x rows bodies l h e = let q = impulses-flat (λ b. impulseAt j x b rows) bodies l (record { long = h .long; at = h .at }) in record { summed = q; answered = e ∙ ap appliedOf q }
 
--- impulses, responses, values
+-- impulses, responses in their place, values: the list of impulses stands between two calls
 module _ (jacobians : List Float) (links : List ℕ) (masses vector : List Float) (bodies : ℕ) (impulses responses product : List Float) where
   abbrev rows : ℕ
   rows = length vector
@@ -62,12 +60,11 @@ module _ (jacobians : List Float) (links : List ℕ) (masses vector : List Float
         let b : j i .«body_b» < bodies = unfold compactOf in linked .b i t in
         rw (response (j i .«body_a») a, response (j i .«body_b») b)
 
-    pub multiplied-is : {r : Applied} {m : ℕ} → product ≡ tabulate (λ i. valueIn (j i) responses) m → m ≡ rows → r ≡ appliedOf product → Multiplied (compactSystem rows bodies jacobians links masses) x r impulses responses product
-    unfolding impulsesOf responsesOf productOf
+    pub multiplied-is : {r : Applied} {m : ℕ} → product ≡ tabulate (λ i. valueIn (j i) responses) m → m ≡ rows → r ≡ appliedOf product → Multiplied (compactSystem rows bodies jacobians links masses) x r responses product
+    unfolding responsesOf productOf
     multiplied-is {r} {m} e q a =
         let p : product ≡ tabulate (valueAt (compactSystem rows bodies jacobians links masses) x) rows = e ∙ ap (tabulate (λ i. valueIn (j i) responses)) q ∙ same in
         record {
-          summed = impulses-flat (λ b. impulseAt j x b rows) bodies impulses (record { long = h .long; at = h .at });
           responded = impulses-flat (responseAt (compactSystem rows bodies jacobians links masses) x) bodies responses responses-hold;
           multiplied = p;
           answered = a ∙ ap appliedOf p;

@@ -1,18 +1,17 @@
 -- What went not finite stays so, through the whole operator. Where every row's value is finite, so is every impulse after every row and every response:
 -- so the test of the product refuses exactly what the Rust's tests after each addition, each response and each dot product refuse. Assumes nothing.
 use Prim.Native.Nat.{ℕ, zero, suc, _+_, _-_, _<_, _≤_}
-use mathlib.Core.Path.{_≡_, refl, sym, ap, _∙_, subst}
+use mathlib.Core.Path.{_≡_, refl, _∙_}
 use mathlib.Core.Bool.{Bool, true, false, not, cond}
 use mathlib.Core.Logic.{_⊎_, inl, inr}
 use native.Mathlib.Omega.{arith}
 use lib.Dec.{T, eqb}
 use lib.Ieee.{Float, binary64, add, ofBits}
 use lib.Ieee.Scale.{finite}
-use borrow.Author.Tests.{eqb-true, eqb-false}
+use borrow.Author.Tests.{eqb-true}
 use Rattle.rounding.proofs.Rounded.{add-finite}
 use Rattle.loops.specs.Cleared.{plusZero}
-use Rattle.kapitsa_math.specs.Vector.{dotOf, addOf, scaleOf, isFiniteOf}
-use Rattle.kapitsa_math.specs.Matrix.{mulVectorOf, finiteColumnsOf}
+use Rattle.kapitsa_math.specs.Vector.{dotOf, scaleOf}
 use Rattle.kapitsa_math.specs.declared.vector.Vec3.{Vec3}
 use Rattle.kapitsa_math.proofs.Finite.{FiniteVector, dot-finite, sum-finite, scaled-finite, product-finite}
 use Rattle.kapitsa_joint.specs.declared.row.RowJacobian.{RowJacobian}

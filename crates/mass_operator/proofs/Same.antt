@@ -1,11 +1,11 @@
 -- Systems that agree on their rows and masses have the same impulses, responses and values. Assumes nothing.
-use Prim.Native.Nat.{ℕ, zero, suc, _+_, _<_, _≤_}
-use mathlib.Core.Path.{_≡_, refl, sym, ap, _∙_}
+use Prim.Native.Nat.{ℕ, zero, suc, _<_}
+use mathlib.Core.Path.{_≡_, refl, ap, _∙_}
 use native.Mathlib.Omega.{arith}
 use lib.Ieee.{Float}
 use Rattle.kapitsa_joint.specs.declared.row.RowJacobian.{RowJacobian}
 use Rattle.mass_operator.specs.System.{System}
-use Rattle.mass_operator.specs.Operator.{addRowOf, impulseAt, responseOf, responseAt, rowValueOf, valueAt}
+use Rattle.mass_operator.specs.Operator.{addRowOf, impulseAt, responseAt, valueAt}
 
 pub impulse-same : (j h : ℕ → RowJacobian) (x y : ℕ → Float) (b n : ℕ) → ((i : ℕ) → i < n → j i ≡ h i) → ((i : ℕ) → i < n → x i ≡ y i) → impulseAt j x b n ≡ impulseAt h y b n
 unfolding impulseAt

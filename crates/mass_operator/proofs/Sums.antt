@@ -1,12 +1,12 @@
--- Impulses in a slice while they are summed, row by row, and while the responses are put beside them. Assumes nothing.
-use Prim.Native.Nat.{ℕ, zero, suc, _+_, _*_, _<_, _≤_}
+-- Impulses in a slice while they are summed, row by row, and while the responses take their place. Assumes nothing.
+use Prim.Native.Nat.{ℕ, _+_, _*_, _<_, _≤_}
 use mathlib.Core.Path.{_≡_, refl, sym, ap, _∙_}
-use mathlib.Core.Bool.{Bool, true, false, not, cond}
+use mathlib.Core.Bool.{Bool, true, false, cond}
 use mathlib.Core.List.{List}
 use native.Mathlib.Nat.{add-zero, add-assoc}
 use native.Mathlib.Numerals.{add-one}
 use native.Mathlib.Omega.{arith}
-use lib.Dec.{T, eqb}
+use lib.Dec.{eqb}
 use lib.ListN.{length, getD, length-replicate, getD-replicate}
 use lib.Ieee.{Float, nan}
 use borrow.Author.Tests.{eqb-true, eqb-false}
@@ -14,10 +14,11 @@ use Rattle.loops.specs.Cleared.{plusZero, cleared}
 use Rattle.kapitsa_math.specs.Lent.{vecOf}
 use Rattle.kapitsa_math.specs.declared.vector.Vec3.{Vec3}
 use Rattle.kapitsa_joint.specs.Impulse.{impulseOf, putImpulseOf}
+use Rattle.kapitsa_joint.specs.Mass.{massOf}
 use Rattle.kapitsa_joint.specs.declared.row.RowJacobian.{RowJacobian}
 use Rattle.kapitsa_joint.specs.declared.impulse.GeneralizedImpulse.{GeneralizedImpulse}
 use Rattle.kapitsa_joint.proofs.Stored.{put-impulse-length, put-impulse-same, put-impulse-other}
-use Rattle.mass_operator.specs.Operator.{addImpulseOf, addRowOf, noImpulse, impulseAt}
+use Rattle.mass_operator.specs.Operator.{addImpulseOf, addRowOf, noImpulse, impulseAt, responseOf}
 use Rattle.mass_operator.specs.Lent.{Impulses, Summing, addedAt, addedRow}
 
 -- ---- an impulse that is put into the slice
@@ -81,26 +82,35 @@ one-more {j} {x} {bodies} {i} {l} h p q e = rw (e, add-one i) (record {
 pub all-rows : {j : ℕ → RowJacobian} {x : ℕ → Float} {bodies i n : ℕ} {l : List Float} → Summing j x bodies i l → i ≤ n → n ≤ i → Summing j x bodies n l
 all-rows {i = i} {n = n} h p q = let e : i ≡ n = omega arith in rw e at h
 
--- ---- one more body: the first i are g's
-pub record Placed (g : ℕ → GeneralizedImpulse) (bodies i : ℕ) (l : List Float) : Type 0 where
-  pub long : length l ≡ 6 * bodies
-  pub at : (b : ℕ) → b < i → impulseOf l b ≡ g b
+-- ---- one more body in place: the first i have their response, the others their impulse
+module _ (masses : List Float) where
+  abbrev turned : List Float → ℕ → GeneralizedImpulse
+  turned l b = responseOf (massOf masses b) (impulseOf l b)
 
-pub placed-none : (g : ℕ → GeneralizedImpulse) (bodies : ℕ) (l : List Float) → length l ≡ 6 * bodies → Placed g bodies 0 l
-placed-none g bodies l e = record { long = e; at = λ b h. absurd (omega arith) }
+  pub record Turned (bodies i : ℕ) (l₀ l : List Float) : Type 0 where
+    pub long : length l ≡ 6 * bodies
+    pub at : (b : ℕ) → b < i → impulseOf l b ≡ responseOf (massOf masses b) (impulseOf l₀ b)
+    pub rest : (b : ℕ) → i ≤ b → impulseOf l b ≡ impulseOf l₀ b
 
-pub placed-more : {g : ℕ → GeneralizedImpulse} {bodies i : ℕ} {l l′ : List Float} → Placed g bodies i l → i < bodies → l′ ≡ putImpulseOf l i (g i) → Placed g bodies (i + 1) l′
-placed-more {g} {bodies} {i} {l} h p e = rw e (record {
-  long = put-impulse-length l i (g i) ∙ h .long;
-  at = λ b t. put-at l i (g i) b (omega (arith, h .long)) ∙ go b t (eqb i b) (eqb-true i b) (eqb-false i b);
-})
-  where
-    go : (b : ℕ) → b < i + 1 → (t : Bool) → (t ≡ true → i ≡ b) → (t ≡ false → i ≡ b → ⊥) → cond t (g i) (impulseOf l b) ≡ g b
-    go b s true y n = ap g (y refl)
-    go b s false y n = h .at b (less b i s (n refl))
-      where
-        less : (b i : ℕ) → b < i + 1 → (i ≡ b → ⊥) → b < i
-        less b i s n = omega arith
+  pub turned-none : (bodies : ℕ) (l : List Float) → length l ≡ 6 * bodies → Turned bodies 0 l l
+  turned-none bodies l e = record { long = e; at = λ b h. absurd (omega arith); rest = λ b h. refl }
 
-pub placed-all : {g : ℕ → GeneralizedImpulse} {bodies i : ℕ} {l : List Float} → Placed g bodies i l → bodies ≤ i → Impulses g bodies l
-placed-all h p = record { long = h .long; at = λ b t. h .at b (omega arith) }
+  pub turned-more : {bodies i : ℕ} {l₀ l l′ : List Float} → Turned bodies i l₀ l → i < bodies → l′ ≡ putImpulseOf l i (responseOf (massOf masses i) (impulseOf l i)) → Turned bodies (i + 1) l₀ l′
+  turned-more {bodies} {i} {l₀} {l} h p e = rw e (record {
+    long = put-impulse-length l i (turned l i) ∙ h .long;
+    at = λ b t. put-at l i (turned l i) b (omega (arith, h .long)) ∙ go b t (eqb i b) (eqb-true i b) (eqb-false i b);
+    rest = λ b t. put-impulse-other l i (turned l i) b (apart b t) ∙ h .rest b (omega arith);
+  })
+    where
+      apart : (b : ℕ) → i + 1 ≤ b → i ≡ b → ⊥
+      apart b t q = absurd (omega arith)
+
+      less : (b i : ℕ) → b < i + 1 → (i ≡ b → ⊥) → b < i
+      less b i s n = omega arith
+
+      go : (b : ℕ) → b < i + 1 → (t : Bool) → (t ≡ true → i ≡ b) → (t ≡ false → i ≡ b → ⊥) → cond t (turned l i) (impulseOf l b) ≡ turned l₀ b
+      go b s true y n = let q : i ≡ b = y refl in ap (responseOf (massOf masses i)) (h .rest i (omega arith)) ∙ ap (turned l₀) q
+      go b s false y n = h .at b (less b i s (n refl))
+
+  pub turned-all : {bodies i : ℕ} {l₀ l : List Float} → Turned bodies i l₀ l → bodies ≤ i → Impulses (λ b. responseOf (massOf masses b) (impulseOf l₀ b)) bodies l
+  turned-all h p = record { long = h .long; at = λ b t. h .at b (omega arith) }

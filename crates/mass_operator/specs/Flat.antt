@@ -35,9 +35,9 @@ pub record Summed (j : ℕ → RowJacobian) (x : ℕ → Float) (rows bodies : �
   pub summed : impulses ≡ impulsesOf j x rows bodies
   pub answered : answer ≡ appliedOf (impulsesOf j x rows bodies)
 
--- document 01, refusal 16, "A number in the recurrence is not finite": of the operator's numbers, testing the product tests all (proofs/Overflow.antt)
-pub record Multiplied (s : System) (x : ℕ → Float) (answer : Applied) (impulses responses product : List Float) : Type 0 where
-  pub summed : impulses ≡ impulsesOf (s .jacobian) x (s .rows) (s .bodies)
+-- document 01, refusal 16, "A number in the recurrence is not finite": of the operator's numbers, testing the product tests all (proofs/Overflow.antt).
+-- The responses stand where the impulses stood.
+pub record Multiplied (s : System) (x : ℕ → Float) (answer : Applied) (responses product : List Float) : Type 0 where
   pub responded : responses ≡ responsesOf s x
   pub multiplied : product ≡ productOf s x
   pub answered : answer ≡ appliedOf (productOf s x)

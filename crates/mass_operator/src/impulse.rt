@@ -2,7 +2,6 @@
 ghost use mathlib.Core.Path.{_≡_};
 ghost use Prim.Native.Nat.{_+_, _*_, _≤_};
 ghost use lib.ListN.{length};
-ghost use Rattle.kapitsa_joint.specs.Impulse.{impulseOf, putImpulseOf};
 ghost use Rattle.compact_table.specs.Compact.{compactOf, Linked};
 ghost use Rattle.mass_operator.specs.Operator.{addImpulseOf};
 ghost use Rattle.mass_operator.specs.Flat.{coefficients, Summed};
@@ -14,12 +13,7 @@ use kapitsa_joint::GeneralizedImpulse;
 use kapitsa_joint::impulse_at;
 use kapitsa_joint::put_impulse;
 use kapitsa_math::Vec3;
-
-pub fn wide(x: u32) -> usize
-    ensures { λ r. ⌜ r ≡ x ⌝ }
-{
-    x as usize
-}
+use loops::wide;
 
 pub fn add_generalized_impulse(
     impulse: GeneralizedImpulse,

@@ -13,13 +13,13 @@ ghost use Rattle.mass_operator.specs.Lent.{Impulses, valueIn};
 use crate::finite::Applied;
 use crate::finite::test_finite;
 use crate::impulse::sum_impulses;
-use crate::impulse::wide;
 use compact_table::compact_at;
 use kapitsa_joint::GeneralizedImpulse;
 use kapitsa_joint::SolverMass;
 use kapitsa_joint::impulse_at;
 use kapitsa_joint::mass_at;
 use kapitsa_joint::put_impulse;
+use loops::wide;
 
 pub fn response(mass: SolverMass, impulse: GeneralizedImpulse) -> GeneralizedImpulse
     ensures { λ r. ⌜ r ≡ responseOf mass impulse ⌝ }
@@ -33,25 +33,22 @@ pub fn response(mass: SolverMass, impulse: GeneralizedImpulse) -> GeneralizedImp
     }
 }
 
-fn respond_at(masses: &[f64], b: usize, impulses: &[f64], responses: &mut [f64])
-    requires { ⌜ (10 * b + 10 ≤ length (now masses)) × (6 * b + 6 ≤ length (now impulses)) × (6 * b + 6 ≤ length (now responses)) ⌝ }
-    ensures { λ _. ⌜ now (responses .exit) ≡ putImpulseOf (now (responses .entry)) b (responseOf (massOf (now (masses .entry)) b) (impulseOf (now (impulses .entry)) b)) ⌝ }
+fn respond_at(masses: &[f64], b: usize, body_impulses: &mut [f64])
+    requires { ⌜ (10 * b + 10 ≤ length (now masses)) × (6 * b + 6 ≤ length (now «body_impulses»)) ⌝ }
+    ensures { λ _. ⌜ now («body_impulses» .exit) ≡ putImpulseOf (now («body_impulses» .entry)) b (responseOf (massOf (now (masses .entry)) b) (impulseOf (now («body_impulses» .entry)) b)) ⌝ }
 {
-    put_impulse(
-        responses,
-        b,
-        response(mass_at(masses, b), impulse_at(impulses, b)),
-    );
+    let responded = response(mass_at(masses, b), impulse_at(body_impulses, b));
+    put_impulse(body_impulses, b, responded);
 }
 
-// The response of every body to its impulse.
-fn respond(masses: &[f64], bodies: usize, impulses: &[f64], responses: &mut [f64])
-    requires { ⌜ (10 * bodies ≤ length (now masses)) × (length (now impulses) ≡ 6 * bodies) × (length (now responses) ≡ 6 * bodies) ⌝ }
-    ensures { λ _. ⌜ Impulses (λ b. responseOf (massOf (now (masses .entry)) b) (impulseOf (now (impulses .entry)) b)) bodies (now (responses .exit)) ⌝ }
+// The response of every body in place of its impulse.
+fn respond(masses: &[f64], bodies: usize, body_impulses: &mut [f64])
+    requires { ⌜ (10 * bodies ≤ length (now masses)) × (length (now «body_impulses») ≡ 6 * bodies) ⌝ }
+    ensures { λ _. ⌜ Impulses (λ b. responseOf (massOf (now (masses .entry)) b) (impulseOf (now («body_impulses» .entry)) b)) bodies (now («body_impulses» .exit)) ⌝ }
 {
     let mut b = 0;
     while b < bodies {
-        respond_at(masses, b, impulses, responses);
+        respond_at(masses, b, body_impulses);
         b += 1;
     }
 }
@@ -87,25 +84,24 @@ fn values(jacobians: &[f64], links: &[u32], bodies: usize, responses: &[f64], pr
     }
 }
 
-// J M^-1 J^T on `vector`. Impulses and responses are what the sums on the way come to.
+// J M^-1 J^T on `vector`, with six numbers a body to work in: impulses, then responses in their place.
 pub fn global_velocity_matrix_vector(
     jacobians: &[f64],
     links: &[u32],
     masses: &[f64],
     vector: &[f64],
     bodies: usize,
-    impulses: &mut [f64],
-    responses: &mut [f64],
+    body_impulses: &mut [f64],
     product: &mut [f64],
 ) -> Applied
     requires { ⌜ (12 * length (now vector) ≤ length (now jacobians)) × (2 * length (now vector) ≤ length (now links)) ⌝ }
-    requires { ⌜ (10 * bodies ≤ length (now masses)) × (length (now impulses) ≡ 6 * bodies) × (length (now responses) ≡ 6 * bodies) × (length (now product) ≡ length (now vector)) ⌝ }
+    requires { ⌜ (10 * bodies ≤ length (now masses)) × (length (now «body_impulses») ≡ 6 * bodies) × (length (now product) ≡ length (now vector)) ⌝ }
     requires { ⌜ Linked (now links) (length (now vector)) bodies ⌝ }
     ensures { λ r. ⌜ Multiplied (compactSystem (length (now (vector .entry))) bodies (now (jacobians .entry)) (now (links .entry)) (now (masses .entry))) (coefficients (now (vector .entry)))
-        r (now (impulses .exit)) (now (responses .exit)) (now (product .exit)) ⌝ }
+        r (now («body_impulses» .exit)) (now (product .exit)) ⌝ }
 {
-    sum_impulses(jacobians, links, vector, bodies, impulses);
-    respond(masses, bodies, impulses, responses);
-    values(jacobians, links, bodies, responses, product);
+    sum_impulses(jacobians, links, vector, bodies, body_impulses);
+    respond(masses, bodies, body_impulses);
+    values(jacobians, links, bodies, body_impulses, product);
     test_finite(product)
 }

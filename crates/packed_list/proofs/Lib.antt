@@ -1,2 +1,3 @@
--- Laws of the packed form.
+-- Laws of reading a list, and of its packed form.
+pub mod Read
 pub mod Packing

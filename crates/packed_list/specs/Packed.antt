@@ -1,4 +1,4 @@
--- Packed records. oracle/recorded/README.md: "A record of k words is ⌈k/4⌉ bytes of codes, then what the codes call for, word by word. Word i has the two bits 2·(i mod 4) and 2·(i mod 4)+1 of code byte ⌊i/4⌋". A byte past the end of the list counts as 0.
+-- Packed records. oracle/README.md: "A record of k words is ⌈k/4⌉ bytes of codes, then what the codes call for, word by word. Word i has the two bits 2·(i mod 4) and 2·(i mod 4)+1 of code byte ⌊i/4⌋". A byte past the end of the list counts as 0.
 use Prim.Native.Nat.{ℕ, zero, suc, _+_, _*_, _-_, _/_, _%_, _^_}
 use mathlib.Core.Bool.{cond}
 use mathlib.Core.List.{List}

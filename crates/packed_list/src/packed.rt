@@ -3,8 +3,8 @@ ghost use mathlib.Core.Path.{_≡_};
 ghost use Prim.Native.Nat.{_+_, _*_, _<_, _≤_};
 ghost use lib.ListN.{length};
 ghost use Rattle.packed_list.specs.Packed.{codeIn, codeAt, sizeOf, codedOf, beforeOf, recordOf, groupOf};
-use recorded_list::word;
-use recorded_list::words::half;
+use crate::words::half;
+use crate::words::word;
 
 // The code of the word k of four in a byte of codes.
 fn code_in(codes: u64, k: usize) -> u64

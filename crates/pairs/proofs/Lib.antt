@@ -1,4 +1,5 @@
 -- Laws of the pairs while they are gathered and valued.
+pub mod Parted
 pub mod Crosses
 pub mod Parts
 pub mod Firsts

@@ -13,7 +13,9 @@ use borrow.Author.Tests.{lt-ltb, le-ltb, not-true, not-false, ltb-true, ltb-fals
 use Rattle.loops.specs.Run.{check}
 use Rattle.sparse.specs.Kept.{start, Missing}
 use Rattle.pairs.specs.Pairs.{rowPairs, pairCount}
+use Rattle.pairs.specs.Pattern.{startsIn, columnsIn}
 use Rattle.pairs.specs.Gather.{sharesIn, anyShare, eightApart, shareIn, triedOf, triedColumns, Begin, Part, RowPart, RowDone, Stored, Gathering}
+use Rattle.pairs.proofs.Parted.{restOf, withRest, starts-long, columns-long, starts-set, columns-stay, columns-lent, starts-stay, columns-come}
 use Rattle.pairs.specs.declared.pattern.Gathered.{Gathered}
 use Rattle.pairs.specs.declared.pattern.Gathered.the-variants.{Done, Full}
 
@@ -243,9 +245,9 @@ row-done links columns₀ columns i first p j room h l l′ = let e : j ≡ i = 
 
 -- ---- rows behind one another
 module _ {share : ℕ → ℕ → Bool} where
-  pub stored-none : (starts columns : List ℕ) (n : ℕ) → length starts ≡ n + 1 → Stored share (set starts 0 0) columns 0 0
+  stored-none : (starts columns : List ℕ) → 0 < length starts → Stored share (set starts 0 0) columns 0 0
   unfolding pairCount
-  stored-none starts columns n l = let e = getD-set-same starts 0 0 0 (omega arith) in record {
+  stored-none starts columns l = let e = getD-set-same starts 0 0 0 l in record {
     begin = e;
     last = e;
     order = λ x y p q. let ex : x ≡ y = omega arith in rw ex (omega arith);
@@ -284,19 +286,28 @@ module _ {share : ℕ → ℕ → Bool} where
       parts x lt (no z) = rw (old x lt, old (x + 1) (omega arith))
           (part-frame columns′ (h .parts x (omega arith)) (λ q q2. r .before q (omega (arith, h .order (x + 1) i (omega arith) (omega arith), h .last))))
 
-  module _ (starts columns columns′ : List ℕ) (i p room : ℕ) (r : Gathered) (h : Stored share starts columns i p) (d : RowDone r share columns columns′ i p room) where
-    pub rows-more : (starts′ : List ℕ) (q : ℕ) → i + 1 < length starts → starts′ ≡ set starts (i + 1) q → r ≡ Done q → Stored share starts′ columns′ (i + 1) q
-    rows-more starts′ q l e t = rw e (stored-more h (d .done q t) l)
+  -- ---- the ways through `gather_rows`; w is n in 64 bits
+  pub rows-none : (n room : ℕ) (pattern : List ℕ) → length pattern ≡ n + 1 + room → Stored share (startsIn n (set pattern 0 0)) (columnsIn n (set pattern 0 0)) 0 0
+  rows-none n room pattern long =
+      rw (starts-set n 0 0 pattern (omega arith), columns-stay n 0 0 pattern (omega arith)) (stored-none (startsIn n pattern) (columnsIn n pattern) (omega (arith, starts-long n pattern (omega arith))))
 
-    pub rows-full : (n : ℕ) → i < n → r ≡ Full → Gathering Full share starts columns′ n room
-    unfolding pairCount
-    rows-full n l t = record {
-      done = λ k u. absurd (let v : _≡_ {A = ℕ} 0 1 = cc in omega arith);
-      full = λ _. omega (arith, d .full t, h .counted, count-mono share (suc i) n (omega arith));
-    }
+  module _ (n w i p room : ℕ) (ew : w ≡ n) (pattern : List ℕ) (h : Stored share (startsIn n pattern) (columnsIn n pattern) i p) (long : length pattern ≡ n + 1 + room) where
+    pub rows-within : p ≤ room
+    rows-within = omega (arith, h .room, columns-long n room pattern long)
 
-  pub gather-on : (r : Gathered) (starts columns : List ℕ) (i room q : ℕ) → Gathering r share starts columns i room → r ≡ Done q → Stored share starts columns i q
-  gather-on r starts columns i room q h t = h .done q t
+    module _ (columns : List ℕ) (r : Gathered) (d : RowDone r share (restOf (w + 1) pattern) columns i p room) where
+      pub rows-more : (pattern′ : List ℕ) (q : ℕ) → i < n → pattern′ ≡ set (withRest (w + 1) pattern columns) (i + 1) q → r ≡ Done q → Stored share (startsIn n pattern′) (columnsIn n pattern′) (i + 1) q
+      rows-more pattern′ q l e t =
+          let row : RowPart share (columnsIn n pattern) columns i p q i = rw (columns-lent w n ew pattern) at (d .done q t) in
+          rw (e, starts-set n (i + 1) q (withRest (w + 1) pattern columns) (omega arith), columns-stay n (i + 1) q (withRest (w + 1) pattern columns) (omega arith), starts-stay w n ew pattern columns (omega arith), columns-come w n ew pattern columns (omega arith))
+          (stored-more h row (omega (arith, starts-long n pattern (omega arith))))
+
+      pub rows-full : (starts′ columns′ : List ℕ) → i < n → r ≡ Full → Gathering Full share starts′ columns′ n room
+      unfolding pairCount
+      rows-full starts′ columns′ l t = record {
+        done = λ k u. absurd (let v : _≡_ {A = ℕ} 0 1 = cc in omega arith);
+        full = λ _. omega (arith, d .full t, h .counted, count-mono share (suc i) n (omega arith));
+      }
 
   pub rows-end : (starts columns : List ℕ) (i n room p : ℕ) → Stored share starts columns i p → i ≤ n → n ≤ i → Gathering (Done p) share starts columns n room
   rows-end starts columns i n room p h l l′ = let e : i ≡ n = omega arith in record {

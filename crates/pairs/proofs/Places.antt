@@ -8,30 +8,31 @@ use native.Mathlib.Decide.{ℕ-discrete, decLe}
 use native.Mathlib.Numerals.{add-one}
 use native.Mathlib.Omega.{arith}
 use lib.Dec.{eqb, ltb}
-use lib.ListN.{getD, set, length, List·getD-eq-default}
+use lib.ListN.{getD, set, length, take, List·getD-eq-default}
 use lib.Seq.{getD-set-same, getD-set-other}
 use lib.Ieee.{Float, nan}
 use lib.Ieee.Scale.{finite}
-use borrow.Author.Tests.{lt-ltb, le-ltb, not-true, not-false, ltb-true, ltb-false}
+use borrow.Author.Tests.{lt-ltb, le-ltb, not-true, not-false, ltb-false}
 use Rattle.loops.specs.Run.{check}
 use Rattle.loops.specs.Every.{every}
 use Rattle.loops.specs.Cleared.{clearedWords}
 use Rattle.loops.proofs.Every.{every-iff}
 use Rattle.kapitsa_math.specs.declared.vector.Vec3.{Vec3}
-use Rattle.kapitsa_joint.specs.Mass.{massOf, crossOf}
+use Rattle.kapitsa_joint.specs.Mass.{massOf}
 use Rattle.kapitsa_joint.specs.declared.row.RowJacobian.{RowJacobian}
 use Rattle.kapitsa_joint.specs.declared.mass.SolverMass.{SolverMass}
 use Rattle.compact_table.specs.Compact.{compactOf}
 use Rattle.mass_operator.specs.System.{System, compactSystem}
 use Rattle.sparse.specs.Triangle.{Sparse}
-use Rattle.sparse.specs.Kept.{start, Rising, Missing, Kept, Row, seek, pick, numbers}
+use Rattle.sparse.specs.Kept.{start, Kept, Row, seek, pick, numbers}
 use Rattle.sparse.proofs.Rows.{row-of, one-row, seek-found, seek-none, numbers-some}
 use Rattle.pairs.specs.Pairs.{sharesOf, patternOf, rowPairs, pairCount, pairLimit, pairRoom, armOf, crossAt, sumOf, pairOf, pairsOf, finitePair, finitePairs}
-use Rattle.pairs.specs.Gather.{numberOf, valueIn, Valued, sharesIn, shareIn, Part, Stored, Gathering}
+use Rattle.pairs.specs.Pattern.{startsIn, columnsIn}
+use Rattle.pairs.specs.Gather.{numberOf, valueIn, Valued, sharesIn, shareIn, Stored, Gathering}
 use Rattle.pairs.specs.Answers.{pairedOf, Collected, PairsHeld}
+use Rattle.pairs.proofs.Parted.{restOf, starts-long, columns-long, starts-lent, columns-lent, starts-cleared, columns-cleared}
 use Rattle.pairs.specs.declared.pattern.Gathered.{Gathered}
 use Rattle.pairs.specs.declared.pattern.Gathered.the-variants as gathered
-use Rattle.pairs.specs.declared.gathering.Paired.{Paired}
 use Rattle.pairs.specs.declared.gathering.Paired.the-variants as paired
 
 -- ---- values, place by place
@@ -256,37 +257,52 @@ past-limit share n h = go (ltb pairLimit (n * (n - 1) / 2)) h
     go true b = b
     go false b = let f = few share n in absurd (omega arith)
 
--- ---- the ways through `pairs`
-module _ (n bodies : ℕ) (jacobians : List Float) (links : List ℕ) (masses : List Float) (starts columns : List ℕ) (room : ℕ) (r : Gathered)
-    (g : Gathering r (shareIn links) starts columns n room) (er : room ≡ length columns) (ec : length columns ≡ pairRoom n) where
+-- ---- `fill`; w is n in 64 bits
+pub valued-lent : (w n : ℕ) → w ≡ n → (value : ℕ → ℕ → Float) (pattern : List ℕ) (values : List Float) → Valued value (take (w + 1) pattern) (restOf (w + 1) pattern) values (start (take (w + 1) pattern) w)
+    → Valued value (startsIn n pattern) (columnsIn n pattern) values (start (startsIn n pattern) n)
+valued-lent w n ew value pattern values h = rw (starts-lent w n ew pattern, columns-lent w n ew pattern, ew) at h
+
+-- ---- the ways through `pairs`; pattern₀ is the pattern at entry
+module _ {share : ℕ → ℕ → Bool} (n : ℕ) (pattern : List ℕ) (room : ℕ) (r : Gathered) (g : Gathering r share (startsIn n pattern) (columnsIn n pattern) n room)
+    (pattern₀ : List ℕ) (same-long : length pattern ≡ length pattern₀) (long : length pattern₀ ≡ n + 1 + pairRoom n) (c : ℕ) (t : r ≡ gathered.Done c) where
+  pub pairs-kept : Kept (startsIn n pattern) (columnsIn n pattern)
+  pairs-kept = stored-kept (g .done c t) (starts-long n pattern (omega arith))
+
+  pub pairs-room : c ≤ pairRoom n
+  pairs-room = omega (arith, g .done c t .room, columns-long n (pairRoom n) pattern (omega arith))
+
+module _ (n bodies : ℕ) (jacobians : List Float) (links : List ℕ) (masses : List Float) (pattern : List ℕ) (room : ℕ) (r : Gathered)
+    (g : Gathering r (shareIn links) (startsIn n pattern) (columnsIn n pattern) n room) (er : room ≡ pairRoom n)
+    (pattern₀ : List ℕ) (same-long : length pattern ≡ length pattern₀) (long : length pattern₀ ≡ n + 1 + pairRoom n) where
   same : patternOf (compactSystem n bodies jacobians links masses) ≡ shareIn links
   unfolding patternOf sharesOf shareIn sharesIn compactOf
   same = fun-ext (λ i. fun-ext (λ j. refl))
 
-  pub pairs-ten : (starts′ columns′ : List ℕ) (values : List Float) → r ≡ gathered.Full → length starts ≡ n + 1 → starts′ ≡ clearedWords starts → columns′ ≡ clearedWords columns
-      → PairsHeld (compactSystem n bodies jacobians links masses) (paired.Refused 10) values starts′ columns′ values
+  pub pairs-ten : (pattern′ : List ℕ) (values : List Float) → r ≡ gathered.Full → pattern′ ≡ clearedWords pattern
+      → PairsHeld (compactSystem n bodies jacobians links masses) (paired.Refused 10) values (startsIn n pattern′) (columnsIn n pattern′) values
   unfolding pairedOf
-  pairs-ten starts′ columns′ values t l es eo = record {
+  pairs-ten pattern′ values t e = record {
     answered = rw (same, lt-ltb pairLimit (pairCount (shareIn links) n) (past-limit (shareIn links) n (omega (arith, g .full t))));
     ten = λ _. refl;
-    tenWords = λ _. (es ∙ rw l, eo ∙ rw ec);
+    tenWords = λ _. (starts-cleared n (pairRoom n) pattern pattern′ (omega arith) e, columns-cleared n (pairRoom n) pattern pattern′ (omega arith) e);
     twelve = λ e. absurd (let z : _≡_ {A = ℕ} 10 12 = cc in omega arith);
     done = λ c e. absurd (let z : _≡_ {A = ℕ} 0 1 = cc in omega arith);
   }
 
-  module _ (values₀ values : List Float) (w c : ℕ) (b : Bool) (t : r ≡ gathered.Done c) (l : length starts ≡ n + 1) (ew : w ≡ n)
-      (v : Valued (valueIn jacobians links masses) starts columns values (start starts w)) (eb : b ≡ every (λ q. finite (getD values q nan)) c) where
-    held : Collected (compactSystem n bodies jacobians links masses) starts columns values
-    held = collected n bodies jacobians links masses starts columns values c (g .done c t) l (rw ew at v)
+  module _ (values₀ values : List Float) (c : ℕ) (b : Bool) (t : r ≡ gathered.Done c)
+      (v : Valued (valueIn jacobians links masses) (startsIn n pattern) (columnsIn n pattern) values (start (startsIn n pattern) n)) (eb : b ≡ every (λ q. finite (getD values q nan)) c) where
+    held : Collected (compactSystem n bodies jacobians links masses) (startsIn n pattern) (columnsIn n pattern) values
+    held = collected n bodies jacobians links masses (startsIn n pattern) (columnsIn n pattern) values c (g .done c t) (starts-long n pattern (omega arith)) v
 
     few-enough : ltb pairLimit (pairCount (shareIn links) n) ≡ false
-    few-enough = let h = g .done c t in le-ltb pairLimit (pairCount (shareIn links) n) (within-limit (shareIn links) n (omega (arith, h .counted, h .room)))
+    few-enough = le-ltb pairLimit (pairCount (shareIn links) n) (within-limit (shareIn links) n (omega (arith, g .done c t .counted, pairs-room n pattern room r g pattern₀ same-long long c t)))
 
     judged : b ≡ finitePairs (pairsOf (compactSystem n bodies jacobians links masses)) n
-    judged = let h = g .done c t in
-        eb ∙ ap (every (λ q. finite (getD values q nan))) (sym (h .last)) ∙ finite-same (pairsOf (compactSystem n bodies jacobians links masses)) starts columns values n (held .kept) l (held .pairs)
+    judged =
+        eb ∙ ap (every (λ q. finite (getD values q nan))) (sym (g .done c t .last))
+        ∙ finite-same (pairsOf (compactSystem n bodies jacobians links masses)) (startsIn n pattern) (columnsIn n pattern) values n (pairs-kept n pattern room r g pattern₀ same-long long c t) (starts-long n pattern (omega arith)) (held .pairs)
 
-    pub pairs-twelve : not b ≡ true → PairsHeld (compactSystem n bodies jacobians links masses) (paired.Refused 12) values₀ starts columns values
+    pub pairs-twelve : not b ≡ true → PairsHeld (compactSystem n bodies jacobians links masses) (paired.Refused 12) values₀ (startsIn n pattern) (columnsIn n pattern) values
     unfolding pairedOf check
     pairs-twelve f = record {
       answered = rw (same, few-enough, ← judged, not-true b f);
@@ -296,7 +312,7 @@ module _ (n bodies : ℕ) (jacobians : List Float) (links : List ℕ) (masses : 
       done = λ c e. absurd (let z : _≡_ {A = ℕ} 0 1 = cc in omega arith);
     }
 
-    pub pairs-done : not b ≡ false → PairsHeld (compactSystem n bodies jacobians links masses) (paired.Done c) values₀ starts columns values
+    pub pairs-done : not b ≡ false → PairsHeld (compactSystem n bodies jacobians links masses) (paired.Done c) values₀ (startsIn n pattern) (columnsIn n pattern) values
     unfolding pairedOf check
     pairs-done f = record {
       answered = rw (same, few-enough, ← judged, not-false b f, ← (g .done c t .counted));

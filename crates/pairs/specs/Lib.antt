@@ -1,3 +1,4 @@
 pub mod Pairs
+pub mod Pattern
 pub mod Gather
 pub mod Answers

@@ -3,7 +3,6 @@ ghost use mathlib.Core.Path.{_≡_};
 ghost use Prim.Native.Nat.{_+_, _*_, _<_, _≤_};
 ghost use lib.ListN.{length};
 ghost use Rattle.kapitsa_joint.specs.Mass.{massOf, crossOf};
-ghost use Rattle.compact_table.specs.Compact.{compactOf};
 ghost use Rattle.compact_table.specs.Compact.{Linked};
 ghost use Rattle.pairs.specs.Pairs.{armOf, crossAt, sumOf, pairOf};
 ghost use Rattle.pairs.specs.Gather.{crossedOut, numberOf, valueIn};
@@ -12,7 +11,7 @@ use kapitsa_joint::RowJacobian;
 use kapitsa_joint::SolverMass;
 use kapitsa_joint::mass_at;
 use kapitsa_math::Vec3;
-use sparse::wide;
+use loops::wide;
 
 // The number of SolverMass::cross, untested: pair values are tested when all are there.
 pub fn cross_value(

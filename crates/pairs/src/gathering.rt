@@ -4,51 +4,75 @@ ghost use Prim.Native.Nat.{_+_, _*_, _≤_};
 ghost use lib.ListN.{length};
 ghost use Rattle.mass_operator.specs.System.{compactSystem};
 ghost use Rattle.compact_table.specs.Compact.{Linked};
+ghost use Rattle.sparse.specs.Kept.{start, Kept};
 ghost use Rattle.pairs.specs.Pairs.{pairRoom};
+ghost use Rattle.pairs.specs.Pattern.{startsIn, columnsIn};
+ghost use Rattle.pairs.specs.Gather.{valueIn, Valued};
 ghost use Rattle.pairs.specs.Answers.{PairsHeld};
 use crate::pattern::Gathered;
 use crate::pattern::gather;
 use crate::values::fill_values;
 use crate::values::values_finite;
-use sparse::wide;
+use loops::wide;
 
 pub enum Paired {
     Done(u32),
     Refused(u32),
 }
 
-// Starts, columns and values of the pairs. The answer is their number, or refusal 10, with starts and columns cleared, or 12.
+// The values of the pairs whose starts and columns are in `pattern`.
+fn fill(
+    jacobians: &[f64],
+    links: &[u32],
+    masses: &[f64],
+    rows: u32,
+    bodies: usize,
+    pattern: &[u32],
+    values: &mut [f64],
+)
+    requires { ⌜ (12 * rows ≤ length (now jacobians)) × (2 * rows ≤ length (now links)) × (10 * bodies ≤ length (now masses)) ⌝ }
+    requires { ⌜ Linked (now links) rows bodies ⌝ }
+    requires { ⌜ length (now pattern) ≡ rows + 1 + length (now values) ⌝ }
+    requires { ⌜ Kept (startsIn rows (now pattern)) (columnsIn rows (now pattern)) ⌝ }
+    ensures { λ _. ⌜ Valued (valueIn (now (jacobians .entry)) (now (links .entry)) (now (masses .entry))) (startsIn rows (now (pattern .entry))) (columnsIn rows (now (pattern .entry))) (now (values .exit))
+        (start (startsIn rows (now (pattern .entry))) rows) ⌝ }
+{
+    let n = wide(rows);
+    let ends = n + 1;
+    fill_values(
+        jacobians,
+        links,
+        masses,
+        n,
+        bodies,
+        &pattern[..ends],
+        &pattern[ends..],
+        values,
+    );
+}
+
+// Starts and columns of the pairs in `pattern`, and their values. The answer is their number, or refusal 10, with the pattern cleared, or 12.
 pub fn pairs(
     jacobians: &[f64],
     links: &[u32],
     masses: &[f64],
     rows: u32,
     bodies: usize,
-    starts: &mut [u32],
-    columns: &mut [u32],
+    pattern: &mut [u32],
     values: &mut [f64],
     room: u32,
 ) -> Paired
     requires { ⌜ (12 * rows ≤ length (now jacobians)) × (2 * rows ≤ length (now links)) × (10 * bodies ≤ length (now masses)) ⌝ }
     requires { ⌜ Linked (now links) rows bodies ⌝ }
-    requires { ⌜ (length (now starts) ≡ rows + 1) × (length (now columns) ≡ pairRoom rows) × (length (now values) ≡ length (now columns)) × (room ≡ length (now columns)) ⌝ }
-    ensures { λ r. ⌜ PairsHeld (compactSystem rows bodies (now (jacobians .entry)) (now (links .entry)) (now (masses .entry))) r (now (values .entry)) (now (starts .exit)) (now (columns .exit)) (now (values .exit)) ⌝ }
+    requires { ⌜ (length (now pattern) ≡ rows + 1 + pairRoom rows) × (length (now values) ≡ pairRoom rows) × (room ≡ pairRoom rows) ⌝ }
+    ensures { λ r. ⌜ PairsHeld (compactSystem rows bodies (now (jacobians .entry)) (now (links .entry)) (now (masses .entry))) r (now (values .entry))
+        (startsIn rows (now (pattern .exit))) (columnsIn rows (now (pattern .exit))) (now (values .exit)) ⌝ }
 {
-    let Gathered::Done(count) = gather(links, starts, columns, room, rows) else {
-        loops::clear_words(starts);
-        loops::clear_words(columns);
+    let Gathered::Done(count) = gather(links, pattern, room, rows) else {
+        loops::clear_words(pattern);
         return Paired::Refused(10);
     };
-    fill_values(
-        jacobians,
-        links,
-        masses,
-        wide(rows),
-        bodies,
-        starts,
-        columns,
-        values,
-    );
+    fill(jacobians, links, masses, rows, bodies, pattern, values);
     if !values_finite(values, count) {
         return Paired::Refused(12);
     }

@@ -1,10 +1,11 @@
-// The pattern of the pairs: row by row, columns ascending, by testing for a shared body every earlier row that can have one.
+// The pattern of the pairs, starts and columns in one slice: row by row, columns ascending, by testing for a shared body every earlier row that can have one.
 ghost use mathlib.Core.Path.{_≡_};
 ghost use Prim.Native.Nat.{_+_, _*_, _<_, _≤_};
 ghost use lib.ListN.{length};
+ghost use Rattle.pairs.specs.Pattern.{startsIn, columnsIn};
 ghost use Rattle.pairs.specs.Gather.{sharesIn, anyShare, eightApart, shareIn, triedOf, triedColumns, FirstNoted, Firsts, Begin, RowDone, Gathering};
+use loops::wide;
 use sparse::put;
-use sparse::wide;
 
 pub enum Gathered {
     Done(u32),
@@ -140,21 +141,21 @@ fn first_column(links: &[u32], firsts: &mut [u32], i: u32) -> u32
 // The same as `gather`, with a place in `firsts` for each body whose first row is noted.
 fn gather_rows(
     links: &[u32],
-    starts: &mut [u32],
-    columns: &mut [u32],
+    pattern: &mut [u32],
     room: u32,
     firsts: &mut [u32],
     n: u32,
 ) -> Gathered
-    requires { ⌜ (2 * n ≤ length (now links)) × (room ≡ length (now columns)) × (length (now starts) ≡ n + 1) ⌝ }
-    ensures { λ r. ⌜ Gathering r (shareIn (now (links .entry))) (now (starts .exit)) (now (columns .exit)) n room ⌝ }
+    requires { ⌜ (2 * n ≤ length (now links)) × (length (now pattern) ≡ n + 1 + room) ⌝ }
+    ensures { λ r. ⌜ Gathering r (shareIn (now (links .entry))) (startsIn n (now (pattern .exit))) (columnsIn n (now (pattern .exit))) n room ⌝ }
 {
-    starts[0] = 0;
+    pattern[0] = 0;
+    let ends = wide(n) + 1;
     let mut p = 0;
     let mut i = 0;
     while i < n {
         let from = first_column(links, firsts, i);
-        match gather_row(links, columns, room, i, from, p) {
+        match gather_row(links, &mut pattern[ends..], room, i, from, p) {
             Gathered::Done(q) => {
                 p = q;
             }
@@ -163,7 +164,7 @@ fn gather_rows(
             }
         }
         i += 1;
-        put(starts, i, p);
+        put(pattern, i, p);
     }
     Gathered::Done(p)
 }
@@ -178,14 +179,14 @@ const BODIES: usize = 256;
 const NO_ROW: u32 = 4294967295;
 
 // The pairs of `n` rows. The answer is their number, or Full where there are more than `room`.
-pub fn gather(links: &[u32], starts: &mut [u32], columns: &mut [u32], room: u32, n: u32) -> Gathered
-    requires { ⌜ (2 * n ≤ length (now links)) × (room ≡ length (now columns)) × (length (now starts) ≡ n + 1) ⌝ }
-    ensures { λ r. ⌜ Gathering r (shareIn (now (links .entry))) (now (starts .exit)) (now (columns .exit)) n room ⌝ }
+pub fn gather(links: &[u32], pattern: &mut [u32], room: u32, n: u32) -> Gathered
+    requires { ⌜ (2 * n ≤ length (now links)) × (length (now pattern) ≡ n + 1 + room) ⌝ }
+    ensures { λ r. ⌜ Gathering r (shareIn (now (links .entry))) (startsIn n (now (pattern .exit))) (columnsIn n (now (pattern .exit))) n room ⌝ }
 {
     if n < FEW_ROWS {
         let mut none: [u32; 0] = [0; 0];
-        return gather_rows(links, starts, columns, room, &mut none, n);
+        return gather_rows(links, pattern, room, &mut none, n);
     }
     let mut firsts: [u32; BODIES] = [NO_ROW; BODIES];
-    gather_rows(links, starts, columns, room, &mut firsts, n)
+    gather_rows(links, pattern, room, &mut firsts, n)
 }

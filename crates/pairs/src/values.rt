@@ -9,10 +9,10 @@ ghost use Rattle.compact_table.specs.Compact.{Linked};
 ghost use Rattle.sparse.specs.Kept.{start, Kept};
 ghost use Rattle.pairs.specs.Gather.{valueIn, Valued};
 use crate::cross::value_at;
+use loops::wide;
 use sparse::earlier;
 use sparse::number;
 use sparse::row;
-use sparse::wide;
 use sparse::write;
 
 // The values of row `i`.

@@ -1,3 +1,2 @@
 -- Laws of the position solve.
-pub mod Roomy
 pub mod Entry

@@ -1,17 +1,18 @@
 // The position solve over lent tables: solve_position_pcg_prepared of pcg.rs, with every refusal of document 01.
 ghost use Rattle.kapitsa_joint.specs.Table.{tableOf};
 ghost use Rattle.preconditioner.specs.Mode.{modeOf};
-ghost use Rattle.work_memory.specs.Lengths.{passes3, tableLengths, vectorLengths, factorLengths};
+ghost use Rattle.work_memory.specs.Work.{workMemory};
+ghost use Rattle.work_memory.specs.Lengths.{passes3};
 ghost use Rattle.pcg.specs.Solved.{Solved};
-use crate::counted::count_and_clear;
+use joint_refusals::counts_fit;
 use kapitsa_joint::JointTolerance;
 use position_delivery::PositionPcg;
-use position_delivery::finish_counted;
-use work_memory::FactorLengths;
-use work_memory::TableLengths;
-use work_memory::VectorLengths;
-use work_memory::clear_table;
-use work_memory::lengths_fit;
+use position_delivery::deliver;
+use position_steps::count_steps;
+use preconditioner::mode_of;
+use work_memory::factor_fits;
+use work_memory::table_fits;
+use work_memory::vectors_fit;
 
 // Solution, impulses and accumulated multipliers are written only where the answer is accepted; the work memory is +0.0 (integers 0) afterwards, except after refusal 3, which writes nothing.
 pub fn solve_position_pcg_prepared(
@@ -27,72 +28,57 @@ pub fn solve_position_pcg_prepared(
     impulses: &mut [f64],
     jacobians: &mut [f64],
     links: &mut [u32],
-    owners: &mut [u32],
+    tolerances: &mut [f64],
     diagonal: &mut [f64],
     residual: &mut [f64],
     pending: &mut [f64],
-    preconditioned: &mut [f64],
     direction: &mut [f64],
     product: &mut [f64],
     body_impulses: &mut [f64],
-    body_responses: &mut [f64],
-    starts: &mut [u32],
-    columns: &mut [u32],
+    pattern: &mut [u32],
+    order: &mut [u32],
     values: &mut [f64],
-    pivots: &mut [f64],
-    marks: &mut [u32],
-    heads: &mut [u32],
-    nexts: &mut [u32],
-    homes: &mut [u32],
-    blocks: &mut [f64],
 ) -> PositionPcg
-    ensures { λ r. ⌜ Solved (passes3 rows bodies mode (tableLengths (now (numbers .entry)) (now (words .entry)) (now (masses .entry)) (now (solution .entry)) (now (impulses .entry)))
-        (vectorLengths (now (jacobians .entry)) (now (links .entry)) (now (owners .entry)) (now (diagonal .entry)) (now (residual .entry)) (now (pending .entry)) (now (preconditioned .entry)) (now (direction .entry)) (now (product .entry)) (now («body_impulses» .entry)) (now («body_responses» .entry)))
-        (factorLengths (now (starts .entry)) (now (columns .entry)) (now (values .entry)) (now (pivots .entry)) (now (marks .entry)) (now (heads .entry)) (now (nexts .entry)) (now (homes .entry)) (now (blocks .entry))))
+    ensures { λ r. ⌜ Solved (passes3 rows bodies mode (now (numbers .entry)) (now (words .entry)) (now (masses .entry)) (now (solution .entry)) (now (impulses .entry)) (workMemory (now (jacobians .entry)) (now (links .entry)) (now (tolerances .entry)) (now (diagonal .entry)) (now (residual .entry)) (now (pending .entry)) (now (direction .entry)) (now (product .entry)) (now («body_impulses» .entry)) (now (pattern .entry)) (now (order .entry)) (now (values .entry))))
         (tableOf rows bodies (now (numbers .entry)) (now (words .entry)) (now (masses .entry)) tolerance) (modeOf mode) limit rows
         record { numbers = now (numbers .entry); solution = now (solution .entry); impulses = now (impulses .entry) } record { numbers = now (numbers .exit); solution = now (solution .exit); impulses = now (impulses .exit) } r
-        record { steps = record { owners = now (owners .entry); diagonal = now (diagonal .entry); preconditioned = now (preconditioned .entry); direction = now (direction .entry); product = now (product .entry); bodyResponses = now («body_responses» .entry); starts = now (starts .entry); columns = now (columns .entry); values = now (values .entry); pivots = now (pivots .entry); marks = now (marks .entry); heads = now (heads .entry); nexts = now (nexts .entry); homes = now (homes .entry); blocks = now (blocks .entry) }; table = record { jacobians = now (jacobians .entry); links = now (links .entry); residual = now (residual .entry); pending = now (pending .entry); bodyImpulses = now («body_impulses» .entry) } }
-        record { steps = record { owners = now (owners .exit); diagonal = now (diagonal .exit); preconditioned = now (preconditioned .exit); direction = now (direction .exit); product = now (product .exit); bodyResponses = now («body_responses» .exit); starts = now (starts .exit); columns = now (columns .exit); values = now (values .exit); pivots = now (pivots .exit); marks = now (marks .exit); heads = now (heads .exit); nexts = now (nexts .exit); homes = now (homes .exit); blocks = now (blocks .exit) }; table = record { jacobians = now (jacobians .exit); links = now (links .exit); residual = now (residual .exit); pending = now (pending .exit); bodyImpulses = now («body_impulses» .exit) } } ⌝ }
+        (workMemory (now (jacobians .entry)) (now (links .entry)) (now (tolerances .entry)) (now (diagonal .entry)) (now (residual .entry)) (now (pending .entry)) (now (direction .entry)) (now (product .entry)) (now («body_impulses» .entry)) (now (pattern .entry)) (now (order .entry)) (now (values .entry)))
+        (workMemory (now (jacobians .exit)) (now (links .exit)) (now (tolerances .exit)) (now (diagonal .exit)) (now (residual .exit)) (now (pending .exit)) (now (direction .exit)) (now (product .exit)) (now («body_impulses» .exit)) (now (pattern .exit)) (now (order .exit)) (now (values .exit))) ⌝ }
 {
-    if !lengths_fit(
-        rows,
-        bodies,
-        mode,
-        TableLengths {
-            numbers: numbers.len(),
-            words: words.len(),
-            masses: masses.len(),
-            solution: solution.len(),
-            impulses: impulses.len(),
-        },
-        VectorLengths {
-            jacobians: jacobians.len(),
-            links: links.len(),
-            owners: owners.len(),
-            diagonal: diagonal.len(),
-            residual: residual.len(),
-            pending: pending.len(),
-            preconditioned: preconditioned.len(),
-            direction: direction.len(),
-            product: product.len(),
-            body_impulses: body_impulses.len(),
-            body_responses: body_responses.len(),
-        },
-        FactorLengths {
-            starts: starts.len(),
-            columns: columns.len(),
-            values: values.len(),
-            pivots: pivots.len(),
-            marks: marks.len(),
-            heads: heads.len(),
-            nexts: nexts.len(),
-            homes: homes.len(),
-            blocks: blocks.len(),
-        },
-    ) {
+    let fits = counts_fit(rows, bodies, mode)
+        & table_fits(
+            rows,
+            bodies,
+            numbers.len(),
+            words.len(),
+            masses.len(),
+            solution.len(),
+            impulses.len(),
+        )
+        & vectors_fit(
+            rows,
+            bodies,
+            jacobians.len(),
+            links.len(),
+            tolerances.len(),
+            residual.len(),
+            pending.len(),
+            direction.len(),
+            product.len(),
+            body_impulses.len(),
+        )
+        & factor_fits(
+            mode_of(mode),
+            rows,
+            diagonal.len(),
+            pattern.len(),
+            order.len(),
+            values.len(),
+        );
+    if !fits {
         return PositionPcg::Refused(3);
     }
-    let counted = count_and_clear(
+    let counted = count_steps(
         numbers,
         words,
         masses,
@@ -100,29 +86,21 @@ pub fn solve_position_pcg_prepared(
         bodies,
         tolerance,
         limit,
-        mode,
+        mode_of(mode),
         jacobians,
         links,
-        owners,
+        tolerances,
         diagonal,
         residual,
         pending,
-        preconditioned,
         direction,
         product,
         body_impulses,
-        body_responses,
-        starts,
-        columns,
+        pattern,
+        order,
         values,
-        pivots,
-        marks,
-        heads,
-        nexts,
-        homes,
-        blocks,
     );
-    let answer = finish_counted(
+    deliver(
         counted,
         limit,
         numbers,
@@ -133,12 +111,10 @@ pub fn solve_position_pcg_prepared(
         tolerance,
         jacobians,
         links,
-        pending,
         residual,
+        pending,
         body_impulses,
         solution,
         impulses,
-    );
-    clear_table(jacobians, links, residual, pending, body_impulses);
-    answer
+    )
 }

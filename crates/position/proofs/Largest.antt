@@ -1,4 +1,4 @@
--- What is told of a residual: a row's test, and the maxima over the first rows. Assumes nothing.
+-- What is told of a residual: a row's test, its tolerance, and the maxima over the first rows. Assumes nothing.
 use Prim.Native.Nat.{ℕ, _+_, _<_, _≤_}
 use mathlib.Core.Path.{_≡_, refl, ap, _∙_}
 use mathlib.Core.List.{List}
@@ -16,8 +16,12 @@ use Rattle.position.specs.Residual.{raisedBy, maximaOf}
 use Rattle.position.specs.declared.residual.Maxima.{Maxima}
 
 -- ---- `row_converged`
-pub row-meets : (tolerance : JointTolerance) (word : ℕ) (x s y : Float) (d : RowDimension) → s ≡ absolute x → d ≡ dimensionOf word → y ≡ toleranceOf tolerance d → le s y ≡ le (absolute x) (toleranceOf tolerance (dimensionOf word))
-row-meets tolerance word x s y d es ed ey = rw (es, ey, ed)
+pub row-meets : (x s y : Float) → s ≡ absolute x → le s y ≡ le (absolute x) y
+row-meets x s y es = rw es
+
+-- ---- `row_tolerance`
+pub tolerance-is : (tolerance : JointTolerance) (word : ℕ) (y : Float) (d : RowDimension) → d ≡ dimensionOf word → y ≡ toleranceOf tolerance d → y ≡ toleranceOf tolerance (dimensionOf word)
+tolerance-is tolerance word y d ed ey = ey ∙ rw ed
 
 -- ---- `raised`
 module _ (m : Maxima) (d : RowDimension) (size x : Float) where

@@ -5,3 +5,4 @@ pub mod Started
 pub mod Gains
 pub mod Largest
 pub mod Diagonal
+pub mod Same

@@ -12,12 +12,9 @@ use Rattle.loops.specs.Cleared.{plusZero}
 use Rattle.binary64.specs.Order.{absolute, minPositive}
 use Rattle.kapitsa_joint.specs.Row.{rowOf}
 use Rattle.kapitsa_joint.specs.Mass.{massOf, crossOf, diagonalOf}
-use Rattle.kapitsa_joint.specs.Table.{Table, tableOf}
-use Rattle.kapitsa_joint.specs.Tolerance.{dimensionOf, toleranceOf}
+use Rattle.kapitsa_joint.specs.Table.{Table, tableWith, tolerancesIn}
 use Rattle.kapitsa_joint.specs.declared.row.ConstraintRow.{ConstraintRow}
 use Rattle.kapitsa_joint.specs.declared.mass.SolverMass.{SolverMass}
-use Rattle.kapitsa_joint.specs.declared.tolerance.JointTolerance.{JointTolerance}
-use Rattle.kapitsa_joint.specs.declared.tolerance.RowDimension.{RowDimension}
 use Rattle.joint_refusals.specs.Refusals.{isValidOf}
 use Rattle.position.specs.Prepare.{one, rowDiagonal, startOf, passes8, isLow, passes9, rowJudged, preparedDiagonal, preparedResidual}
 
@@ -52,9 +49,9 @@ module _ (d residual tolerance : Float) (t : Bool) (et : t ≡ finite d) where
       judged-low g = rw (← et, not-false t h, l, ← es, g)
 
 -- ---- `prepare_row`
-module _ (rows bodies : ℕ) (numbers : List Float) (words : List ℕ) (masses : List Float) (tolerance : JointTolerance) (i : ℕ) where
+module _ (rows bodies : ℕ) (numbers : List Float) (words : List ℕ) (masses tolerances : List Float) (i : ℕ) where
   abbrev t : Table
-  t = tableOf rows bodies numbers words masses tolerance
+  t = tableWith rows bodies numbers words masses (tolerancesIn tolerances)
 
   abbrev rowPrepared : Run (Float × Float) ℕ
   rowPrepared = next (rowJudged t i) (λ _. going (preparedDiagonal t i, preparedResidual t i))
@@ -64,7 +61,7 @@ module _ (rows bodies : ℕ) (numbers : List Float) (words : List ℕ) (masses :
     unfolding rowJudged judge test check on
     row-seven h = rw (← ev, not-true v h)
 
-    pub row-on : (r : ConstraintRow) (d x : Float) (k : RowDimension) {o : Run (Float × Float) ℕ} → not v ≡ false → r ≡ rowOf numbers words i → d ≡ rowDiagonal (massOf masses) r → k ≡ dimensionOf (r .words .dimension) → x ≡ toleranceOf tolerance k
-        → diagonalJudged d (neg (r .scalars .error)) x ≡ o → rowPrepared ≡ o
+    pub row-on : (r : ConstraintRow) (d : Float) {o : Run (Float × Float) ℕ} → not v ≡ false → r ≡ rowOf numbers words i → d ≡ rowDiagonal (massOf masses) r
+        → diagonalJudged d (neg (r .scalars .error)) (tolerancesIn tolerances i) ≡ o → rowPrepared ≡ o
     unfolding rowJudged preparedDiagonal preparedResidual startOf judge test check on
-    row-on r d x k h er ed ek ex e = rw (← ev, not-false v h, ← er, ← ed, ← ek, ← ex) e
+    row-on r d h er ed e = rw (← ev, not-false v h, ← er, ← ed) e

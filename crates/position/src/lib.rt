@@ -1,14 +1,14 @@
 // The parts of the position solve beside its recurrence: step 0 with refusals 7 to 9, what is told of a residual, and what is delivered.
 pub mod multiplier; // multiplier.rt: the accumulated multipliers gain the solution
-pub mod owner; // owner.rt: the joint of each row, for the blocks
 pub mod prepare; // prepare.rt: diagonal and residual of step 0, with refusals 7 to 9
 pub mod residual; // residual.rt: tolerance and maxima
+pub mod tolerance; // tolerance.rt: the tolerance of each row
 
 pub use multiplier::add_multipliers;
 pub use multiplier::multipliers_finite;
-pub use owner::gather_owners;
 pub use prepare::Begun;
 pub use prepare::begin;
 pub use residual::Maxima;
 pub use residual::position_vector_converged;
 pub use residual::residual_maxima;
+pub use tolerance::gather_tolerances;

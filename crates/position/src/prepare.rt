@@ -8,17 +8,15 @@ ghost use Rattle.loops.specs.Run.{going, next};
 ghost use Rattle.loops.specs.Judge.{judge};
 ghost use Rattle.loops.specs.Cleared.{plusZero};
 ghost use Rattle.kapitsa_joint.specs.Mass.{massOf};
-ghost use Rattle.kapitsa_joint.specs.Table.{tableOf};
+ghost use Rattle.kapitsa_joint.specs.Table.{tableWith, tolerancesIn};
 ghost use Rattle.position.specs.Prepare.{one, rowDiagonal, passes8, isLow, passes9, rowJudged, preparedDiagonal, preparedResidual};
 ghost use Rattle.position.specs.Answers.{rowOut, BegunHeld};
 use joint_refusals::is_valid_at;
 use kapitsa_joint::ConstraintRow;
-use kapitsa_joint::JointTolerance;
-use kapitsa_joint::dimension;
 use kapitsa_joint::mass_at;
 use kapitsa_joint::row_at;
+use loops::wide;
 use pairs::cross_value;
-use sparse::wide;
 
 pub struct PreparedRow {
     pub diagonal: f64,
@@ -79,24 +77,19 @@ fn prepare_row(
     masses: &[f64],
     rows: usize,
     bodies: u32,
-    tolerance: JointTolerance,
+    tolerances: &[f64],
     i: usize,
 ) -> RowAnswer
-    requires { ⌜ (27 * rows ≤ length (now numbers)) × (8 * rows ≤ length (now words)) × (10 * bodies ≤ length (now masses)) × (i < rows) ⌝ }
-    ensures { λ r. ⌜ next (rowJudged (tableOf rows bodies (now (numbers .entry)) (now (words .entry)) (now (masses .entry)) tolerance) i)
-        (λ _. going (preparedDiagonal (tableOf rows bodies (now (numbers .entry)) (now (words .entry)) (now (masses .entry)) tolerance) i, preparedResidual (tableOf rows bodies (now (numbers .entry)) (now (words .entry)) (now (masses .entry)) tolerance) i)) ≡ rowOut r ⌝ }
+    requires { ⌜ (27 * rows ≤ length (now numbers)) × (8 * rows ≤ length (now words)) × (10 * bodies ≤ length (now masses)) × (rows ≤ length (now tolerances)) × (i < rows) ⌝ }
+    ensures { λ r. ⌜ next (rowJudged (tableWith rows bodies (now (numbers .entry)) (now (words .entry)) (now (masses .entry)) (tolerancesIn (now (tolerances .entry)))) i)
+        (λ _. going (preparedDiagonal (tableWith rows bodies (now (numbers .entry)) (now (words .entry)) (now (masses .entry)) (tolerancesIn (now (tolerances .entry)))) i, preparedResidual (tableWith rows bodies (now (numbers .entry)) (now (words .entry)) (now (masses .entry)) (tolerancesIn (now (tolerances .entry)))) i)) ≡ rowOut r ⌝ }
 {
     if !is_valid_at(numbers, words, i, bodies) {
         return RowAnswer::Refused(7);
     }
     let row = row_at(numbers, words, i);
     let scalars = row.scalars;
-    let row_words = row.words;
-    judge_diagonal(
-        row_diagonal(masses, row),
-        -scalars.error,
-        tolerance.of(dimension(row_words.dimension)),
-    )
+    judge_diagonal(row_diagonal(masses, row), -scalars.error, tolerances[i])
 }
 
 // Diagonal and residual of step 0. After a refusal they are left free.
@@ -105,17 +98,17 @@ pub fn begin(
     words: &[u32],
     masses: &[f64],
     bodies: u32,
-    tolerance: JointTolerance,
+    tolerances: &[f64],
     diagonal: &mut [f64],
     residual: &mut [f64],
 ) -> Begun
-    requires { ⌜ (27 * length (now diagonal) ≤ length (now numbers)) × (8 * length (now diagonal) ≤ length (now words)) × (10 * bodies ≤ length (now masses)) × (length (now residual) ≡ length (now diagonal)) ⌝ }
-    ensures { λ r. ⌜ BegunHeld (tableOf (length (now (diagonal .entry))) bodies (now (numbers .entry)) (now (words .entry)) (now (masses .entry)) tolerance) r (now (diagonal .exit)) (now (residual .exit)) ⌝ }
+    requires { ⌜ (27 * length (now diagonal) ≤ length (now numbers)) × (8 * length (now diagonal) ≤ length (now words)) × (10 * bodies ≤ length (now masses)) × (length (now tolerances) ≡ length (now diagonal)) × (length (now residual) ≡ length (now diagonal)) ⌝ }
+    ensures { λ r. ⌜ BegunHeld (tableWith (length (now (diagonal .entry))) bodies (now (numbers .entry)) (now (words .entry)) (now (masses .entry)) (tolerancesIn (now (tolerances .entry)))) r (now (diagonal .exit)) (now (residual .exit)) ⌝ }
 {
     let rows = diagonal.len();
     let mut i = 0;
     while i < rows {
-        match prepare_row(numbers, words, masses, rows, bodies, tolerance, i) {
+        match prepare_row(numbers, words, masses, rows, bodies, tolerances, i) {
             RowAnswer::Row(row) => {
                 diagonal[i] = row.diagonal;
                 residual[i] = row.residual;

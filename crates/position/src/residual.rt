@@ -4,9 +4,9 @@ ghost use Prim.Native.Nat.{_+_, _*_, _≤_};
 ghost use lib.ListN.{length, getD};
 ghost use lib.Ieee.{nan, le};
 ghost use Rattle.binary64.specs.Order.{absolute};
-ghost use Rattle.kapitsa_joint.specs.Tolerance.{dimensionOf, toleranceOf};
+ghost use Rattle.kapitsa_joint.specs.Tolerance.{dimensionOf};
+ghost use Rattle.kapitsa_joint.specs.Table.{tolerancesIn};
 ghost use Rattle.position.specs.Residual.{meetsOf, raisedBy, maximaOf};
-use kapitsa_joint::JointTolerance;
 use kapitsa_joint::RowDimension;
 use kapitsa_joint::dimension;
 
@@ -15,20 +15,20 @@ pub struct Maxima {
     pub angular: f64,
 }
 
-fn row_converged(words: &[u32], residual: &[f64], tolerance: JointTolerance, i: usize) -> bool
-    requires { ⌜ (8 * i + 8 ≤ length (now words)) × (i + 1 ≤ length (now residual)) ⌝ }
-    ensures { λ r. ⌜ r ≡ le (absolute (getD (now (residual .entry)) i nan)) (toleranceOf tolerance (dimensionOf (getD (now (words .entry)) (8 * i + 1) 0))) ⌝ }
+fn row_converged(tolerances: &[f64], residual: &[f64], i: usize) -> bool
+    requires { ⌜ (i + 1 ≤ length (now tolerances)) × (i + 1 ≤ length (now residual)) ⌝ }
+    ensures { λ r. ⌜ r ≡ le (absolute (getD (now (residual .entry)) i nan)) (tolerancesIn (now (tolerances .entry)) i) ⌝ }
 {
-    binary64::abs(residual[i]) <= tolerance.of(dimension(words[8 * i + 1]))
+    binary64::abs(residual[i]) <= tolerances[i]
 }
 
-pub fn position_vector_converged(words: &[u32], residual: &[f64], tolerance: JointTolerance) -> bool
-    requires { ⌜ 8 * length (now residual) ≤ length (now words) ⌝ }
-    ensures { λ r. ⌜ r ≡ meetsOf (λ i. toleranceOf tolerance (dimensionOf (getD (now (words .entry)) (8 * i + 1) 0))) (now (residual .entry)) (length (now (residual .entry))) ⌝ }
+pub fn position_vector_converged(tolerances: &[f64], residual: &[f64]) -> bool
+    requires { ⌜ length (now residual) ≤ length (now tolerances) ⌝ }
+    ensures { λ r. ⌜ r ≡ meetsOf (tolerancesIn (now (tolerances .entry))) (now (residual .entry)) (length (now (residual .entry))) ⌝ }
 {
     let mut i = 0;
     while i < residual.len() {
-        if !row_converged(words, residual, tolerance, i) {
+        if !row_converged(tolerances, residual, i) {
             return false;
         }
         i += 1;

@@ -9,13 +9,13 @@ use Rattle.loops.proofs.Loop.{on-ended}
 use Rattle.kapitsa_joint.specs.Table.{Table}
 use Rattle.preconditioner.specs.declared.mode.Mode.{Mode}
 use Rattle.recurrence.specs.Step.{Iterate, Carried}
-use Rattle.recurrence.proofs.Ways.{test-fail}
+use Rattle.loops.proofs.Judge.{test-fail}
 use Rattle.steps.specs.Method.{Method}
 use Rattle.steps.specs.Solve.{counting, deliver, solve}
 use Rattle.steps.proofs.Answer.{means}
 use Rattle.position_iteration.specs.Method.{openingOf, positionMethod, Delivered}
 use Rattle.position_delivery.specs.Delivery.{finishedOf}
-use Rattle.position_delivery.specs.Outcome.{Lent, Outcome, Answer, outcomeOf, SolveMeaning}
+use Rattle.position_delivery.specs.Outcome.{Lent, Outcome, Answer, proposalOf, committedOf, outcomeOf, SolveMeaning}
 use Rattle.position_iteration.specs.Counting.{countedOf}
 use Rattle.position_delivery.specs.declared.answer.PositionPcg.{PositionPcg}
 use Rattle.position_delivery.specs.declared.answer.PositionPcg.the-variants as answers
@@ -35,7 +35,7 @@ delivered-of t mode n limit before x o e h = ap (outcomeOf n before) (joined (op
 -- ---- refusal 3
 module _ (t : Table) (mode : Mode) (n limit : ℕ) (before : Lent) (b fits : Bool) (e : b ≡ fits) where
   pub entry-refused : not b ≡ true → outcomeOf n before (solve (positionMethod fits t mode) limit) ≡ outcome (answers.Refused 3) before
-  unfolding solve outcomeOf openingOf judge
+  unfolding solve proposalOf committedOf openingOf judge
   entry-refused h = ap (outcomeOf n before) (on-ended _ _ _ {a = 3} (test-fail fits 3 _ e h))
 
   pub entry-on : (o : Outcome) → not b ≡ false → outcomeOf n before (solve (positionMethod true t mode) limit) ≡ o → outcomeOf n before (solve (positionMethod fits t mode) limit) ≡ o
@@ -44,7 +44,7 @@ module _ (t : Table) (mode : Mode) (n limit : ℕ) (before : Lent) (b fits : Boo
 -- whatever the answer, it means what it says
 module _ (m : Method Iterate Carried Delivered) (limit n : ℕ) (before after : Lent) (r : PositionPcg) where
   said : (a : Answer) → solve m limit ≡ a → SolveMeaning m limit n before (outcomeOf n before a .answer) (outcomeOf n before a .lent)
-  unfolding outcomeOf
+  unfolding proposalOf committedOf
   said (going ((flag, count, v), f)) e = let w = means m limit (going ((flag, count, v), f)) e in record { step = v; delivered = f; accepted = w .0; result-is = refl; lent-is = refl; none-turns-back = w .1 }
   said (ended k) e = record { turned = means m limit (ended k) e; kept = refl }
 

@@ -1,28 +1,30 @@
--- The step counted, or the refusal that the count met: what is delivered. Assumes nothing.
-use Prim.Native.Nat.{ℕ}
-use mathlib.Core.Path.{_≡_, ap, _∙_}
+-- The step counted, or the refusal that the count met: what is proposed of it, committed, and delivered. Assumes nothing.
+use Prim.Native.Nat.{ℕ, zero, suc}
+use mathlib.Core.Path.{_≡_, refl, ap, _∙_}
 use mathlib.Core.Bool.{Bool, true, false}
 use mathlib.Core.List.{List}
+use lib.ListN.{length}
 use lib.Ieee.{Float}
-use Rattle.loops.specs.Run.{going, next}
+use Rattle.loops.specs.Run.{going, on, next}
 use Rattle.loops.proofs.Loop.{on-going, on-ended}
-use Rattle.kapitsa_joint.specs.Table.{Table}
+use Rattle.kapitsa_joint.specs.Table.{Table, tableOf}
+use Rattle.kapitsa_joint.specs.declared.tolerance.JointTolerance.{JointTolerance}
 use Rattle.recurrence.specs.Step.{Iterate}
+use Rattle.position.specs.Multipliers.{gained}
 use Rattle.position_iteration.specs.Standing.{iteratedOut}
 use Rattle.position_iteration.specs.declared.iteration.Iterated.{Iterated}
 use Rattle.position_iteration.specs.declared.iteration.Iterated.the-variants as iterated
-use Rattle.position_delivery.specs.Delivery.{finishedOf}
-use Rattle.position_delivery.specs.Outcome.{Lent, Outcome, outcomeOf}
+use Rattle.position_delivery.specs.Delivery.{gainedAfter, committedBy, finishedOf}
+use Rattle.position_delivery.specs.Outcome.{Proposal, proposalOf, committedOf, outcomeOf}
 use Rattle.position_delivery.specs.declared.answer.PositionPcg.{PositionPcg}
 use Rattle.position_delivery.specs.declared.answer.PositionPcg.the-variants as answers
-
-abbrev outcome : PositionPcg → Lent → Outcome
-outcome r l = record { answer = r; lent = l }
+use Rattle.position_delivery.specs.declared.answer.PositionPcgResult.{PositionPcgResult}
+use Rattle.position_delivery.proofs.Deliveries.{commits}
 
 abbrev step : List Float → List Float → Iterate
 step x r = record { solution = x; residual = r }
 
--- ---- `finish_counted`: flag and count by the two ways to a step, and what is delivered with them
+-- ---- `propose`: flag and count by the two ways to a step, and what is proposed with them
 module _ (limit : ℕ) (pending residual : List Float) (a : Iterated) (flag : Bool) (count : ℕ) where
   pub by-met : (k : ℕ) → a ≡ iterated.Met k → flag ≡ true → count ≡ k → iteratedOut a limit pending residual ≡ going (flag, count, step pending residual)
   by-met k e f c = rw (e, f, c)
@@ -30,10 +32,45 @@ module _ (limit : ℕ) (pending residual : List Float) (a : Iterated) (flag : Bo
   pub by-limit : a ≡ iterated.Limit → flag ≡ false → count ≡ limit → iteratedOut a limit pending residual ≡ going (flag, count, step pending residual)
   by-limit e f c = rw (e, f, c)
 
-  pub counted-step : (t : Table) (n : ℕ) (before : Lent) (o : Outcome) → iteratedOut a limit pending residual ≡ going (flag, count, step pending residual) → outcomeOf n before (finishedOf t (flag, count, step pending residual)) ≡ o
-      → outcomeOf n before (next (iteratedOut a limit pending residual) (finishedOf t)) ≡ o
-  counted-step t n before o e h = ap (outcomeOf n before) (on-going _ _ _ {s = (flag, count, step pending residual)} e) ∙ h
+  pub counted-step : (t : Table) (solution impulses : List Float) (o : Proposal) → iteratedOut a limit pending residual ≡ going (flag, count, step pending residual) → proposalOf solution impulses (finishedOf t (flag, count, step pending residual)) ≡ o
+      → proposalOf solution impulses (next (iteratedOut a limit pending residual) (finishedOf t)) ≡ o
+  counted-step t solution impulses o e h = ap (proposalOf solution impulses) (on-going _ _ _ {s = (flag, count, step pending residual)} e) ∙ h
 
-pub counted-refused : (t : Table) (n limit : ℕ) (before : Lent) (pending residual : List Float) (a : Iterated) (k : ℕ) → a ≡ iterated.Refused k → outcomeOf n before (next (iteratedOut a limit pending residual) (finishedOf t)) ≡ outcome (answers.Refused k) before
-unfolding outcomeOf
-counted-refused t n limit before pending residual a k e = ap (outcomeOf n before) (on-ended _ _ _ {a = k} (rw e))
+pub counted-refused : (t : Table) (limit : ℕ) (solution impulses pending residual : List Float) (a : Iterated) (k : ℕ) → a ≡ iterated.Refused k → proposalOf solution impulses (next (iteratedOut a limit pending residual) (finishedOf t)) ≡ record { answer = answers.Refused k; solution = solution; impulses = impulses }
+unfolding proposalOf
+counted-refused t limit solution impulses pending residual a k e = ap (proposalOf solution impulses) (on-ended _ _ _ {a = k} (rw e))
+
+-- ---- `commit`
+module _ (answer : PositionPcg) (numbers solution : List Float) where
+  pub commit-none : (r : PositionPcgResult) → answer ≡ answers.Accepted r → r .iterations ≡ 0 → numbers ≡ committedBy answer numbers solution
+  unfolding committedBy gainedAfter
+  commit-none r e z = rw (e, z)
+
+  pub commit-gains : (r : PositionPcgResult) (after : List Float) → answer ≡ answers.Accepted r → (r .iterations ≡ 0 → ⊥) → after ≡ gained numbers solution (length solution) → after ≡ committedBy answer numbers solution
+  unfolding committedBy
+  commit-gains r after e z g = g ∙ rw e (by (r .iterations) z)
+    where
+      by : (k : ℕ) → (k ≡ 0 → ⊥) → gained numbers solution (length solution) ≡ gainedAfter k numbers solution
+      by zero z = absurd (z refl)
+      by (suc k) z = unfold gainedAfter in refl
+
+  pub commit-refused : (k : ℕ) → answer ≡ answers.Refused k → numbers ≡ committedBy answer numbers solution
+  unfolding committedBy
+  commit-refused k e = rw e
+
+-- ---- `deliver`: both halves
+module _ (numbers masses : List Float) (words : List ℕ) (rows bodies : ℕ) (tolerance : JointTolerance) (limit : ℕ) (pending residual : List Float) (long : length pending ≡ rows) (solution impulses : List Float) where
+  abbrev table : Table
+  table = tableOf rows bodies numbers words masses tolerance
+
+  commits-counted : (a : Iterated)
+      → committedOf rows numbers (next (iteratedOut a limit pending residual) (finishedOf table))
+      ≡ committedBy (proposalOf solution impulses (next (iteratedOut a limit pending residual) (finishedOf table)) .answer) numbers (proposalOf solution impulses (next (iteratedOut a limit pending residual) (finishedOf table)) .solution)
+  unfolding on proposalOf committedOf committedBy
+  commits-counted (iterated.Met k) = commits numbers masses words rows bodies tolerance true pending residual k solution impulses long
+  commits-counted iterated.Limit = commits numbers masses words rows bodies tolerance false pending residual limit solution impulses long
+  commits-counted (iterated.Refused k) = refl
+
+  pub delivered-both : (a : Iterated) (r : PositionPcg) (numbers₁ solution₁ impulses₁ : List Float) → proposalOf solution impulses (next (iteratedOut a limit pending residual) (finishedOf table)) ≡ record { answer = r; solution = solution₁; impulses = impulses₁ } → numbers₁ ≡ committedBy r numbers solution₁
+      → outcomeOf rows record { numbers = numbers; solution = solution; impulses = impulses } (next (iteratedOut a limit pending residual) (finishedOf table)) ≡ record { answer = r; lent = record { numbers = numbers₁; solution = solution₁; impulses = impulses₁ } }
+  delivered-both a r numbers₁ solution₁ impulses₁ p c = rw (commits-counted a, p, c)

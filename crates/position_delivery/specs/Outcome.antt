@@ -32,16 +32,33 @@ withMultipliers numbers multipliers (suc k) = set (withMultipliers numbers multi
 abbrev pub Answer : Type 0
 Answer = Run ((Bool × ℕ × Iterate) × Delivered) ℕ
 
--- of n rows
+-- flag, count and the two maxima
 abbrev pub resultOf : Bool → ℕ → Delivered → PositionPcgResult
 resultOf flag count f = record { converged = flag; iterations = count; «linear_residual_m» = f .maxima .linear; «angular_residual_rad» = f .maxima .angular }
 
+-- The delivery in two halves. What is proposed, the rows left as they were: the answer, which 17 may turn back, solution and impulses.
+pub record Proposal : Type 0 where
+  pub answer : PositionPcg
+  pub solution : List Float
+  pub impulses : List Float
+
+unfoldable pub proposalOf : List Float → List Float → Answer → Proposal
+proposalOf solution impulses (going ((flag, count, v), f)) = record { answer = answers.Accepted (resultOf flag count f); solution = v .solution; impulses = f .impulses }
+proposalOf solution impulses (ended number) = record { answer = answers.Refused number; solution = solution; impulses = impulses }
+
+-- What is then written into the n rows: their accumulated multipliers.
+unfoldable pub committedOf : ℕ → List Float → Answer → List Float
+committedOf n numbers (going (a, f)) = withMultipliers numbers (f .multipliers) n
+committedOf n numbers (ended number) = numbers
+
+-- The solve is both.
+abbrev pub outcomeOf : ℕ → Lent → Answer → Outcome
+outcomeOf n before a =
+    let p = proposalOf (before .solution) (before .impulses) a in
+    record { answer = p .answer; lent = record { numbers = committedOf n (before .numbers) a; solution = p .solution; impulses = p .impulses } }
+
 abbrev pub lentOf : ℕ → Lent → Iterate → Delivered → Lent
 lentOf n before v f = record { numbers = withMultipliers (before .numbers) (f .multipliers) n; solution = v .solution; impulses = f .impulses }
-
-unfoldable pub outcomeOf : ℕ → Lent → Answer → Outcome
-outcomeOf n before (going ((flag, count, v), f)) = record { answer = answers.Accepted (resultOf flag count f); lent = lentOf n before v f }
-outcomeOf n before (ended number) = record { answer = answers.Refused number; lent = before }
 
 -- ---- what an answer means, told by document 01's steps: demand 3
 module _ (m : Method Iterate Carried Delivered) (limit n : ℕ) (before : Lent) where

@@ -1,7 +1,9 @@
 // What is delivered of the step counted, with refusal 17, and the answer of a solve.
 pub mod answer; // answer.rt: flag, count and maxima, or a refusal
-pub mod deliver; // deliver.rt: multipliers, solution and impulses
+pub mod delivery; // delivery.rt: multipliers, solution and impulses
 
 pub use answer::PositionPcg;
 pub use answer::PositionPcgResult;
-pub use deliver::finish_counted;
+pub use delivery::commit;
+pub use delivery::deliver;
+pub use delivery::propose;

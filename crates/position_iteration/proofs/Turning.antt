@@ -8,11 +8,9 @@ use lib.Ieee.{Float}
 use Rattle.loops.specs.Run.{Run, going, ended, check, turns}
 use Rattle.loops.proofs.Loop.{on-going, on-ended, At, at-more, at-stop, at-end}
 use Rattle.mass_operator.specs.System.{System, compactSystem}
-use Rattle.preconditioner.specs.Apply.{preconditioned}
-use Rattle.preconditioner.specs.Held.{Memory, Holds, zIn}
-use Rattle.preconditioner.specs.declared.mode.Mode.{Mode}
+use Rattle.preconditioner.specs.Room.{Memory}
+use Rattle.preconditioner.specs.Held.{zIn}
 use Rattle.preconditioner.specs.declared.apply.Preconditioner.{Preconditioner}
-use Rattle.preconditioner.proofs.Means.{holds-same}
 use Rattle.recurrence.specs.Step.{Iterate, Carried, advanceOf, renewFrom}
 use Rattle.recurrence.specs.Answers.{advancedOut, carriedOut}
 use Rattle.recurrence.specs.declared.ratio.Scale.{Scale}
@@ -22,7 +20,7 @@ use Rattle.recurrence.specs.declared.step.Advanced.the-variants as steps
 use Rattle.position.specs.Residual.{meetsOf}
 use Rattle.steps.specs.Method.{Recurrence}
 use Rattle.steps.specs.Solve.{turn, afterLoop}
-use Rattle.position_iteration.specs.Method.{positionSteps}
+use Rattle.position_iteration.specs.Method.{stepsBy}
 use Rattle.position_iteration.specs.Standing.{TurnIs, iteratedOut}
 use Rattle.position_iteration.specs.declared.iteration.Turned.{Turned}
 use Rattle.position_iteration.specs.declared.iteration.Turned.the-variants as turned
@@ -35,8 +33,8 @@ abbrev carried : List Float → Float → Carried
 carried d s = record { direction = d; s = s }
 
 -- ---- `take_step`
-module _ (mode : Mode) (s : System) (owner : ℕ → ℕ) (diagonal : List Float) (tolerance : ℕ → Float) (v : Iterate) (c : Carried) (a : Advanced) (x r : List Float) (called : advanceOf s v c ≡ advancedOut a x r) where
-  pub step-refused : (k : ℕ) (d : List Float) → a ≡ steps.Refused k → TurnIs (positionSteps mode s owner diagonal tolerance) (v, c) (turned.Refused k) x r d
+module _ (z : List Float → Run (List Float) ℕ) (s : System) (tolerance : ℕ → Float) (v : Iterate) (c : Carried) (a : Advanced) (x r : List Float) (called : advanceOf s v c ≡ advancedOut a x r) where
+  pub step-refused : (k : ℕ) (d : List Float) → a ≡ steps.Refused k → TurnIs (stepsBy z s tolerance) (v, c) (turned.Refused k) x r d
   unfolding turn
   step-refused k d t = record { at = λ j. on-ended _ _ _ (called ∙ rw t) }
 
@@ -44,26 +42,25 @@ module _ (mode : Mode) (s : System) (owner : ℕ → ℕ) (diagonal : List Float
     tested : (o : Bool) → b ≡ o → meetsOf tolerance r (s .rows) ≡ o
     tested o e = rw (← long) (sym eb ∙ e)
 
-    pub step-met : (d : List Float) → b ≡ true → TurnIs (positionSteps mode s owner diagonal tolerance) (v, c) turned.Met x r d
+    pub step-met : (d : List Float) → b ≡ true → TurnIs (stepsBy z s tolerance) (v, c) turned.Met x r d
     unfolding turn check
     step-met d e = record { at = λ j. on-going _ _ _ {s = iterate x r} (called ∙ rw done) ∙ rw (tested true e) }
 
-    module _ (m : Memory) (p : Preconditioner) (holds : Holds s owner diagonal m mode p) (miss : b ≡ false) (q : Scale) (d : List Float) (renewed : renewFrom (zIn p diagonal m owner r) r c ≡ carriedOut q d) where
-      anew : renewFrom (preconditioned mode s owner diagonal r) r c ≡ carriedOut q d
-      anew = ap (λ (z : Run (List Float) ℕ). renewFrom z r c) (sym (holds-same s owner diagonal m r long mode p holds)) ∙ renewed
-
-      pub step-on : (z : Float) → q ≡ scales.Value z → TurnIs (positionSteps mode s owner diagonal tolerance) (v, c) (turned.On z) x r d
+    module _ (miss : b ≡ false) (q : Scale) (d : List Float) (renewed : renewFrom (z r) r c ≡ carriedOut q d) where
+      pub step-on : (t : Float) → q ≡ scales.Value t → TurnIs (stepsBy z s tolerance) (v, c) (turned.On t) x r d
       unfolding turn check
-      step-on z e = record { at = λ j. on-going _ _ _ {s = iterate x r} (called ∙ rw done) ∙ rw (tested false miss) (on-going _ _ _ {s = carried d z} (anew ∙ rw e)) }
+      step-on t e = record { at = λ j. on-going _ _ _ {s = iterate x r} (called ∙ rw done) ∙ rw (tested false miss) (on-going _ _ _ {s = carried d t} (renewed ∙ rw e)) }
 
-      pub step-out : (k : ℕ) → q ≡ scales.Refused k → TurnIs (positionSteps mode s owner diagonal tolerance) (v, c) (turned.Refused k) x r d
+      pub step-out : (k : ℕ) → q ≡ scales.Refused k → TurnIs (stepsBy z s tolerance) (v, c) (turned.Refused k) x r d
       unfolding turn check
-      step-out k e = record { at = λ j. on-going _ _ _ {s = iterate x r} (called ∙ rw done) ∙ rw (tested false miss) (on-ended _ _ _ {a = k} (anew ∙ rw e)) }
+      step-out k e = record { at = λ j. on-going _ _ _ {s = iterate x r} (called ∙ rw done) ∙ rw (tested false miss) (on-ended _ _ _ {a = k} (renewed ∙ rw e)) }
 
--- ---- the rows are as many as the direction is long, which the loop writes
-module _ (mode : Mode) (bodies : ℕ) (jacobians : List Float) (links : List ℕ) (masses : List Float) (owner : ℕ → ℕ) (diagonal : List Float) (tolerance : ℕ → Float) (k n : ℕ) (b : Iterate × Carried) (a : Turned) (x r d : List Float) where
-  pub same-turn : k ≡ n → TurnIs (positionSteps mode (compactSystem k bodies jacobians links masses) owner diagonal tolerance) b a x r d → TurnIs (positionSteps mode (compactSystem n bodies jacobians links masses) owner diagonal tolerance) b a x r d
-  same-turn e h = subst (λ (i : ℕ). TurnIs (positionSteps mode (compactSystem i bodies jacobians links masses) owner diagonal tolerance) b a x r d) e h
+-- the vectors are as long as there are rows
+pub advance-same : (bodies : ℕ) (jacobians : List Float) (links : List ℕ) (masses : List Float) (k n : ℕ) (v : Iterate) (c : Carried) {o : Run Iterate ℕ} → k ≡ n → advanceOf (compactSystem k bodies jacobians links masses) v c ≡ o → advanceOf (compactSystem n bodies jacobians links masses) v c ≡ o
+advance-same bodies jacobians links masses k n v c {o} e h = subst (λ (i : ℕ). advanceOf (compactSystem i bodies jacobians links masses) v c ≡ o) e h
+
+pub renew-same : (p : Preconditioner) (m : Memory) (k n : ℕ) (r : List Float) (c : Carried) {o : Run Carried ℕ} → k ≡ n → renewFrom (zIn p k m r) r c ≡ o → renewFrom (zIn p n m r) r c ≡ o
+renew-same p m k n r c {o} e h = subst (λ (i : ℕ). renewFrom (zIn p i m r) r c ≡ o) e h
 
 -- ---- `iterate`
 module _ (m : Recurrence Iterate Carried) (v : Iterate) (c : Carried) (limit k : ℕ) (w : Iterate) (e : Carried) (h : At (turn m) (v, c) limit k (w, e)) (l : k < limit) (a : Turned) (x r d : List Float) (called : TurnIs m (w, e) a x r d) where

@@ -15,7 +15,7 @@ use Rattle.joint_refusals.specs.Refusals.{passes4, rowsOpen, passes6}
 use Rattle.mass_operator.specs.System.{System, systemOf}
 use Rattle.mass_operator.specs.Flat.{coefficients, impulsesOf}
 use Rattle.mass_operator.specs.Applied.{allFiniteOf}
-use Rattle.incomplete_cholesky.specs.Build.{zeros}
+use Rattle.loops.specs.Cleared.{zeros}
 use Rattle.preconditioner.specs.Factor.{factorJudged}
 use Rattle.preconditioner.specs.Apply.{preconditioned}
 use Rattle.preconditioner.specs.declared.mode.Mode.{Mode}
@@ -45,13 +45,16 @@ beginOf t = next (judged (rowJudged t) (t .rows)) (λ _. going (record { solutio
 unfoldable pub firstOf : Mode → System → (ℕ → ℕ) → List Float → Iterate → Run Carried ℕ
 firstOf mode s owner diagonal v = next (factorJudged mode s owner diagonal) (λ _. firstFrom (preconditioned mode s owner diagonal (v .residual)) (v .residual))
 
--- the steps
-abbrev pub positionSteps : Mode → System → (ℕ → ℕ) → List Float → (ℕ → Float) → Recurrence Iterate Carried
-positionSteps mode s owner diagonal tolerance = record {
+-- the steps, by the z of a residual
+abbrev pub stepsBy : (List Float → Run (List Float) ℕ) → System → (ℕ → Float) → Recurrence Iterate Carried
+stepsBy z s tolerance = record {
   advance = advanceOf s;
   meets = λ v. meetsOf tolerance (v .residual) (s .rows);
-  renew = λ v c. renewFrom (preconditioned mode s owner diagonal (v .residual)) (v .residual) c;
+  renew = λ v c. renewFrom (z (v .residual)) (v .residual) c;
 }
+
+abbrev pub positionSteps : Mode → System → (ℕ → ℕ) → List Float → (ℕ → Float) → Recurrence Iterate Carried
+positionSteps mode s owner diagonal tolerance = stepsBy (preconditioned mode s owner diagonal) s tolerance
 
 -- ---- what is delivered: document 01, "Multipliers, solution, impulses"
 pub record Delivered : Type 0 where

@@ -6,41 +6,33 @@ use mathlib.Core.List.{List}
 use lib.ListN.{length}
 use lib.Ieee.{Float}
 use Rattle.loops.specs.Run.{Run, going, ended}
+use Rattle.kapitsa_joint.specs.Table.{tolerancesIn}
 use Rattle.compact_table.specs.Compact.{Linked}
 use Rattle.mass_operator.specs.System.{compactSystem}
-use Rattle.block_jacobi.specs.Runs.{ownerIn}
-use Rattle.preconditioner.specs.Held.{Ready, Memory, Holds}
-use Rattle.preconditioner.specs.declared.mode.Mode.{Mode}
+use Rattle.preconditioner.specs.Room.{Memory}
+use Rattle.preconditioner.specs.Held.{Ready, zIn}
 use Rattle.preconditioner.specs.declared.apply.Preconditioner.{Preconditioner}
 use Rattle.recurrence.specs.Step.{Iterate, Carried}
 use Rattle.steps.specs.Method.{Recurrence}
 use Rattle.steps.specs.Solve.{turn}
+use Rattle.position_iteration.specs.Method.{stepsBy}
 use Rattle.position_iteration.specs.declared.iteration.Turned.{Turned}
 use Rattle.position_iteration.specs.declared.iteration.Turned.the-variants as turned
 use Rattle.position_iteration.specs.declared.iteration.Iterated.{Iterated}
 use Rattle.position_iteration.specs.declared.iteration.Iterated.the-variants as iterated
 
--- the lengths of what the steps read
-pub record Rooms (rows bodies : ℕ) (words : List ℕ) (masses jacobians : List Float) (links owners : List ℕ) (diagonal : List Float) (m : Memory) : Type 0 where
-  pub words-long : 8 * rows ≤ length words
+-- what the steps read: for n rows, the compact table is linked and a factor is ready
+pub record Standing (p : Preconditioner) (n bodies : ℕ) (tolerances masses jacobians : List Float) (links : List ℕ) (m : Memory) : Type 0 where
+  pub tolerances-long : length tolerances ≡ n
   pub masses-long : 10 * bodies ≤ length masses
-  pub jacobians-long : 12 * rows ≤ length jacobians
-  pub links-long : 2 * rows ≤ length links
-  pub owners-long : length owners ≡ rows
-  pub diagonal-long : length diagonal ≡ rows
-  pub values-long : length (m .values) ≡ length (m .columns)
-  pub nexts-long : length (m .index .nexts) ≡ length (m .columns)
-  pub homes-long : length (m .index .homes) ≡ length (m .columns)
-  pub blocks-long : 36 * rows ≤ length (m .blocks)
-  pub heads-long : length (m .index .heads) ≡ rows
-  pub pivots-long : length (m .pivots) ≡ rows
+  pub jacobians-long : 12 * n ≤ length jacobians
+  pub links-long : 2 * n ≤ length links
+  pub linked : Linked links n bodies
+  pub ready : Ready p n m
 
--- the compact table is linked, and the mode's factor is there
-pub record Standing (mode : Mode) (p : Preconditioner) (rows bodies : ℕ) (words : List ℕ) (masses jacobians : List Float) (links owners : List ℕ) (diagonal : List Float) (m : Memory) : Type 0 where
-  pub rooms : Rooms rows bodies words masses jacobians links owners diagonal m
-  pub linked : Linked links rows bodies
-  pub ready : Ready p (m .starts) (m .columns) (m .index .heads) (m .index .nexts) (m .index .homes) (ownerIn owners) rows
-  pub holds : Holds (compactSystem rows bodies jacobians links masses) (ownerIn owners) diagonal m mode p
+-- the steps that stand there
+abbrev pub stepsIn : Preconditioner → ℕ → ℕ → List Float → List Float → List Float → List ℕ → Memory → Recurrence Iterate Carried
+stepsIn p n bodies tolerances masses jacobians links m = stepsBy (zIn p n m) (compactSystem n bodies jacobians links masses) (tolerancesIn tolerances)
 
 -- ---- what the answers tell: the step stands in pending and residual, what is carried in direction and s
 abbrev pub turnedOut : Turned → ℕ → List Float → List Float → List Float → Run (Iterate × Carried) (Run (ℕ × Iterate) ℕ)

@@ -1,17 +1,11 @@
 // The loop over the steps: each is made, tested, and where it misses z, s and direction are made anew.
 ghost use mathlib.Core.Path.{_≡_};
-ghost use Prim.Native.Nat.{_+_, _*_};
-ghost use lib.ListN.{length, getD};
+ghost use Prim.Native.Nat.{_*_};
+ghost use lib.ListN.{length};
 ghost use Rattle.loops.specs.Run.{turns};
-ghost use Rattle.kapitsa_joint.specs.Tolerance.{dimensionOf, toleranceOf};
-ghost use Rattle.mass_operator.specs.System.{compactSystem};
-ghost use Rattle.block_jacobi.specs.Runs.{ownerIn};
 ghost use Rattle.steps.specs.Solve.{turn, afterLoop};
-ghost use Rattle.position_iteration.specs.Method.{positionSteps};
-ghost use Rattle.position_iteration.specs.Standing.{Standing, TurnIs, iteratedOut};
-use kapitsa_joint::JointTolerance;
+ghost use Rattle.position_iteration.specs.Standing.{Standing, stepsIn, TurnIs, iteratedOut};
 use position::position_vector_converged;
-use preconditioner::Mode;
 use preconditioner::Preconditioner;
 use recurrence::Advanced;
 use recurrence::Scale;
@@ -32,36 +26,26 @@ pub enum Iterated {
 
 // One turn: a step, and s anew where it misses.
 fn take_step(
-    words: &[u32],
-    tolerance: JointTolerance,
-    mode: Mode,
+    tolerances: &[f64],
     preconditioner: Preconditioner,
     masses: &[f64],
     bodies: usize,
     jacobians: &[f64],
     links: &[u32],
-    owners: &[u32],
     diagonal: &[f64],
-    starts: &[u32],
-    columns: &[u32],
-    heads: &[u32],
-    nexts: &[u32],
-    homes: &[u32],
+    pattern: &[u32],
+    order: &[u32],
     values: &[f64],
-    pivots: &[f64],
-    blocks: &[f64],
     residual_product: f64,
     body_impulses: &mut [f64],
-    body_responses: &mut [f64],
     product: &mut [f64],
-    preconditioned: &mut [f64],
     pending: &mut [f64],
     residual: &mut [f64],
     direction: &mut [f64],
 ) -> Turned
-    requires { ⌜ Standing mode preconditioner (length (now direction)) bodies (now words) (now masses) (now jacobians) (now links) (now owners) (now diagonal) record { starts = now (starts); columns = now (columns); values = now (values); pivots = now (pivots); index = record { heads = now (heads); nexts = now (nexts); homes = now (homes) }; blocks = now (blocks) } ⌝ }
-    requires { ⌜ (length (now «body_impulses») ≡ 6 * bodies) × (length (now «body_responses») ≡ 6 * bodies) × (length (now product) ≡ length (now direction)) × (length (now preconditioned) ≡ length (now direction)) × (length (now pending) ≡ length (now direction)) × (length (now residual) ≡ length (now direction)) ⌝ }
-    ensures { λ r. ⌜ TurnIs (positionSteps mode (compactSystem (length (now (direction .entry))) bodies (now (jacobians .entry)) (now (links .entry)) (now (masses .entry))) (ownerIn (now (owners .entry))) (now (diagonal .entry)) (λ i. toleranceOf tolerance (dimensionOf (getD (now (words .entry)) (8 * i + 1) 0)))) (record { solution = now (pending .entry); residual = now (residual .entry) }, record { direction = now (direction .entry); s = «residual_product» }) r (now (pending .exit)) (now (residual .exit)) (now (direction .exit)) ⌝ }
+    requires { ⌜ Standing preconditioner (length (now tolerances)) bodies (now tolerances) (now masses) (now jacobians) (now links) record { diagonal = now diagonal; pattern = now pattern; order = now order; values = now values } ⌝ }
+    requires { ⌜ (length (now «body_impulses») ≡ 6 * bodies) × (length (now product) ≡ length (now tolerances)) × (length (now pending) ≡ length (now tolerances)) × (length (now residual) ≡ length (now tolerances)) × (length (now direction) ≡ length (now tolerances)) ⌝ }
+    ensures { λ r. ⌜ TurnIs (stepsIn preconditioner (length (now (tolerances .entry))) bodies (now (tolerances .entry)) (now (masses .entry)) (now (jacobians .entry)) (now (links .entry)) record { diagonal = now (diagonal .entry); pattern = now (pattern .entry); order = now (order .entry); values = now (values .entry) }) (record { solution = now (pending .entry); residual = now (residual .entry) }, record { direction = now (direction .entry); s = «residual_product» }) r (now (pending .exit)) (now (residual .exit)) (now (direction .exit)) ⌝ }
 {
     match advance(
         jacobians,
@@ -71,7 +55,6 @@ fn take_step(
         direction,
         residual_product,
         body_impulses,
-        body_responses,
         product,
         pending,
         residual,
@@ -81,24 +64,18 @@ fn take_step(
             return Turned::Refused(number);
         }
     }
-    if position_vector_converged(words, residual, tolerance) {
+    if position_vector_converged(tolerances, residual) {
         return Turned::Met;
     }
     match renew(
         preconditioner,
         diagonal,
-        starts,
-        columns,
-        heads,
-        nexts,
-        homes,
+        pattern,
+        order,
         values,
-        pivots,
-        owners,
-        blocks,
         residual,
         residual_product,
-        preconditioned,
+        product,
         direction,
     ) {
         Scale::Value(s) => Turned::On(s),
@@ -108,65 +85,45 @@ fn take_step(
 
 // The steps up to the limit. The step counted stands in `pending` and `residual`; after a refusal all that is written is left free.
 pub fn iterate(
-    words: &[u32],
-    tolerance: JointTolerance,
-    mode: Mode,
+    tolerances: &[f64],
     preconditioner: Preconditioner,
     masses: &[f64],
     bodies: usize,
     jacobians: &[f64],
     links: &[u32],
-    owners: &[u32],
     diagonal: &[f64],
-    starts: &[u32],
-    columns: &[u32],
-    heads: &[u32],
-    nexts: &[u32],
-    homes: &[u32],
+    pattern: &[u32],
+    order: &[u32],
     values: &[f64],
-    pivots: &[f64],
-    blocks: &[f64],
     residual_product: f64,
     limit: u32,
     body_impulses: &mut [f64],
-    body_responses: &mut [f64],
     product: &mut [f64],
-    preconditioned: &mut [f64],
     pending: &mut [f64],
     residual: &mut [f64],
     direction: &mut [f64],
 ) -> Iterated
-    requires { ⌜ Standing mode preconditioner (length (now direction)) bodies (now words) (now masses) (now jacobians) (now links) (now owners) (now diagonal) record { starts = now (starts); columns = now (columns); values = now (values); pivots = now (pivots); index = record { heads = now (heads); nexts = now (nexts); homes = now (homes) }; blocks = now (blocks) } ⌝ }
-    requires { ⌜ (length (now «body_impulses») ≡ 6 * bodies) × (length (now «body_responses») ≡ 6 * bodies) × (length (now product) ≡ length (now direction)) × (length (now preconditioned) ≡ length (now direction)) × (length (now pending) ≡ length (now direction)) × (length (now residual) ≡ length (now direction)) ⌝ }
-    ensures { λ r. ⌜ afterLoop limit (turns (turn (positionSteps mode (compactSystem (length (now (direction .entry))) bodies (now (jacobians .entry)) (now (links .entry)) (now (masses .entry))) (ownerIn (now (owners .entry))) (now (diagonal .entry)) (λ i. toleranceOf tolerance (dimensionOf (getD (now (words .entry)) (8 * i + 1) 0))))) (record { solution = now (pending .entry); residual = now (residual .entry) }, record { direction = now (direction .entry); s = «residual_product» }) limit) ≡ iteratedOut r limit (now (pending .exit)) (now (residual .exit)) ⌝ }
+    requires { ⌜ Standing preconditioner (length (now tolerances)) bodies (now tolerances) (now masses) (now jacobians) (now links) record { diagonal = now diagonal; pattern = now pattern; order = now order; values = now values } ⌝ }
+    requires { ⌜ (length (now «body_impulses») ≡ 6 * bodies) × (length (now product) ≡ length (now tolerances)) × (length (now pending) ≡ length (now tolerances)) × (length (now residual) ≡ length (now tolerances)) × (length (now direction) ≡ length (now tolerances)) ⌝ }
+    ensures { λ r. ⌜ afterLoop limit (turns (turn (stepsIn preconditioner (length (now (tolerances .entry))) bodies (now (tolerances .entry)) (now (masses .entry)) (now (jacobians .entry)) (now (links .entry)) record { diagonal = now (diagonal .entry); pattern = now (pattern .entry); order = now (order .entry); values = now (values .entry) })) (record { solution = now (pending .entry); residual = now (residual .entry) }, record { direction = now (direction .entry); s = «residual_product» }) limit) ≡ iteratedOut r limit (now (pending .exit)) (now (residual .exit)) ⌝ }
 {
     let mut s = residual_product;
     let mut k = 0;
     while k < limit {
         match take_step(
-            words,
-            tolerance,
-            mode,
+            tolerances,
             preconditioner,
             masses,
             bodies,
             jacobians,
             links,
-            owners,
             diagonal,
-            starts,
-            columns,
-            heads,
-            nexts,
-            homes,
+            pattern,
+            order,
             values,
-            pivots,
-            blocks,
             s,
             body_impulses,
-            body_responses,
             product,
-            preconditioned,
             pending,
             residual,
             direction,

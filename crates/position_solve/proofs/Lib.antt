@@ -1,2 +1,3 @@
--- Laws of the solve with its own memory.
+-- Laws of the solve with work memory of its own.
 pub mod Lending
+pub mod Rooms

@@ -3,19 +3,27 @@ use Prim.Native.Nat.{ℕ}
 use mathlib.Core.Path.{_≡_}
 use mathlib.Core.Bool.{Bool, _&&_}
 use Rattle.kapitsa_joint.specs.Table.{Table}
+use Rattle.preconditioner.specs.Mode.{modeOf}
+use Rattle.preconditioner.specs.Room.{patternRoom, orderRoom, valuesRoom}
 use Rattle.preconditioner.specs.declared.mode.Mode.{Mode}
 use Rattle.steps.specs.Solve.{solve}
 use Rattle.position_iteration.specs.Method.{positionMethod}
 use Rattle.position_delivery.specs.Outcome.{Lent, outcomeOf, SolveMeaning}
 use Rattle.position_delivery.specs.declared.answer.PositionPcg.{PositionPcg}
-use Rattle.work_memory.specs.Lengths.{countsFit, tableFits}
-use Rattle.work_memory.specs.declared.fit.TableLengths.{TableLengths}
+use Rattle.joint_refusals.specs.Counts.{countsFit}
+use Rattle.work_memory.specs.Lengths.{tableFits}
 
 -- Document 01, refusal 3, of what a caller lends: the counts, the mode, and the lengths of the table and of what takes the answer. True where the refusal does not apply.
-unfoldable pub jobFits : ℕ → ℕ → ℕ → TableLengths → Bool
-jobFits n b mode t = countsFit n b mode && tableFits n b t
+unfoldable pub jobFits : ℕ → ℕ → ℕ → ℕ → ℕ → ℕ → ℕ → ℕ → Bool
+jobFits n b mode numbers words masses solution impulses = countsFit n b mode && tableFits n b numbers words masses solution impulses
 
 -- of n rows; `fits` is whether refusal 3 passes
 pub record JobSolved (fits : Bool) (t : Table) (mode : Mode) (limit n : ℕ) (before after : Lent) (answer : PositionPcg) : Type 0 where
   pub answered : outcomeOf n before (solve (positionMethod fits t mode) limit) ≡ record { answer = answer; lent = after }  -- the answer and every lent number are the definition's, of refused calls too
   pub means : SolveMeaning (positionMethod fits t mode) limit n before answer after  -- demand 3
+
+-- the factor's memory is as long as the mode calls for
+pub record FactorRoom (mode n pattern order values : ℕ) : Type 0 where
+  pub pattern-long : pattern ≡ patternRoom (modeOf mode) n
+  pub order-long : order ≡ orderRoom (modeOf mode) n
+  pub values-long : values ≡ valuesRoom (modeOf mode) n

@@ -1,254 +1,56 @@
-// The solve: refusal 3, then the memory, lent by groups, so that no function lends much of it.
+// The solve: refusal 3, then the memory for 512 rows and 256 bodies, for the factor by mode, so that no mode adds its memory to another's.
 ghost use mathlib.Core.Path.{_≡_};
 ghost use mathlib.Core.Bool.{true};
-ghost use Prim.Native.Nat.{_*_};
+ghost use Prim.Native.Nat.{_≤_};
 ghost use lib.ListN.{length};
 ghost use Rattle.kapitsa_joint.specs.Table.{tableOf};
 ghost use Rattle.preconditioner.specs.Mode.{modeOf};
-ghost use Rattle.position_steps.specs.Counting.{CountHeld};
-ghost use Rattle.work_memory.specs.Lengths.{tableLengths};
-ghost use Rattle.position_solve.specs.Job.{jobFits, JobSolved};
-ghost use Rattle.position_solve.specs.Room.{TableRoom, CompactRoom, FactorRoom};
+ghost use Rattle.position_solve.specs.Job.{jobFits, JobSolved, FactorRoom};
 use crate::fit::job_fits;
-use crate::room::block_room;
-use crate::room::body_room;
-use crate::room::jacobian_room;
-use crate::room::link_room;
-use crate::room::pair_value_room;
-use crate::room::pair_word_room;
-use crate::room::row_room;
-use crate::room::row_word_room;
-use crate::room::start_room;
 use kapitsa_joint::JointTolerance;
-use pairs::pair_room;
+use pcg::solve_position_pcg_prepared;
 use position_delivery::PositionPcg;
-use position_delivery::finish_counted;
-use position_iteration::Iterated;
-use position_steps::count_steps;
 use preconditioner::Mode;
-use preconditioner::mode_of;
-use sparse::wide;
-use work_memory::TableLengths;
+use preconditioner::order_room;
+use preconditioner::pattern_room;
+use preconditioner::values_room;
 
-// The count, with memory for the vectors of a step: all that it asks for.
-fn with_steps(
-    numbers: &[f64],
+// With memory for the compact table and the vectors.
+fn with_vectors(
+    numbers: &mut [f64],
     words: &[u32],
     masses: &[f64],
     rows: u32,
     bodies: u32,
     tolerance: JointTolerance,
     limit: u32,
-    mode: Mode,
-    jacobians: &mut [f64],
-    links: &mut [u32],
-    residual: &mut [f64],
-    pending: &mut [f64],
-    body_impulses: &mut [f64],
-    starts: &mut [u32],
-    columns: &mut [u32],
+    mode: u32,
+    solution: &mut [f64],
+    impulses: &mut [f64],
+    pattern: &mut [u32],
+    order: &mut [u32],
     values: &mut [f64],
-    pivots: &mut [f64],
-    marks: &mut [u32],
-    heads: &mut [u32],
-    nexts: &mut [u32],
-    homes: &mut [u32],
-    room: u32,
-    blocks: &mut [f64],
-) -> Iterated
-    requires { ⌜ TableRoom rows bodies (length (now numbers)) (length (now words)) (length (now masses)) ⌝ }
-    requires { ⌜ CompactRoom rows bodies (length (now jacobians)) (length (now links)) (length (now residual)) (length (now pending)) (length (now «body_impulses»)) ⌝ }
-    requires { ⌜ FactorRoom rows room (length (now starts)) (length (now columns)) (length (now values)) (length (now pivots)) (length (now marks)) (length (now heads)) (length (now nexts)) (length (now homes)) (length (now blocks)) ⌝ }
-    ensures { λ r. ⌜ CountHeld mode (tableOf rows bodies (now (numbers .entry)) (now (words .entry)) (now (masses .entry)) tolerance) limit (now (masses .entry)) r (now (jacobians .exit)) (now (links .exit)) (now (pending .exit)) (now (residual .exit)) ⌝ }
-{
-    let mut owners = row_word_room();
-    let mut diagonal = row_room();
-    let mut preconditioned = row_room();
-    let mut direction = row_room();
-    let mut product = row_room();
-    let mut body_responses = body_room();
-    let n = wide(rows);
-    let b = wide(bodies);
-    let body_numbers = 6 * b;
-    count_steps(
-        numbers,
-        words,
-        masses,
-        rows,
-        bodies,
-        tolerance,
-        limit,
-        mode,
-        jacobians,
-        links,
-        &mut owners[..n],
-        &mut diagonal[..n],
-        residual,
-        pending,
-        &mut preconditioned[..n],
-        &mut direction[..n],
-        &mut product[..n],
-        body_impulses,
-        &mut body_responses[..body_numbers],
-        starts,
-        columns,
-        values,
-        pivots,
-        marks,
-        heads,
-        nexts,
-        homes,
-        room,
-        blocks,
-    )
-}
-
-// The count, with memory for the factors.
-fn with_factor(
-    numbers: &[f64],
-    words: &[u32],
-    masses: &[f64],
-    rows: u32,
-    bodies: u32,
-    tolerance: JointTolerance,
-    limit: u32,
-    mode: Mode,
-    jacobians: &mut [f64],
-    links: &mut [u32],
-    residual: &mut [f64],
-    pending: &mut [f64],
-    body_impulses: &mut [f64],
-) -> Iterated
-    requires { ⌜ TableRoom rows bodies (length (now numbers)) (length (now words)) (length (now masses)) ⌝ }
-    requires { ⌜ CompactRoom rows bodies (length (now jacobians)) (length (now links)) (length (now residual)) (length (now pending)) (length (now «body_impulses»)) ⌝ }
-    ensures { λ r. ⌜ CountHeld mode (tableOf rows bodies (now (numbers .entry)) (now (words .entry)) (now (masses .entry)) tolerance) limit (now (masses .entry)) r (now (jacobians .exit)) (now (links .exit)) (now (pending .exit)) (now (residual .exit)) ⌝ }
-{
-    let mut starts = start_room();
-    let mut columns = pair_word_room();
-    let mut values = pair_value_room();
-    let mut pivots = row_room();
-    let mut marks = row_word_room();
-    let mut heads = row_word_room();
-    let mut nexts = pair_word_room();
-    let mut homes = pair_word_room();
-    let mut blocks = block_room();
-    let n = wide(rows);
-    let ends = n + 1;
-    let room = pair_room(rows);
-    let places = wide(room);
-    let block_numbers = 36 * n;
-    with_steps(
-        numbers,
-        words,
-        masses,
-        rows,
-        bodies,
-        tolerance,
-        limit,
-        mode,
-        jacobians,
-        links,
-        residual,
-        pending,
-        body_impulses,
-        &mut starts[..ends],
-        &mut columns[..places],
-        &mut values[..places],
-        &mut pivots[..n],
-        &mut marks[..n],
-        &mut heads[..n],
-        &mut nexts[..places],
-        &mut homes[..places],
-        room,
-        &mut blocks[..block_numbers],
-    )
-}
-
-// The count, then what is delivered of it.
-fn count_and_finish(
-    numbers: &mut [f64],
-    words: &[u32],
-    masses: &[f64],
-    rows: u32,
-    bodies: u32,
-    tolerance: JointTolerance,
-    limit: u32,
-    mode: u32,
-    solution: &mut [f64],
-    impulses: &mut [f64],
-    jacobians: &mut [f64],
-    links: &mut [u32],
-    residual: &mut [f64],
-    pending: &mut [f64],
-    body_impulses: &mut [f64],
 ) -> PositionPcg
-    requires { ⌜ TableRoom rows bodies (length (now numbers)) (length (now words)) (length (now masses)) ⌝ }
-    requires { ⌜ (length (now solution) ≡ rows) × (length (now impulses) ≡ 6 * bodies) ⌝ }
-    requires { ⌜ CompactRoom rows bodies (length (now jacobians)) (length (now links)) (length (now residual)) (length (now pending)) (length (now «body_impulses»)) ⌝ }
+    requires { ⌜ jobFits rows bodies mode (length (now numbers)) (length (now words)) (length (now masses)) (length (now solution)) (length (now impulses)) ≡ true ⌝ }
+    requires { ⌜ (rows ≤ 512) × (bodies ≤ 256) ⌝ }
+    requires { ⌜ FactorRoom mode rows (length (now pattern)) (length (now order)) (length (now values)) ⌝ }
     ensures { λ r. ⌜ JobSolved true (tableOf rows bodies (now (numbers .entry)) (now (words .entry)) (now (masses .entry)) tolerance) (modeOf mode) limit rows record { numbers = now (numbers .entry); solution = now (solution .entry); impulses = now (impulses .entry) } record { numbers = now (numbers .exit); solution = now (solution .exit); impulses = now (impulses .exit) } r ⌝ }
 {
-    let counted = with_factor(
-        numbers,
-        words,
-        masses,
-        rows,
-        bodies,
-        tolerance,
-        limit,
-        mode_of(mode),
-        jacobians,
-        links,
-        residual,
-        pending,
-        body_impulses,
-    );
-    finish_counted(
-        counted,
-        limit,
-        numbers,
-        words,
-        masses,
-        rows,
-        bodies,
-        tolerance,
-        jacobians,
-        links,
-        pending,
-        residual,
-        body_impulses,
-        solution,
-        impulses,
-    )
-}
-
-// With memory for the compact table, residual, pending solution and impulses.
-fn with_table(
-    numbers: &mut [f64],
-    words: &[u32],
-    masses: &[f64],
-    rows: u32,
-    bodies: u32,
-    tolerance: JointTolerance,
-    limit: u32,
-    mode: u32,
-    solution: &mut [f64],
-    impulses: &mut [f64],
-) -> PositionPcg
-    requires { ⌜ TableRoom rows bodies (length (now numbers)) (length (now words)) (length (now masses)) ⌝ }
-    requires { ⌜ (length (now solution) ≡ rows) × (length (now impulses) ≡ 6 * bodies) ⌝ }
-    ensures { λ r. ⌜ JobSolved true (tableOf rows bodies (now (numbers .entry)) (now (words .entry)) (now (masses .entry)) tolerance) (modeOf mode) limit rows record { numbers = now (numbers .entry); solution = now (solution .entry); impulses = now (impulses .entry) } record { numbers = now (numbers .exit); solution = now (solution .exit); impulses = now (impulses .exit) } r ⌝ }
-{
-    let mut jacobians = jacobian_room();
-    let mut links = link_room();
-    let mut residual = row_room();
-    let mut pending = row_room();
-    let mut body_impulses = body_room();
-    let n = wide(rows);
-    let b = wide(bodies);
+    let mut jacobians: [f64; 6144] = [0.0; 6144];
+    let mut links: [u32; 1024] = [0; 1024];
+    let mut tolerances: [f64; 512] = [0.0; 512];
+    let mut diagonal: [f64; 512] = [0.0; 512];
+    let mut residual: [f64; 512] = [0.0; 512];
+    let mut pending: [f64; 512] = [0.0; 512];
+    let mut direction: [f64; 512] = [0.0; 512];
+    let mut product: [f64; 512] = [0.0; 512];
+    let mut body_impulses: [f64; 1536] = [0.0; 1536];
+    let n = rows as usize;
+    let b = bodies as usize;
     let jacobian_numbers = 12 * n;
     let body_links = 2 * n;
     let body_numbers = 6 * b;
-    count_and_finish(
+    solve_position_pcg_prepared(
         numbers,
         words,
         masses,
@@ -261,9 +63,135 @@ fn with_table(
         impulses,
         &mut jacobians[..jacobian_numbers],
         &mut links[..body_links],
+        &mut tolerances[..n],
+        &mut diagonal[..n],
         &mut residual[..n],
         &mut pending[..n],
+        &mut direction[..n],
+        &mut product[..n],
         &mut body_impulses[..body_numbers],
+        pattern,
+        order,
+        values,
+    )
+}
+
+// Mode 1: starts and columns, the index by column and the numbers of 16,384 pairs.
+fn with_factor(
+    numbers: &mut [f64],
+    words: &[u32],
+    masses: &[f64],
+    rows: u32,
+    bodies: u32,
+    tolerance: JointTolerance,
+    limit: u32,
+    mode: u32,
+    solution: &mut [f64],
+    impulses: &mut [f64],
+) -> PositionPcg
+    requires { ⌜ jobFits rows bodies mode (length (now numbers)) (length (now words)) (length (now masses)) (length (now solution)) (length (now impulses)) ≡ true ⌝ }
+    requires { ⌜ (rows ≤ 512) × (bodies ≤ 256) ⌝ }
+    requires { ⌜ mode ≡ 1 ⌝ }
+    ensures { λ r. ⌜ JobSolved true (tableOf rows bodies (now (numbers .entry)) (now (words .entry)) (now (masses .entry)) tolerance) (modeOf mode) limit rows record { numbers = now (numbers .entry); solution = now (solution .entry); impulses = now (impulses .entry) } record { numbers = now (numbers .exit); solution = now (solution .exit); impulses = now (impulses .exit) } r ⌝ }
+{
+    let mut pattern: [u32; 16897] = [0; 16897];
+    let mut order: [u32; 33280] = [0; 33280];
+    let mut values: [f64; 16384] = [0.0; 16384];
+    let pattern_words = pattern_room(Mode::IncompleteCholesky, rows);
+    let order_words = order_room(Mode::IncompleteCholesky, rows);
+    let value_numbers = values_room(Mode::IncompleteCholesky, rows);
+    with_vectors(
+        numbers,
+        words,
+        masses,
+        rows,
+        bodies,
+        tolerance,
+        limit,
+        mode,
+        solution,
+        impulses,
+        &mut pattern[..pattern_words],
+        &mut order[..order_words],
+        &mut values[..value_numbers],
+    )
+}
+
+// Mode 2: the joint of each row, and 36 numbers a row.
+fn with_blocks(
+    numbers: &mut [f64],
+    words: &[u32],
+    masses: &[f64],
+    rows: u32,
+    bodies: u32,
+    tolerance: JointTolerance,
+    limit: u32,
+    mode: u32,
+    solution: &mut [f64],
+    impulses: &mut [f64],
+) -> PositionPcg
+    requires { ⌜ jobFits rows bodies mode (length (now numbers)) (length (now words)) (length (now masses)) (length (now solution)) (length (now impulses)) ≡ true ⌝ }
+    requires { ⌜ (rows ≤ 512) × (bodies ≤ 256) ⌝ }
+    requires { ⌜ mode ≡ 2 ⌝ }
+    ensures { λ r. ⌜ JobSolved true (tableOf rows bodies (now (numbers .entry)) (now (words .entry)) (now (masses .entry)) tolerance) (modeOf mode) limit rows record { numbers = now (numbers .entry); solution = now (solution .entry); impulses = now (impulses .entry) } record { numbers = now (numbers .exit); solution = now (solution .exit); impulses = now (impulses .exit) } r ⌝ }
+{
+    let mut pattern: [u32; 512] = [0; 512];
+    let mut order: [u32; 0] = [0; 0];
+    let mut values: [f64; 18432] = [0.0; 18432];
+    let pattern_words = pattern_room(Mode::BlockJacobi, rows);
+    let value_numbers = values_room(Mode::BlockJacobi, rows);
+    with_vectors(
+        numbers,
+        words,
+        masses,
+        rows,
+        bodies,
+        tolerance,
+        limit,
+        mode,
+        solution,
+        impulses,
+        &mut pattern[..pattern_words],
+        &mut order,
+        &mut values[..value_numbers],
+    )
+}
+
+// Mode 0 has no factor.
+fn with_diagonal(
+    numbers: &mut [f64],
+    words: &[u32],
+    masses: &[f64],
+    rows: u32,
+    bodies: u32,
+    tolerance: JointTolerance,
+    limit: u32,
+    mode: u32,
+    solution: &mut [f64],
+    impulses: &mut [f64],
+) -> PositionPcg
+    requires { ⌜ jobFits rows bodies mode (length (now numbers)) (length (now words)) (length (now masses)) (length (now solution)) (length (now impulses)) ≡ true ⌝ }
+    requires { ⌜ (rows ≤ 512) × (bodies ≤ 256) ⌝ }
+    requires { ⌜ mode ≡ 0 ⌝ }
+    ensures { λ r. ⌜ JobSolved true (tableOf rows bodies (now (numbers .entry)) (now (words .entry)) (now (masses .entry)) tolerance) (modeOf mode) limit rows record { numbers = now (numbers .entry); solution = now (solution .entry); impulses = now (impulses .entry) } record { numbers = now (numbers .exit); solution = now (solution .exit); impulses = now (impulses .exit) } r ⌝ }
+{
+    let mut pattern: [u32; 0] = [0; 0];
+    let mut order: [u32; 0] = [0; 0];
+    let mut values: [f64; 0] = [0.0; 0];
+    with_vectors(
+        numbers,
+        words,
+        masses,
+        rows,
+        bodies,
+        tolerance,
+        limit,
+        mode,
+        solution,
+        impulses,
+        &mut pattern,
+        &mut order,
+        &mut values,
     )
 }
 
@@ -280,23 +208,49 @@ pub fn solve_position(
     solution: &mut [f64],
     impulses: &mut [f64],
 ) -> PositionPcg
-    ensures { λ r. ⌜ JobSolved (jobFits rows bodies mode (tableLengths (now (numbers .entry)) (now (words .entry)) (now (masses .entry)) (now (solution .entry)) (now (impulses .entry)))) (tableOf rows bodies (now (numbers .entry)) (now (words .entry)) (now (masses .entry)) tolerance) (modeOf mode) limit rows record { numbers = now (numbers .entry); solution = now (solution .entry); impulses = now (impulses .entry) } record { numbers = now (numbers .exit); solution = now (solution .exit); impulses = now (impulses .exit) } r ⌝ }
+    ensures { λ r. ⌜ JobSolved (jobFits rows bodies mode (length (now (numbers .entry))) (length (now (words .entry))) (length (now (masses .entry))) (length (now (solution .entry))) (length (now (impulses .entry)))) (tableOf rows bodies (now (numbers .entry)) (now (words .entry)) (now (masses .entry)) tolerance) (modeOf mode) limit rows record { numbers = now (numbers .entry); solution = now (solution .entry); impulses = now (impulses .entry) } record { numbers = now (numbers .exit); solution = now (solution .exit); impulses = now (impulses .exit) } r ⌝ }
 {
     if !job_fits(
         rows,
         bodies,
         mode,
-        TableLengths {
-            numbers: numbers.len(),
-            words: words.len(),
-            masses: masses.len(),
-            solution: solution.len(),
-            impulses: impulses.len(),
-        },
+        numbers.len(),
+        words.len(),
+        masses.len(),
+        solution.len(),
+        impulses.len(),
     ) {
         return PositionPcg::Refused(3);
     }
-    with_table(
+    if mode == 0 {
+        return with_diagonal(
+            numbers,
+            words,
+            masses,
+            rows,
+            bodies,
+            tolerance,
+            limit,
+            mode,
+            solution,
+            impulses,
+        );
+    }
+    if mode == 1 {
+        return with_factor(
+            numbers,
+            words,
+            masses,
+            rows,
+            bodies,
+            tolerance,
+            limit,
+            mode,
+            solution,
+            impulses,
+        );
+    }
+    with_blocks(
         numbers,
         words,
         masses,

@@ -1,95 +1,103 @@
--- The ways through the count: step 0 or what comes before it is refused, step 0 meets tolerance, or the steps follow. Assumes nothing.
-use Prim.Native.Nat.{ℕ, _+_, _*_}
+-- The count: what is judged before step 0, step 0, and what follows it. Assumes nothing.
+use Prim.Native.Nat.{ℕ, _+_, _*_, _<_}
 use mathlib.Core.Path.{_≡_, refl, sym, ap, _∙_}
 use mathlib.Core.Bool.{Bool, true, false}
 use mathlib.Core.List.{List}
 use native.Mathlib.Omega.{arith}
 use lib.ListN.{getD, length}
-use lib.Ieee.{Float}
+use lib.Ieee.{Float, nan}
 use Rattle.loops.specs.Run.{Run, going, ended, on, next, check}
+use Rattle.loops.specs.Tabulate.{tabulate}
 use Rattle.loops.proofs.Loop.{on-going, on-ended}
+use Rattle.loops.proofs.Tabulate.{getD-tabulate}
 use Rattle.kapitsa_joint.specs.Row.{rowOf, wordsOf}
-use Rattle.kapitsa_joint.specs.Table.{Table, tableOf}
-use Rattle.kapitsa_joint.specs.Tolerance.{dimensionOf, toleranceOf}
+use Rattle.kapitsa_joint.specs.Table.{Table, tableOf, tolerancesIn}
 use Rattle.kapitsa_joint.specs.declared.tolerance.JointTolerance.{JointTolerance}
 use Rattle.mass_operator.specs.System.{System, systemOf, compactSystem}
-use Rattle.block_jacobi.specs.Runs.{ownerIn}
+use Rattle.preconditioner.specs.Factor.{factorJudged}
+use Rattle.preconditioner.specs.Apply.{preconditioned}
+use Rattle.preconditioner.specs.Room.{Memory, Roomy}
+use Rattle.preconditioner.specs.Held.{jointsIn}
 use Rattle.preconditioner.specs.declared.mode.Mode.{Mode}
-use Rattle.recurrence.specs.Step.{Iterate}
+use Rattle.recurrence.specs.Step.{Iterate, Carried, firstFrom}
 use Rattle.position.specs.Prepare.{diagonals}
 use Rattle.position.specs.Residual.{meetsOf}
 use Rattle.position.specs.declared.prepare.Begun.{Begun}
 use Rattle.position.specs.declared.prepare.Begun.the-variants as begun
 use Rattle.steps.specs.Solve.{counting}
-use Rattle.position_iteration.specs.Method.{ownerOf, openingOf, beginOf}
+use Rattle.position_iteration.specs.Method.{ownerOf, openingOf, beginOf, firstOf}
 use Rattle.position_iteration.specs.Counting.{countedOf}
 use Rattle.position_iteration.specs.Standing.{iteratedOut}
-use Rattle.position_steps.specs.Start.{StartHeld, startOut}
-use Rattle.position_steps.specs.Running.{loopingOf, runningOf}
-use Rattle.position_iteration.specs.Stands.{Stands}
-use Rattle.position_steps.specs.Counting.{CountHeld}
+use Rattle.position_iteration.specs.Stands.{Counted, Stands}
 use Rattle.position_iteration.specs.declared.iteration.Iterated.{Iterated}
 use Rattle.position_iteration.specs.declared.iteration.Iterated.the-variants as iterated
+use Rattle.work_memory.specs.Work.{StepMemory, clearedSteps}
+use Rattle.position_steps.specs.Start.{Started, StartHeld, Linking, startOut}
+use Rattle.position_steps.specs.Running.{loopingBy, steppingBy, runningOf, followingOf}
+use Rattle.position_steps.specs.Counting.{CountHeld}
+use Rattle.position_steps.proofs.Stepping.{next-same, following-same}
 
-module _ (numbers : List Float) (words : List ℕ) (masses : List Float) (rows bodies : ℕ) (tolerance : JointTolerance) (limit : ℕ) (a : Begun) (jacobians : List Float) (links owners : List ℕ) (diagonal pending residual : List Float)
-    (held : StartHeld (tableOf rows bodies numbers words masses tolerance) limit masses a jacobians links owners diagonal pending residual) where
+-- one after the other, from either side
+next-next : {S T U A : Type 0} (r : Run S A) (f : S → Run T A) (g : T → Run U A) → next (next r f) g ≡ next r (λ s. next (f s) g)
+unfolding on
+next-next (going s) f g = refl
+next-next (ended a) f g = refl
+
+module _ (t : Table) (mode : Mode) (limit : ℕ) where
+  abbrev following : Iterate → Run (Bool × ℕ × Iterate) ℕ
+  following = followingOf mode (systemOf t) (ownerOf t) (diagonals t) (t .tolerance) limit
+
+  pub in-turn : countedOf mode t limit ≡ next (next (openingOf true t limit) (λ _. beginOf t)) following
+  unfolding countedOf counting followingOf runningOf steppingBy loopingBy firstOf
+  in-turn =
+      next-same (openingOf true t limit) _ _ (λ _. next-same (beginOf t) _ _ (λ v. ap (check (meetsOf (t .tolerance) (v .residual) (t .rows)) (going (true, 0, v))) (one v)))
+      ∙ sym (next-next (openingOf true t limit) (λ _. beginOf t) following)
+    where
+      one : (v : Iterate) → next (firstOf mode (systemOf t) (ownerOf t) (diagonals t) v) (loopingBy (preconditioned mode (systemOf t) (ownerOf t) (diagonals t)) (systemOf t) (t .tolerance) limit v) ≡ runningOf mode (systemOf t) (ownerOf t) (diagonals t) (t .tolerance) limit v
+      one v = next-next (factorJudged mode (systemOf t) (ownerOf t) (diagonals t)) _ _
+
+-- ---- what `run_steps` asks
+pub start-linked : (t : Table) (limit : ℕ) (masses : List Float) (a : Begun) (jacobians : List Float) (links : List ℕ) (tolerances diagonal pending residual : List Float) (w : ℕ) → StartHeld t limit masses a jacobians links tolerances diagonal pending residual → w ≡ t .bodies → Linking a links (t .rows) w
+start-linked t limit masses a jacobians links tolerances diagonal pending residual w h e = record { linked = λ q. rw e (h .started q .stands .linked) }
+
+pub start-roomy : (mode : Mode) (n : ℕ) (m : Memory) (diagonal : List Float) → Roomy mode n m → length diagonal ≡ length (m .diagonal) → Roomy mode n record { diagonal = diagonal; pattern = m .pattern; order = m .order; values = m .values }
+start-roomy mode n m diagonal r e = record { diagonal-long = e ∙ r .diagonal-long; pattern-long = r .pattern-long; order-long = r .order-long; values-long = r .values-long }
+
+-- ---- `count_steps`
+module _ (numbers : List Float) (words : List ℕ) (masses : List Float) (rows bodies : ℕ) (tolerance : JointTolerance) (limit : ℕ) (mode : Mode) (a : Begun) (jacobians : List Float) (links : List ℕ) (tolerances diagonal pending residual : List Float) where
   abbrev table : Table
   table = tableOf rows bodies numbers words masses tolerance
 
-  abbrev tolerances : ℕ → Float
-  tolerances i = toleranceOf tolerance (dimensionOf (getD words (8 * i + 1) 0))
+  abbrev code : ℕ → Iterate → Run (Bool × ℕ × Iterate) ℕ
+  code w = followingOf mode (compactSystem rows w jacobians links masses) (jointsIn words) diagonal (tolerancesIn tolerances) limit
 
-  abbrev zeroth : Iterate
-  zeroth = record { solution = pending; residual = residual }
+  told : Started table masses jacobians links tolerances diagonal → length residual ≡ rows → code bodies (record { solution = pending; residual = residual }) ≡ following table mode limit (record { solution = pending; residual = residual })
+  unfolding rowOf wordsOf
+  told h long =
+      let v : Iterate = record { solution = pending; residual = residual } in
+      ap (λ (s : System). followingOf mode s (jointsIn words) diagonal (tolerancesIn tolerances) limit v) (h .stands .system)
+      ∙ ap (λ (d : List Float). followingOf mode (systemOf table) (ownerOf table) d (tolerancesIn tolerances) limit v) (h .diagonal-is)
+      ∙ following-same mode (systemOf table) (ownerOf table) (diagonals table) (tolerancesIn tolerances) (table .tolerance) limit v (λ i l. ap (λ (x : List Float). getD x i nan) (h .tolerances-are) ∙ getD-tabulate (table .tolerance) rows i nan l) long
 
-  module _ (mode : Mode) where
-    -- what follows step 0
-    abbrev after : Iterate → Run (Bool × ℕ × Iterate) ℕ
-    after v = check (meetsOf (table .tolerance) (v .residual) rows) (going (true, 0, v)) (runningOf mode (systemOf table) (ownerOf table) (diagonals table) (table .tolerance) limit v)
+  module _ (held : StartHeld table limit masses a jacobians links tolerances diagonal pending residual) (long : length residual ≡ rows) (w : ℕ) (ew : w ≡ bodies) (o : Iterated) (x r : List Float) (called : next (startOut a pending residual) (code w) ≡ iteratedOut o limit x r) where
+    here : next (startOut a pending residual) (code bodies) ≡ iteratedOut o limit x r
+    here = ap (λ (i : ℕ). next (startOut a pending residual) (code i)) (sym ew) ∙ called
 
-    in-turn : countedOf mode table limit ≡ next (next (openingOf true table limit) (λ _. beginOf table)) after
-    unfolding countedOf counting runningOf loopingOf on
-    in-turn = joined (openingOf true table limit)
-      where
-        joined : (p : Run Unit ℕ) → next p (λ _. next (beginOf table) after) ≡ next (next p (λ _. beginOf table)) after
-        joined (going _) = refl
-        joined (ended k) = refl
+    follows : (q : Begun) → a ≡ q → next (startOut q pending residual) (following table mode limit) ≡ next (startOut q pending residual) (code bodies)
+    follows begun.Done e = on-going _ _ _ refl ∙ sym (told (held .started e) long) ∙ sym (on-going _ _ _ refl)
+    follows (begun.Refused k) e = on-ended _ _ _ refl ∙ sym (on-ended _ _ _ refl)
 
-    pub count-refused : (k : ℕ) → a ≡ begun.Refused k → CountHeld mode table limit masses (iterated.Refused k) jacobians links pending residual
-    count-refused k e = record {
-      answered = in-turn ∙ on-ended _ _ _ {a = k} (held .answered ∙ rw e);
-      counted = record { met = λ count q. absurd (let z : _≡_ {A = ℕ} 0 1 = cc in omega arith); spent = λ q. absurd (let z : _≡_ {A = ℕ} 0 1 = cc in omega arith) };
+    answers : countedOf mode table limit ≡ iteratedOut o limit x r
+    answers = in-turn table mode limit ∙ ap (λ (q : Run Iterate ℕ). next q (following table mode limit)) (held .answered) ∙ follows a refl ∙ here
+
+    -- where the answer is no refusal, step 0 was none
+    stands : (q : Begun) → a ≡ q → (p : Bool × ℕ × Iterate) → iteratedOut o limit x r ≡ going p → Stands table masses jacobians links
+    stands begun.Done e p h = held .started e .stands
+    stands (begun.Refused k) e p h = absurd (let y : ended k ≡ going p = sym (on-ended _ _ _ refl) ∙ ap (λ (b : Begun). next (startOut b pending residual) (code bodies)) (sym e) ∙ here ∙ h in let z : _≡_ {A = ℕ} 0 1 = cc in omega arith)
+
+    pub count-held : (before after : StepMemory) → after ≡ clearedSteps before → CountHeld mode table limit masses o jacobians links x r before after
+    count-held before after m = record {
+      answered = answers;
+      counted = record { met = λ k e. stands a refl (true, k, record { solution = x; residual = r }) (rw e); spent = λ e. stands a refl (false, limit, record { solution = x; residual = r }) (rw e) };
+      memory = m;
     }
-
-    module _ (done : a ≡ begun.Done) (b : Bool) (eb : b ≡ meetsOf tolerances residual (length residual)) (long : length residual ≡ rows) where
-      begins : next (openingOf true table limit) (λ _. beginOf table) ≡ going zeroth
-      begins = held .answered ∙ ap (λ (q : Begun). startOut q pending residual) done
-
-      tested : (o : Bool) → b ≡ o → meetsOf (table .tolerance) residual rows ≡ o
-      unfolding rowOf wordsOf
-      tested o e = ap (meetsOf tolerances residual) (sym long) ∙ sym eb ∙ e
-
-      stands : Stands table masses jacobians links
-      stands = record { system = held .started done .system; linked = held .started done .linked }
-
-      pub count-met : b ≡ true → CountHeld mode table limit masses (iterated.Met 0) jacobians links pending residual
-      unfolding check
-      count-met e = record { answered = in-turn ∙ on-going _ _ _ {s = zeroth} begins ∙ rw (tested true e); counted = record { met = λ count q. stands; spent = λ q. stands } }
-
-      abbrev run : ℕ → ℕ → Run (Bool × ℕ × Iterate) ℕ
-      run k w = runningOf mode (compactSystem k w jacobians links masses) (ownerIn owners) diagonal tolerances limit zeroth
-
-      as-told : run rows bodies ≡ runningOf mode (systemOf table) (ownerOf table) (diagonals table) (table .tolerance) limit zeroth
-      unfolding rowOf wordsOf
-      as-told =
-          ap (λ (s : System). runningOf mode s (ownerIn owners) diagonal tolerances limit zeroth) (held .started done .system)
-          ∙ ap (λ (f : ℕ → ℕ). runningOf mode (systemOf table) f diagonal tolerances limit zeroth) (held .started done .owner)
-          ∙ ap (λ (d : List Float). runningOf mode (systemOf table) (ownerOf table) d tolerances limit zeroth) (held .started done .diagonal-is)
-
-      module _ (k w : ℕ) (ek : k ≡ rows) (ew : w ≡ bodies) (o : Iterated) (x r : List Float) (called : run k w ≡ iteratedOut o limit x r) where
-        follows : runningOf mode (systemOf table) (ownerOf table) (diagonals table) (table .tolerance) limit zeroth ≡ iteratedOut o limit x r
-        follows = sym as-told ∙ ap (λ (i : ℕ). run i bodies) (sym ek) ∙ ap (λ (i : ℕ). run k i) (sym ew) ∙ called
-
-        pub count-on : b ≡ false → CountHeld mode table limit masses o jacobians links x r
-        unfolding check
-        count-on e = record { answered = in-turn ∙ on-going _ _ _ {s = zeroth} begins ∙ rw (tested false e) follows; counted = record { met = λ count q. stands; spent = λ q. stands } }

@@ -1,67 +1,50 @@
 -- What stands after the factor is built: the steps may be made with it. Assumes nothing.
 use Prim.Native.Nat.{ℕ, _*_, _≤_}
-use mathlib.Core.Path.{_≡_, sym, _∙_, subst}
+use mathlib.Core.Path.{_≡_, sym, subst}
+use mathlib.Core.Bool.{Bool}
 use mathlib.Core.List.{List}
 use lib.ListN.{length}
 use lib.Ieee.{Float}
+use Rattle.loops.specs.Run.{Run}
 use Rattle.compact_table.specs.Compact.{Linked}
-use Rattle.mass_operator.specs.System.{compactSystem}
-use Rattle.block_jacobi.specs.Runs.{ownerIn}
+use Rattle.mass_operator.specs.System.{System, compactSystem}
 use Rattle.preconditioner.specs.Factor.{factorJudged}
-use Rattle.preconditioner.specs.Held.{Memory, FactorBuilt, preparedOut}
+use Rattle.preconditioner.specs.Room.{Memory, Roomy}
+use Rattle.preconditioner.specs.Held.{FactorBuilt, Holds, zIn, jointsIn, preparedOut}
 use Rattle.preconditioner.specs.declared.mode.Mode.{Mode}
 use Rattle.preconditioner.specs.declared.apply.Preconditioner.{Preconditioner}
 use Rattle.preconditioner.specs.declared.prepare.Prepared.{Prepared}
 use Rattle.preconditioner.specs.declared.prepare.Prepared.the-variants as prepared
+use Rattle.preconditioner.proofs.Modes.{joints-are}
 use Rattle.preconditioner.proofs.Means.{built-answered, built-holds, built-ready}
-use Rattle.position_iteration.specs.Standing.{Rooms, Standing}
+use Rattle.recurrence.specs.Step.{Iterate}
+use Rattle.position_iteration.specs.Standing.{Standing}
+use Rattle.position_steps.specs.Running.{steppingBy}
 
-module _ (n bodies : ℕ) (words : List ℕ) (masses jacobians : List Float) (links owners : List ℕ) (diagonal : List Float) (m : Memory) (rooms : Rooms n bodies words masses jacobians links owners diagonal m) (linked : Linked links n bodies) (k : ℕ) (e : k ≡ n) where
-  -- what `build_preconditioner` asks, for k rows
-  rooms-there : Rooms k bodies words masses jacobians links owners diagonal m
-  rooms-there = subst (λ (i : ℕ). Rooms i bodies words masses jacobians links owners diagonal m) (sym e) rooms
+module _ (n bodies : ℕ) (words : List ℕ) (masses jacobians : List Float) (links : List ℕ) (before after : Memory) (mode : Mode) (a : Prepared) (built : FactorBuilt (compactSystem n bodies jacobians links masses) (jointsIn words) before after mode a) where
+  abbrev system : System
+  system = compactSystem n bodies jacobians links masses
 
-  pub build-table : (12 * k ≤ length jacobians) × (2 * k ≤ length links) × (10 * bodies ≤ length masses) × (length owners ≡ k) × (36 * k ≤ length (m .blocks))
-  build-table = (rooms-there .jacobians-long, rooms-there .links-long, rooms-there .masses-long, rooms-there .owners-long, rooms-there .blocks-long)
+  pub factor-told : factorJudged mode system (jointsIn words) (before .diagonal) ≡ preparedOut a
+  factor-told = built-answered system (jointsIn words) before after mode a built
 
-  pub build-linked : Linked links k bodies
-  build-linked = subst (λ (i : ℕ). Linked links i bodies) (sym e) linked
+  module _ (ew : length words ≡ 8 * n) (room : Roomy mode n before) (p : Preconditioner) (done : a ≡ prepared.Done p) where
+    pub factor-holds : Holds system (jointsIn words) (before .diagonal) after mode p
+    factor-holds = built-holds system (jointsIn words) before after p (joints-are words n ew) mode a done room built
 
-  pub build-heads : k ≡ length (m .index .heads)
-  build-heads = sym (rooms-there .heads-long)
-
-  pub build-diagonal : length diagonal ≡ k
-  build-diagonal = rooms-there .diagonal-long
-
-  pub build-pivots : length (m .pivots) ≡ k
-  build-pivots = rooms-there .pivots-long
-
-  -- what it leaves
-  module _ (mode : Mode) (after : Memory) (a : Prepared) (built : FactorBuilt (compactSystem k bodies jacobians links masses) (ownerIn owners) diagonal m after mode a) where
-    here : FactorBuilt (compactSystem n bodies jacobians links masses) (ownerIn owners) diagonal m after mode a
-    here = subst (λ (i : ℕ). FactorBuilt (compactSystem i bodies jacobians links masses) (ownerIn owners) diagonal m after mode a) e built
-
-    pub factor-told : factorJudged mode (compactSystem n bodies jacobians links masses) (ownerIn owners) diagonal ≡ preparedOut a
-    factor-told = built-answered (compactSystem n bodies jacobians links masses) (ownerIn owners) diagonal m after mode a here
-
-    pub factor-stands : (p : Preconditioner) → a ≡ prepared.Done p → length (after .columns) ≡ length (m .columns) → length (after .values) ≡ length (m .values) → length (after .pivots) ≡ length (m .pivots) → length (after .index .heads) ≡ length (m .index .heads) → length (after .index .nexts) ≡ length (m .index .nexts) → length (after .index .homes) ≡ length (m .index .homes) → length (after .blocks) ≡ length (m .blocks)
-        → Standing mode p n bodies words masses jacobians links owners diagonal after
-    factor-stands p done ec ev ep eh en eo eb = record {
-      rooms = record {
-        words-long = rooms .words-long;
-        masses-long = rooms .masses-long;
-        jacobians-long = rooms .jacobians-long;
-        links-long = rooms .links-long;
-        owners-long = rooms .owners-long;
-        diagonal-long = rooms .diagonal-long;
-        values-long = ev ∙ rooms .values-long ∙ sym ec;
-        nexts-long = en ∙ rooms .nexts-long ∙ sym ec;
-        homes-long = eo ∙ rooms .homes-long ∙ sym ec;
-        blocks-long = subst (λ (l : ℕ). 36 * n ≤ l) (sym eb) (rooms .blocks-long);
-        heads-long = eh ∙ rooms .heads-long;
-        pivots-long = ep ∙ rooms .pivots-long;
-      };
+    -- k rows have a tolerance
+    pub factor-stands : (tolerances : List Float) (k : ℕ) → k ≡ n → length tolerances ≡ n → 10 * bodies ≤ length masses → 12 * n ≤ length jacobians → 2 * n ≤ length links → Linked links n bodies
+        → length (after .diagonal) ≡ length (before .diagonal) → length (after .pattern) ≡ length (before .pattern) → length (after .order) ≡ length (before .order) → length (after .values) ≡ length (before .values)
+        → Standing p k bodies tolerances masses jacobians links after
+    factor-stands tolerances k ek et em ej el linked ed ep eo ev = subst (λ (i : ℕ). Standing p i bodies tolerances masses jacobians links after) (sym ek) (record {
+      tolerances-long = et;
+      masses-long = em;
+      jacobians-long = ej;
+      links-long = el;
       linked = linked;
-      ready = built-ready (compactSystem n bodies jacobians links masses) (ownerIn owners) diagonal m after p mode a done (rooms .blocks-long) here;
-      holds = built-holds (compactSystem n bodies jacobians links masses) (ownerIn owners) diagonal m after p mode a done (rooms .blocks-long) here;
-    }
+      ready = built-ready system (jointsIn words) before after p (joints-are words n ew) ed ep eo ev mode a done room built;
+    })
+
+    -- as many rows as there are tolerances
+    pub factor-runs : (tolerance : ℕ → Float) (limit : ℕ) (v : Iterate) (k : ℕ) {o : Run (Bool × ℕ × Iterate) ℕ} → k ≡ n → steppingBy (zIn p k after) (compactSystem k bodies jacobians links masses) tolerance limit v ≡ o → steppingBy (zIn p n after) system tolerance limit v ≡ o
+    factor-runs tolerance limit v k {o} e h = subst (λ (i : ℕ). steppingBy (zIn p i after) (compactSystem i bodies jacobians links masses) tolerance limit v ≡ o) e h

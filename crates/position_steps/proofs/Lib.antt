@@ -1,8 +1,7 @@
--- Laws of the position solve's steps.
+-- Laws of the steps.
 pub mod Openings
 pub mod Tables
 pub mod StepZero
 pub mod Stepping
 pub mod Factored
-pub mod Lent
 pub mod Counted

@@ -14,7 +14,7 @@ use Rattle.loops.specs.Judge.{judge}
 use Rattle.kapitsa_joint.specs.Table.{Table, tableOf}
 use Rattle.joint_refusals.specs.Refusals.{wordsFitOf, massFiniteOf, passes4, opensOf, rowsOpen, passes6}
 use Rattle.kapitsa_joint.specs.Mass.{massOf}
-use Rattle.recurrence.proofs.Ways.{test-pass, test-fail}
+use Rattle.loops.proofs.Judge.{test-pass, test-fail}
 use Rattle.position_iteration.specs.Method.{passes5, openingOf}
 
 -- ---- `opens`

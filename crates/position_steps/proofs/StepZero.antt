@@ -1,18 +1,20 @@
 -- The ways to step 0: the opening or a row is refused, or the lent memory holds the table. Assumes nothing.
-use Prim.Native.Nat.{ℕ, _+_, _*_}
+use Prim.Native.Nat.{ℕ, _+_, _*_, _<_}
 use mathlib.Core.Path.{_≡_, ap, _∙_, subst}
 use mathlib.Core.Bool.{true}
 use mathlib.Core.List.{List}
 use native.Mathlib.Omega.{arith}
 use lib.ListN.{getD, length}
-use lib.Ieee.{Float}
+use lib.Ieee.{Float, nan}
 use Rattle.loops.specs.Run.{going, ended}
 use Rattle.loops.specs.Judge.{judged}
 use Rattle.loops.specs.Tabulate.{tabulate}
+use Rattle.loops.specs.Cleared.{zeros}
 use Rattle.loops.proofs.Loop.{on-going, on-ended}
-use Rattle.incomplete_cholesky.specs.Build.{zeros}
-use Rattle.kapitsa_joint.specs.Row.{rowOf, jacobianOf}
-use Rattle.kapitsa_joint.specs.Table.{Table, tableOf}
+use Rattle.loops.proofs.Tabulate.{getD-tabulate}
+use Rattle.kapitsa_joint.specs.Row.{rowOf, wordsOf, jacobianOf}
+use Rattle.kapitsa_joint.specs.Table.{Table, tableOf, tableWith, tolerancesIn}
+use Rattle.kapitsa_joint.specs.Tolerance.{dimensionOf, toleranceOf}
 use Rattle.kapitsa_joint.specs.declared.tolerance.JointTolerance.{JointTolerance}
 use Rattle.compact_table.specs.Compact.{Gathered}
 use Rattle.mass_operator.specs.System.{systemOf, compactSystem}
@@ -20,39 +22,49 @@ use Rattle.position.specs.Answers.{BegunHeld}
 use Rattle.position.specs.Prepare.{rowJudged}
 use Rattle.position.specs.declared.prepare.Begun.{Begun}
 use Rattle.position.specs.declared.prepare.Begun.the-variants as begun
+use Rattle.position.proofs.Same.{begun-same}
 use Rattle.position_iteration.specs.Method.{openingOf, beginOf}
 use Rattle.position_steps.specs.Start.{StartHeld}
-use Rattle.position_steps.proofs.Tables.{system-same, owner-same, table-linked}
+use Rattle.position_steps.proofs.Tables.{system-same, table-linked}
 
 module _ (numbers : List Float) (words : List ℕ) (masses : List Float) (rows bodies : ℕ) (tolerance : JointTolerance) (limit : ℕ) where
   abbrev table : Table
   table = tableOf rows bodies numbers words masses tolerance
 
-  pub unopened : (k : ℕ) (jacobians : List Float) (links owners : List ℕ) (diagonal pending residual : List Float) → openingOf true table limit ≡ ended k → StartHeld table limit masses (begun.Refused k) jacobians links owners diagonal pending residual
-  unopened k jacobians links owners diagonal pending residual e = record { answered = on-ended _ _ _ {a = k} e; started = λ q. absurd (let z : _≡_ {A = ℕ} 0 1 = cc in omega arith) }
+  pub unopened : (k : ℕ) (jacobians : List Float) (links : List ℕ) (tolerances diagonal pending residual : List Float) → openingOf true table limit ≡ ended k → StartHeld table limit masses (begun.Refused k) jacobians links tolerances diagonal pending residual
+  unopened k jacobians links tolerances diagonal pending residual e = record { answered = on-ended _ _ _ {a = k} e; started = λ q. absurd (let z : _≡_ {A = ℕ} 0 1 = cc in omega arith) }
 
-  module _ (opened : openingOf true table limit ≡ going tt) (n : ℕ) (same : n ≡ rows) (a : Begun) (diagonal residual : List Float) (begins : BegunHeld (tableOf n bodies numbers words masses tolerance) a diagonal residual) where
-    held : BegunHeld table a diagonal residual
-    held = subst (λ (i : ℕ). BegunHeld (tableOf i bodies numbers words masses tolerance) a diagonal residual) same begins
+  -- the tolerances, gathered from the rows' words
+  module _ (opened : openingOf true table limit ≡ going tt) (tolerances : List Float) (k : ℕ) (ek : k ≡ rows) (gathered : tolerances ≡ tabulate (λ i. toleranceOf tolerance (dimensionOf (getD words (8 * i + 1) 0))) k) where
+    listed : tolerances ≡ tabulate (table .tolerance) rows
+    unfolding rowOf wordsOf
+    listed = gathered ∙ ap (tabulate (λ i. toleranceOf tolerance (dimensionOf (getD words (8 * i + 1) 0)))) ek
 
-    pub start-refused : (k : ℕ) (jacobians : List Float) (links owners : List ℕ) (pending : List Float) → a ≡ begun.Refused k → StartHeld table limit masses (begun.Refused k) jacobians links owners diagonal pending residual
-    unfolding beginOf
-    start-refused k jacobians links owners pending e = record { answered = on-going _ _ _ {s = tt} opened ∙ on-ended _ _ _ {a = k} (held .judgement ∙ rw e); started = λ q. absurd (let z : _≡_ {A = ℕ} 0 1 = cc in omega arith) }
+    agree : (i : ℕ) → i < rows → tolerancesIn tolerances i ≡ table .tolerance i
+    agree i h = ap (λ (l : List Float). getD l i nan) listed ∙ getD-tabulate (table .tolerance) rows i nan h
 
-    module _ (done : a ≡ begun.Done) (pending : List Float) (ep : pending ≡ zeros rows) where
-      passed : judged (rowJudged table) rows ≡ going tt
-      passed = held .judgement ∙ rw done
+    module _ (n : ℕ) (same : n ≡ rows) (a : Begun) (diagonal residual : List Float) (begins : BegunHeld (tableWith n bodies numbers words masses (tolerancesIn tolerances)) a diagonal residual) where
+      held : BegunHeld table a diagonal residual
+      held = begun-same rows bodies numbers words masses (tolerancesIn tolerances) (table .tolerance) agree a diagonal residual (subst (λ (i : ℕ). BegunHeld (tableWith i bodies numbers words masses (tolerancesIn tolerances)) a diagonal residual) same begins)
 
-      begun-is : beginOf table ≡ going (record { solution = pending; residual = residual })
+      pub start-refused : (k : ℕ) (jacobians : List Float) (links : List ℕ) (pending : List Float) → a ≡ begun.Refused k → StartHeld table limit masses (begun.Refused k) jacobians links tolerances diagonal pending residual
       unfolding beginOf
-      begun-is = on-going _ _ _ {s = tt} passed ∙ rw (ep, held .residual-is done)
+      start-refused k jacobians links pending e = record { answered = on-going _ _ _ {s = tt} opened ∙ on-ended _ _ _ {a = k} (held .judgement ∙ rw e); started = λ q. absurd (let z : _≡_ {A = ℕ} 0 1 = cc in omega arith) }
 
-      pub start-done : (jacobians₀ jacobians : List Float) (links₀ links owners : List ℕ) (m k : ℕ) → length numbers ≡ 27 * rows → length words ≡ 8 * rows → length jacobians₀ ≡ 12 * rows → length links₀ ≡ 2 * rows → m ≡ rows → k ≡ rows
-          → Gathered (λ i. jacobianOf (rowOf numbers words i)) m jacobians₀ links₀ jacobians links → owners ≡ tabulate (λ i. getD words (8 * i + 6) 0) k → StartHeld table limit masses begun.Done jacobians links owners diagonal pending residual
-      start-done jacobians₀ jacobians links₀ links owners m k en ew ej el em ek g eo =
-          let here : Gathered (λ i. jacobianOf (rowOf numbers words i)) rows jacobians₀ links₀ jacobians links = rw em at g in
-          let same : compactSystem rows bodies jacobians links masses ≡ systemOf table = system-same numbers words rows en ew bodies masses tolerance jacobians₀ jacobians links₀ links (g .longJacobians ∙ ej) (g .longLinks ∙ el) here in
-          record {
-            answered = on-going _ _ _ {s = tt} opened ∙ begun-is;
-            started = λ _. record { system = same; owner = owner-same numbers words rows en ew bodies masses tolerance owners (eo ∙ ap (tabulate (λ i. getD words (8 * i + 6) 0)) ek); diagonal-is = held .diagonal-is done; linked = table-linked table passed jacobians links masses same };
-          }
+      module _ (done : a ≡ begun.Done) (pending : List Float) (ep : pending ≡ zeros rows) where
+        passed : judged (rowJudged table) rows ≡ going tt
+        passed = held .judgement ∙ rw done
+
+        begun-is : beginOf table ≡ going (record { solution = pending; residual = residual })
+        unfolding beginOf
+        begun-is = on-going _ _ _ {s = tt} passed ∙ rw (ep, held .residual-is done)
+
+        pub start-done : (jacobians₀ jacobians : List Float) (links₀ links : List ℕ) (m : ℕ) → length numbers ≡ 27 * rows → length words ≡ 8 * rows → length jacobians₀ ≡ 12 * rows → length links₀ ≡ 2 * rows → m ≡ rows
+            → Gathered (λ i. jacobianOf (rowOf numbers words i)) m jacobians₀ links₀ jacobians links → StartHeld table limit masses begun.Done jacobians links tolerances diagonal pending residual
+        start-done jacobians₀ jacobians links₀ links m en ew ej el em g =
+            let here : Gathered (λ i. jacobianOf (rowOf numbers words i)) rows jacobians₀ links₀ jacobians links = rw em at g in
+            let system : compactSystem rows bodies jacobians links masses ≡ systemOf table = system-same numbers words rows en ew bodies masses tolerance jacobians₀ jacobians links₀ links (g .longJacobians ∙ ej) (g .longLinks ∙ el) here in
+            record {
+              answered = on-going _ _ _ {s = tt} opened ∙ begun-is;
+              started = λ _. record { stands = record { system = system; linked = table-linked table passed jacobians links masses system }; tolerances-are = listed; diagonal-is = held .diagonal-is done };
+            }

@@ -1,16 +1,17 @@
--- The ways from the factor to the loop over the steps. Assumes nothing.
-use Prim.Native.Nat.{ℕ}
-use mathlib.Core.Path.{_≡_, sym, ap, _∙_, subst}
-use mathlib.Core.Bool.{Bool}
+-- The ways from step 0 to the loop over the steps. Assumes nothing.
+use Prim.Native.Nat.{ℕ, _<_}
+use mathlib.Core.Path.{_≡_, refl, sym, ap, _∙_, subst}
+use mathlib.Core.Bool.{Bool, true, false}
 use mathlib.Core.List.{List}
 use lib.ListN.{length}
 use lib.Ieee.{Float}
-use Rattle.loops.specs.Run.{Run, ended, next, turns}
+use Rattle.loops.specs.Run.{Run, going, ended, on, next, check, turns}
 use Rattle.loops.proofs.Loop.{on-going, on-ended}
-use Rattle.mass_operator.specs.System.{System, compactSystem}
+use Rattle.mass_operator.specs.System.{System}
 use Rattle.preconditioner.specs.Factor.{factorJudged}
 use Rattle.preconditioner.specs.Apply.{preconditioned}
-use Rattle.preconditioner.specs.Held.{Memory, Holds, zIn, preparedOut, refusalOf}
+use Rattle.preconditioner.specs.Room.{Memory}
+use Rattle.preconditioner.specs.Held.{Holds, zIn, preparedOut, refusalOf}
 use Rattle.preconditioner.specs.declared.mode.Mode.{Mode}
 use Rattle.preconditioner.specs.declared.apply.Preconditioner.{Preconditioner}
 use Rattle.preconditioner.specs.declared.prepare.Prepared.{Prepared}
@@ -20,10 +21,14 @@ use Rattle.recurrence.specs.Step.{Iterate, Carried, firstFrom}
 use Rattle.recurrence.specs.Answers.{carriedOut}
 use Rattle.recurrence.specs.declared.ratio.Scale.{Scale}
 use Rattle.recurrence.specs.declared.ratio.Scale.the-variants as scales
-use Rattle.recurrence.specs.declared.step.Advanced.the-variants as steps
+use Rattle.position.specs.Residual.{meetsOf}
+use Rattle.position.specs.declared.prepare.Begun.{Begun}
+use Rattle.position.specs.declared.prepare.Begun.the-variants as begun
 use Rattle.steps.specs.Solve.{turn, afterLoop}
-use Rattle.position_iteration.specs.Method.{positionSteps, firstOf}
-use Rattle.position_steps.specs.Running.{loopingOf, steppingOf, runningOf}
+use Rattle.position_iteration.specs.Method.{stepsBy}
+use Rattle.position_iteration.proofs.Alike.{meets-same, same-turns}
+use Rattle.position_steps.specs.Start.{startOut}
+use Rattle.position_steps.specs.Running.{loopingBy, steppingBy, runningOf, followingOf}
 
 abbrev iterate : List Float → List Float → Iterate
 iterate x r = record { solution = x; residual = r }
@@ -31,30 +36,68 @@ iterate x r = record { solution = x; residual = r }
 abbrev carried : List Float → Float → Carried
 carried d s = record { direction = d; s = s }
 
--- ---- `step_on`
-module _ (mode : Mode) (s : System) (owner : ℕ → ℕ) (diagonal : List Float) (tolerance : ℕ → Float) (limit : ℕ) (x r : List Float) (m : Memory) (p : Preconditioner) (holds : Holds s owner diagonal m mode p) (long : length r ≡ s .rows) (q : Scale) (d : List Float)
-    (called : firstFrom (zIn p diagonal m owner r) r ≡ carriedOut q d) where
-  at-first : firstFrom (preconditioned mode s owner diagonal r) r ≡ carriedOut q d
-  at-first = ap (λ (z : Run (List Float) ℕ). firstFrom z r) (sym (holds-same s owner diagonal m r long mode p holds)) ∙ called
+abbrev Steps : Type 0
+Steps = Run (Bool × ℕ × Iterate) ℕ
 
-  pub stepping-refused : (k : ℕ) → q ≡ scales.Refused k → steppingOf mode s owner diagonal tolerance limit (iterate x r) ≡ ended k
-  unfolding steppingOf
-  stepping-refused k e = on-ended _ _ _ (at-first ∙ rw e)
+pub next-same : {S T A : Type 0} (r : Run S A) (f g : S → Run T A) → ((s : S) → f s ≡ g s) → next r f ≡ next r g
+unfolding on
+next-same (going s) f g h = h s
+next-same (ended a) f g h = refl
 
-  pub stepping-on : (z : Float) {o : Run (Bool × ℕ × Iterate) ℕ} → q ≡ scales.Value z → afterLoop limit (turns (turn (positionSteps mode s owner diagonal tolerance)) (iterate x r, carried d z) limit) ≡ o → steppingOf mode s owner diagonal tolerance limit (iterate x r) ≡ o
-  unfolding steppingOf loopingOf
-  stepping-on z e h = on-going _ _ _ {s = carried d z} (at-first ∙ rw e) ∙ h
+-- ---- `step_on`, by the z of the memory
+module _ (z : List Float → Run (List Float) ℕ) (s : System) (tolerance : ℕ → Float) (limit : ℕ) (x r : List Float) (q : Scale) (d : List Float) (called : firstFrom (z r) r ≡ carriedOut q d) where
+  pub stepping-refused : (k : ℕ) → q ≡ scales.Refused k → steppingBy z s tolerance limit (iterate x r) ≡ ended k
+  unfolding steppingBy
+  stepping-refused k e = on-ended _ _ _ (called ∙ rw e)
 
-module _ (mode : Mode) (bodies : ℕ) (jacobians : List Float) (links : List ℕ) (masses : List Float) (owner : ℕ → ℕ) (diagonal : List Float) (tolerance : ℕ → Float) (k n limit : ℕ) (b : Iterate × Carried) {o : Run (Bool × ℕ × Iterate) ℕ} where
-  pub same-loop : k ≡ n → afterLoop limit (turns (turn (positionSteps mode (compactSystem k bodies jacobians links masses) owner diagonal tolerance)) b limit) ≡ o → afterLoop limit (turns (turn (positionSteps mode (compactSystem n bodies jacobians links masses) owner diagonal tolerance)) b limit) ≡ o
-  same-loop e h = subst (λ (i : ℕ). afterLoop limit (turns (turn (positionSteps mode (compactSystem i bodies jacobians links masses) owner diagonal tolerance)) b limit) ≡ o) e h
+  pub stepping-on : (t : Float) {o : Steps} → q ≡ scales.Value t → afterLoop limit (turns (turn (stepsBy z s tolerance)) (iterate x r, carried d t) limit) ≡ o → steppingBy z s tolerance limit (iterate x r) ≡ o
+  unfolding steppingBy loopingBy
+  stepping-on t e h = on-going _ _ _ {s = carried d t} (called ∙ rw e) ∙ h
+
+pub first-same : (p : Preconditioner) (m : Memory) (k n : ℕ) (r : List Float) {o : Run Carried ℕ} → k ≡ n → firstFrom (zIn p k m r) r ≡ o → firstFrom (zIn p n m r) r ≡ o
+first-same p m k n r {o} e h = subst (λ (i : ℕ). firstFrom (zIn p i m r) r ≡ o) e h
+
+-- ---- by another z and other tolerances, where they agree
+module _ (s : System) (z z′ : List Float → Run (List Float) ℕ) (f g : ℕ → Float) (agree : (r : List Float) → length r ≡ s .rows → z r ≡ z′ r) (same : (i : ℕ) → i < s .rows → f i ≡ g i) (limit : ℕ) (v : Iterate) (long : length (v .residual) ≡ s .rows) where
+  pub stepping-same : steppingBy z s f limit v ≡ steppingBy z′ s g limit v
+  unfolding steppingBy loopingBy
+  stepping-same =
+      ap (λ (y : Run (List Float) ℕ). next (firstFrom y (v .residual)) (λ c. afterLoop limit (turns (turn (stepsBy z s f)) (v, c) limit))) (agree (v .residual) long)
+      ∙ next-same (firstFrom (z′ (v .residual)) (v .residual)) _ _ (λ c. ap (afterLoop limit) (same-turns s z z′ f g agree same v c long limit))
+
+-- ---- other tolerances that agree on the rows
+pub following-same : (mode : Mode) (s : System) (owner : ℕ → ℕ) (diagonal : List Float) (f g : ℕ → Float) (limit : ℕ) (v : Iterate) → ((i : ℕ) → i < s .rows → f i ≡ g i) → length (v .residual) ≡ s .rows → followingOf mode s owner diagonal f limit v ≡ followingOf mode s owner diagonal g limit v
+unfolding followingOf runningOf
+following-same mode s owner diagonal f g limit v same long =
+    let z = preconditioned mode s owner diagonal in
+    let run : next (factorJudged mode s owner diagonal) (λ _. steppingBy z s f limit v) ≡ next (factorJudged mode s owner diagonal) (λ _. steppingBy z s g limit v) = next-same (factorJudged mode s owner diagonal) _ _ (λ _. stepping-same s z z f g (λ _ _. refl) same limit v long) in
+    rw (meets-same s z z f g (λ _ _. refl) same (v .residual), run)
 
 -- ---- `run_steps`
-module _ (mode : Mode) (s : System) (owner : ℕ → ℕ) (diagonal : List Float) (tolerance : ℕ → Float) (limit : ℕ) (v : Iterate) (a : Prepared) (answered : factorJudged mode s owner diagonal ≡ preparedOut a) where
-  pub running-refused : (k : ℕ) → a ≡ prepared.Refused k → runningOf mode s owner diagonal tolerance limit v ≡ ended (refusalOf a)
-  unfolding runningOf firstOf
-  running-refused k e = on-ended _ _ _ {a = k} (on-ended _ _ _ {a = k} (answered ∙ rw e)) ∙ rw e
+module _ (mode : Mode) (s : System) (owner : ℕ → ℕ) (diagonal : List Float) (tolerance : ℕ → Float) (limit : ℕ) (a : Begun) (x r : List Float) where
+  pub run-refused : (k : ℕ) → a ≡ begun.Refused k → next (startOut a x r) (followingOf mode s owner diagonal tolerance limit) ≡ ended k
+  run-refused k e = on-ended _ _ _ {a = k} (rw e)
 
-  pub running-on : (p : Preconditioner) {o : Run (Bool × ℕ × Iterate) ℕ} → a ≡ prepared.Done p → steppingOf mode s owner diagonal tolerance limit v ≡ o → runningOf mode s owner diagonal tolerance limit v ≡ o
-  unfolding runningOf steppingOf firstOf
-  running-on p e h = ap (λ (f : Run Carried ℕ). next f (loopingOf mode s owner diagonal tolerance limit v)) (on-going _ _ _ {s = tt} (answered ∙ rw e)) ∙ h
+  module _ (done : a ≡ begun.Done) (b : Bool) (eb : b ≡ meetsOf tolerance r (length r)) (long : length r ≡ s .rows) where
+    tested : (o : Bool) → b ≡ o → meetsOf tolerance r (s .rows) ≡ o
+    tested o e = rw (← long) (sym eb ∙ e)
+
+    begins : {o : Steps} → followingOf mode s owner diagonal tolerance limit (iterate x r) ≡ o → next (startOut a x r) (followingOf mode s owner diagonal tolerance limit) ≡ o
+    begins h = on-going _ _ _ {s = iterate x r} (rw done) ∙ h
+
+    pub run-met : b ≡ true → next (startOut a x r) (followingOf mode s owner diagonal tolerance limit) ≡ going (true, 0, iterate x r)
+    unfolding followingOf check
+    run-met e = begins (rw (tested true e))
+
+    module _ (miss : b ≡ false) (f : Prepared) (answered : factorJudged mode s owner diagonal ≡ preparedOut f) where
+      missed : {o : Steps} → runningOf mode s owner diagonal tolerance limit (iterate x r) ≡ o → next (startOut a x r) (followingOf mode s owner diagonal tolerance limit) ≡ o
+      unfolding followingOf check
+      missed h = begins (rw (tested false miss) h)
+
+      pub run-unbuilt : (k : ℕ) → f ≡ prepared.Refused k → next (startOut a x r) (followingOf mode s owner diagonal tolerance limit) ≡ ended (refusalOf f)
+      unfolding runningOf
+      run-unbuilt k e = missed (on-ended _ _ _ {a = k} (answered ∙ rw e) ∙ rw e)
+
+      pub run-on : (p : Preconditioner) (m : Memory) {o : Steps} → f ≡ prepared.Done p → Holds s owner diagonal m mode p → steppingBy (zIn p (s .rows) m) s tolerance limit (iterate x r) ≡ o → next (startOut a x r) (followingOf mode s owner diagonal tolerance limit) ≡ o
+      unfolding runningOf
+      run-on p m e h q = missed (on-going _ _ _ {s = tt} (answered ∙ rw e) ∙ sym (stepping-same s (zIn p (s .rows) m) (preconditioned mode s owner diagonal) tolerance tolerance (λ y l. holds-same s owner diagonal m y l mode p h) (λ _ _. refl) limit (iterate x r) long) ∙ q)

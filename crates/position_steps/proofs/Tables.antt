@@ -1,4 +1,4 @@
--- The compact table and the owners are those of the table, beyond its rows too: there every list has its default. Assumes nothing.
+-- The compact table is that of the table, beyond its rows too: there every list has its default. Assumes nothing.
 use Prim.Native.Nat.{ℕ, suc, _+_, _*_, _<_, _≤_}
 use mathlib.Core.Path.{_≡_, refl, sym, ap, _∙_, fun-ext}
 use mathlib.Core.Bool.{Bool, true, false, not, _&&_}
@@ -11,10 +11,8 @@ use lib.Ieee.{Float, nan}
 use borrow.Author.Tests.{ltb-true}
 use Rattle.loops.specs.Run.{going}
 use Rattle.loops.specs.Judge.{judge, judged, test}
-use Rattle.loops.specs.Tabulate.{tabulate}
 use Rattle.loops.proofs.Inverse.{next-going}
 use Rattle.loops.proofs.Judge.{test-going}
-use Rattle.loops.proofs.Tabulate.{getD-tabulate, length-tabulate}
 use Rattle.kapitsa_math.specs.Lent.{vecOf}
 use Rattle.kapitsa_math.specs.declared.vector.Vec3.{Vec3}
 use Rattle.kapitsa_joint.specs.Row.{rowOf, wordsOf, jacobianOf}
@@ -25,10 +23,9 @@ use Rattle.kapitsa_joint.specs.declared.tolerance.JointTolerance.{JointToleranc
 use Rattle.joint_refusals.specs.Refusals.{isValidOf, bodiesBelowOf, jacobiansFiniteOf, scalarsFiniteOf, scalarsInRangeOf}
 use Rattle.compact_table.specs.Compact.{compactOf, Gathered, Linked}
 use Rattle.mass_operator.specs.System.{System, systemOf, compactSystem}
-use Rattle.block_jacobi.specs.Runs.{ownerIn}
-use Rattle.block_jacobi.proofs.Turned.{turned}
+use Rattle.loops.proofs.Turned.{turned}
+use Rattle.loops.proofs.Both.{both}
 use Rattle.position.specs.Prepare.{rowJudged}
-use Rattle.position_iteration.specs.Method.{ownerOf}
 
 -- ---- beyond a list's end
 beyond : {X : Type 0} (l : List X) (k : ℕ) (d : X) → length l ≤ k → getD l k d ≡ d
@@ -69,20 +66,7 @@ module _ (numbers : List Float) (words : List ℕ) (n : ℕ) (en : length number
       the : System → System
       the s = s
 
-  pub owner-same : (bodies : ℕ) (masses : List Float) (tolerance : JointTolerance) (owners : List ℕ) → owners ≡ tabulate (λ i. getD words (8 * i + 6) 0) n → ownerIn owners ≡ ownerOf (tableOf n bodies numbers words masses tolerance)
-  unfolding rowOf wordsOf
-  owner-same bodies masses tolerance owners e = rw e (fun-ext (λ i. at i (decLt i n)))
-    where
-      at : (i : ℕ) → Dec (i < n) → getD (tabulate (λ i. getD words (8 * i + 6) 0) n) i 0 ≡ getD words (8 * i + 6) 0
-      at i (yes h) = getD-tabulate (λ i. getD words (8 * i + 6) 0) n i 0 h
-      at i (no h) = beyond (tabulate (λ i. getD words (8 * i + 6) 0) n) i 0 (rw (length-tabulate (λ i. getD words (8 * i + 6) 0) n) (omega arith)) ∙ sym (beyond words (8 * i + 6) 0 (omega arith))
-
 -- ---- refusal 7 has passed: the bodies are below the count
-both : (a b : Bool) → (a && b) ≡ true → (a ≡ true) × (b ≡ true)
-both true true e = (refl, refl)
-both true false e = absurd (let z : _≡_ {A = ℕ} 0 1 = cc in omega arith)
-both false b e = absurd (let z : _≡_ {A = ℕ} 0 1 = cc in omega arith)
-
 module _ (t : Table) (passed : judged (rowJudged t) (t .rows) ≡ going tt) where
   each : (i : ℕ) → i < t .rows → rowJudged t i ≡ going tt
   unfolding judged

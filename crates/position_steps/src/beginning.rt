@@ -10,7 +10,7 @@ use compact_table::gather;
 use kapitsa_joint::JointTolerance;
 use position::Begun;
 use position::begin;
-use position::gather_owners;
+use position::gather_tolerances;
 
 // After a refusal all that is written is left free.
 pub fn start(
@@ -23,15 +23,15 @@ pub fn start(
     limit: u32,
     jacobians: &mut [f64],
     links: &mut [u32],
-    owners: &mut [u32],
+    tolerances: &mut [f64],
     diagonal: &mut [f64],
     pending: &mut [f64],
     residual: &mut [f64],
 ) -> Begun
     requires { ⌜ (length (now numbers) ≡ 27 * rows) × (length (now words) ≡ 8 * rows) × (10 * bodies ≤ length (now masses)) ⌝ }
-    requires { ⌜ (length (now jacobians) ≡ 12 * rows) × (length (now links) ≡ 2 * rows) × (length (now owners) ≡ rows) × (length (now diagonal) ≡ rows) × (length (now pending) ≡ rows) × (length (now residual) ≡ rows) ⌝ }
+    requires { ⌜ (length (now jacobians) ≡ 12 * rows) × (length (now links) ≡ 2 * rows) × (length (now tolerances) ≡ rows) × (length (now diagonal) ≡ rows) × (length (now pending) ≡ rows) × (length (now residual) ≡ rows) ⌝ }
     ensures { λ r. ⌜ StartHeld (tableOf rows bodies (now (numbers .entry)) (now (words .entry)) (now (masses .entry)) tolerance) limit (now (masses .entry)) r
-        (now (jacobians .exit)) (now (links .exit)) (now (owners .exit)) (now (diagonal .exit)) (now (pending .exit)) (now (residual .exit)) ⌝ }
+        (now (jacobians .exit)) (now (links .exit)) (now (tolerances .exit)) (now (diagonal .exit)) (now (pending .exit)) (now (residual .exit)) ⌝ }
 {
     match open_table(numbers, words, masses, rows, bodies, tolerance, limit) {
         Opened::Done => {}
@@ -39,12 +39,13 @@ pub fn start(
             return Begun::Refused(number);
         }
     }
+    gather_tolerances(words, tolerance, tolerances);
     match begin(
         numbers,
         words,
         masses,
         bodies,
-        tolerance,
+        tolerances,
         diagonal,
         residual,
     ) {
@@ -54,7 +55,6 @@ pub fn start(
         }
     }
     gather(numbers, words, diagonal.len(), jacobians, links);
-    gather_owners(words, owners);
     loops::clear(pending);
     Begun::Done
 }

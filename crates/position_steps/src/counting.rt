@@ -1,17 +1,17 @@
 // From what is judged before step 0 to the step that is counted: prepare, the count 0 test, factor, steps.
-ghost use lib.ListN.{length};
 ghost use Rattle.kapitsa_joint.specs.Table.{tableOf};
-ghost use Rattle.position_steps.specs.Counting.{CountRoom, CountHeld};
+ghost use Rattle.work_memory.specs.Work.{stepMemory, workMemory};
+ghost use Rattle.work_memory.specs.Lengths.{RowsRoom, WorkRoom};
+ghost use Rattle.position_steps.specs.Counting.{CountHeld};
 use crate::beginning::start;
 use crate::running::run_steps;
 use kapitsa_joint::JointTolerance;
-use position::Begun;
-use position::position_vector_converged;
+use loops::wide;
 use position_iteration::Iterated;
 use preconditioner::Mode;
-use sparse::wide;
+use work_memory::clear_steps;
 
-// The step counted stands in `pending` and `residual`. After a refusal all that is written is left free.
+// The step counted stands in `pending` and `residual`; after a refusal these, the compact table and `body_impulses` are left free.
 pub fn count_steps(
     numbers: &[f64],
     words: &[u32],
@@ -23,30 +23,24 @@ pub fn count_steps(
     mode: Mode,
     jacobians: &mut [f64],
     links: &mut [u32],
-    owners: &mut [u32],
+    tolerances: &mut [f64],
     diagonal: &mut [f64],
     residual: &mut [f64],
     pending: &mut [f64],
-    preconditioned: &mut [f64],
     direction: &mut [f64],
     product: &mut [f64],
     body_impulses: &mut [f64],
-    body_responses: &mut [f64],
-    starts: &mut [u32],
-    columns: &mut [u32],
+    pattern: &mut [u32],
+    order: &mut [u32],
     values: &mut [f64],
-    pivots: &mut [f64],
-    marks: &mut [u32],
-    heads: &mut [u32],
-    nexts: &mut [u32],
-    homes: &mut [u32],
-    room: u32,
-    blocks: &mut [f64],
 ) -> Iterated
-    requires { ⌜ CountRoom rows bodies room (length (now numbers)) (length (now words)) (length (now masses)) (length (now jacobians)) (length (now links)) (length (now owners)) (length (now diagonal)) (length (now residual)) (length (now pending)) (length (now preconditioned)) (length (now direction)) (length (now product)) (length (now «body_impulses»)) (length (now «body_responses»)) (length (now starts)) (length (now columns)) (length (now values)) (length (now pivots)) (length (now marks)) (length (now heads)) (length (now nexts)) (length (now homes)) (length (now blocks)) ⌝ }
-    ensures { λ r. ⌜ CountHeld mode (tableOf rows bodies (now (numbers .entry)) (now (words .entry)) (now (masses .entry)) tolerance) limit (now (masses .entry)) r (now (jacobians .exit)) (now (links .exit)) (now (pending .exit)) (now (residual .exit)) ⌝ }
+    requires { ⌜ RowsRoom rows bodies (now numbers) (now words) (now masses) ⌝ }
+    requires { ⌜ WorkRoom mode rows bodies (workMemory (now jacobians) (now links) (now tolerances) (now diagonal) (now residual) (now pending) (now direction) (now product) (now «body_impulses») (now pattern) (now order) (now values)) ⌝ }
+    ensures { λ r. ⌜ CountHeld mode (tableOf rows bodies (now (numbers .entry)) (now (words .entry)) (now (masses .entry)) tolerance) limit (now (masses .entry)) r (now (jacobians .exit)) (now (links .exit)) (now (pending .exit)) (now (residual .exit))
+        (stepMemory (now (tolerances .entry)) (now (diagonal .entry)) (now (direction .entry)) (now (product .entry)) (now (pattern .entry)) (now (order .entry)) (now (values .entry)))
+        (stepMemory (now (tolerances .exit)) (now (diagonal .exit)) (now (direction .exit)) (now (product .exit)) (now (pattern .exit)) (now (order .exit)) (now (values .exit))) ⌝ }
 {
-    match start(
+    let begun = start(
         numbers,
         words,
         masses,
@@ -56,47 +50,40 @@ pub fn count_steps(
         limit,
         jacobians,
         links,
-        owners,
+        tolerances,
         diagonal,
         pending,
         residual,
-    ) {
-        Begun::Done => {}
-        Begun::Refused(number) => {
-            return Iterated::Refused(number);
-        }
-    }
-    if position_vector_converged(words, residual, tolerance) {
-        return Iterated::Met(0);
-    }
-    run_steps(
+    );
+    let counted = run_steps(
+        begun,
         words,
-        tolerance,
+        tolerances,
         mode,
         masses,
         rows,
         wide(bodies),
         jacobians,
         links,
-        owners,
-        diagonal,
         limit,
-        starts,
-        columns,
+        diagonal,
+        pattern,
+        order,
         values,
-        pivots,
-        marks,
-        heads,
-        nexts,
-        homes,
-        room,
-        blocks,
         body_impulses,
-        body_responses,
         product,
-        preconditioned,
         pending,
         residual,
         direction,
-    )
+    );
+    clear_steps(
+        tolerances,
+        diagonal,
+        direction,
+        product,
+        pattern,
+        order,
+        values,
+    );
+    counted
 }

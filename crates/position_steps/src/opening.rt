@@ -10,7 +10,7 @@ use joint_refusals::masses_finite;
 use joint_refusals::rows_open;
 use joint_refusals::words_fit;
 use kapitsa_joint::JointTolerance;
-use sparse::wide;
+use loops::wide;
 
 pub enum Opened {
     Done,

@@ -1,16 +1,17 @@
-// The steps after step 0: the factor, the first direction, and the loop.
+// What follows step 0: the count 0 test, the factor, the first direction, and the loop.
 ghost use mathlib.Core.Path.{_≡_};
-ghost use Prim.Native.Nat.{_+_, _*_, _≤_};
-ghost use lib.ListN.{length, getD};
-ghost use Rattle.kapitsa_joint.specs.Tolerance.{dimensionOf, toleranceOf};
-ghost use Rattle.compact_table.specs.Compact.{Linked};
+ghost use Prim.Native.Nat.{_*_, _≤_};
+ghost use lib.ListN.{length};
+ghost use Rattle.loops.specs.Run.{next};
+ghost use Rattle.kapitsa_joint.specs.Table.{tolerancesIn};
 ghost use Rattle.mass_operator.specs.System.{compactSystem};
-ghost use Rattle.pairs.specs.Pairs.{pairRoom};
-ghost use Rattle.block_jacobi.specs.Runs.{ownerIn};
-ghost use Rattle.position_steps.specs.Running.{runningOf};
-ghost use Rattle.position_iteration.specs.Standing.{Rooms, Standing, iteratedOut};
-ghost use Rattle.position_steps.specs.Running.{steppingOf};
-use kapitsa_joint::JointTolerance;
+ghost use Rattle.preconditioner.specs.Room.{Roomy};
+ghost use Rattle.preconditioner.specs.Held.{zIn, jointsIn};
+ghost use Rattle.position_iteration.specs.Standing.{Standing, iteratedOut};
+ghost use Rattle.position_steps.specs.Start.{startOut, Linking};
+ghost use Rattle.position_steps.specs.Running.{steppingBy, followingOf};
+use position::Begun;
+use position::position_vector_converged;
 use position_iteration::Iterated;
 use position_iteration::iterate;
 use preconditioner::Mode;
@@ -23,78 +24,53 @@ use recurrence::first;
 
 // With the factor that stands there: the first direction, and the loop.
 fn step_on(
-    words: &[u32],
-    tolerance: JointTolerance,
-    mode: Mode,
+    tolerances: &[f64],
     preconditioner: Preconditioner,
     masses: &[f64],
     bodies: usize,
     jacobians: &[f64],
     links: &[u32],
-    owners: &[u32],
     diagonal: &[f64],
-    starts: &[u32],
-    columns: &[u32],
-    heads: &[u32],
-    nexts: &[u32],
-    homes: &[u32],
+    pattern: &[u32],
+    order: &[u32],
     values: &[f64],
-    pivots: &[f64],
-    blocks: &[f64],
     limit: u32,
     body_impulses: &mut [f64],
-    body_responses: &mut [f64],
     product: &mut [f64],
-    preconditioned: &mut [f64],
     pending: &mut [f64],
     residual: &mut [f64],
     direction: &mut [f64],
 ) -> Iterated
-    requires { ⌜ Standing mode preconditioner (length (now direction)) bodies (now words) (now masses) (now jacobians) (now links) (now owners) (now diagonal) record { starts = now (starts); columns = now (columns); values = now (values); pivots = now (pivots); index = record { heads = now (heads); nexts = now (nexts); homes = now (homes) }; blocks = now (blocks) } ⌝ }
-    requires { ⌜ (length (now «body_impulses») ≡ 6 * bodies) × (length (now «body_responses») ≡ 6 * bodies) × (length (now product) ≡ length (now direction)) × (length (now preconditioned) ≡ length (now direction)) × (length (now pending) ≡ length (now direction)) × (length (now residual) ≡ length (now direction)) ⌝ }
-    ensures { λ r. ⌜ steppingOf mode (compactSystem (length (now (direction .entry))) bodies (now (jacobians .entry)) (now (links .entry)) (now (masses .entry))) (ownerIn (now (owners .entry))) (now (diagonal .entry)) (λ i. toleranceOf tolerance (dimensionOf (getD (now (words .entry)) (8 * i + 1) 0))) limit record { solution = now (pending .entry); residual = now (residual .entry) } ≡ iteratedOut r limit (now (pending .exit)) (now (residual .exit)) ⌝ }
+    requires { ⌜ Standing preconditioner (length (now tolerances)) bodies (now tolerances) (now masses) (now jacobians) (now links) record { diagonal = now diagonal; pattern = now pattern; order = now order; values = now values } ⌝ }
+    requires { ⌜ (length (now «body_impulses») ≡ 6 * bodies) × (length (now product) ≡ length (now tolerances)) × (length (now pending) ≡ length (now tolerances)) × (length (now residual) ≡ length (now tolerances)) × (length (now direction) ≡ length (now tolerances)) ⌝ }
+    ensures { λ r. ⌜ steppingBy (zIn preconditioner (length (now (tolerances .entry))) record { diagonal = now (diagonal .entry); pattern = now (pattern .entry); order = now (order .entry); values = now (values .entry) }) (compactSystem (length (now (tolerances .entry))) bodies (now (jacobians .entry)) (now (links .entry)) (now (masses .entry))) (tolerancesIn (now (tolerances .entry))) limit record { solution = now (pending .entry); residual = now (residual .entry) }
+        ≡ iteratedOut r limit (now (pending .exit)) (now (residual .exit)) ⌝ }
 {
     match first(
         preconditioner,
         diagonal,
-        starts,
-        columns,
-        heads,
-        nexts,
-        homes,
+        pattern,
+        order,
         values,
-        pivots,
-        owners,
-        blocks,
         residual,
-        preconditioned,
+        product,
         direction,
     ) {
         Scale::Value(s) => iterate(
-            words,
-            tolerance,
-            mode,
+            tolerances,
             preconditioner,
             masses,
             bodies,
             jacobians,
             links,
-            owners,
             diagonal,
-            starts,
-            columns,
-            heads,
-            nexts,
-            homes,
+            pattern,
+            order,
             values,
-            pivots,
-            blocks,
             s,
             limit,
             body_impulses,
-            body_responses,
             product,
-            preconditioned,
             pending,
             residual,
             direction,
@@ -103,90 +79,74 @@ fn step_on(
     }
 }
 
-// The factor of the mode, and the steps with it. After a refusal all that is written is left free.
+// From how step 0 began. After a refusal all that is written is left free.
 pub fn run_steps(
+    begun: Begun,
     words: &[u32],
-    tolerance: JointTolerance,
+    tolerances: &[f64],
     mode: Mode,
     masses: &[f64],
     rows: u32,
     bodies: usize,
     jacobians: &[f64],
     links: &[u32],
-    owners: &[u32],
-    diagonal: &[f64],
     limit: u32,
-    starts: &mut [u32],
-    columns: &mut [u32],
+    diagonal: &mut [f64],
+    pattern: &mut [u32],
+    order: &mut [u32],
     values: &mut [f64],
-    pivots: &mut [f64],
-    marks: &mut [u32],
-    heads: &mut [u32],
-    nexts: &mut [u32],
-    homes: &mut [u32],
-    room: u32,
-    blocks: &mut [f64],
     body_impulses: &mut [f64],
-    body_responses: &mut [f64],
     product: &mut [f64],
-    preconditioned: &mut [f64],
     pending: &mut [f64],
     residual: &mut [f64],
     direction: &mut [f64],
 ) -> Iterated
-    requires { ⌜ Rooms (length (now direction)) bodies (now words) (now masses) (now jacobians) (now links) (now owners) (now diagonal) record { starts = now (starts); columns = now (columns); values = now (values); pivots = now (pivots); index = record { heads = now (heads); nexts = now (nexts); homes = now (homes) }; blocks = now (blocks) } ⌝ }
-    requires { ⌜ Linked (now links) (length (now direction)) bodies ⌝ }
-    requires { ⌜ (rows ≡ length (now direction)) × (length (now starts) ≡ rows + 1) × (length (now marks) ≡ rows) × (length (now columns) ≡ pairRoom rows) × (room ≡ length (now columns)) ⌝ }
-    requires { ⌜ (length (now «body_impulses») ≡ 6 * bodies) × (length (now «body_responses») ≡ 6 * bodies) × (length (now product) ≡ length (now direction)) × (length (now preconditioned) ≡ length (now direction)) × (length (now pending) ≡ length (now direction)) × (length (now residual) ≡ length (now direction)) ⌝ }
-    ensures { λ r. ⌜ runningOf mode (compactSystem (length (now (direction .entry))) bodies (now (jacobians .entry)) (now (links .entry)) (now (masses .entry))) (ownerIn (now (owners .entry))) (now (diagonal .entry)) (λ i. toleranceOf tolerance (dimensionOf (getD (now (words .entry)) (8 * i + 1) 0))) limit record { solution = now (pending .entry); residual = now (residual .entry) } ≡ iteratedOut r limit (now (pending .exit)) (now (residual .exit)) ⌝ }
+    requires { ⌜ (length (now words) ≡ 8 * rows) × (length (now tolerances) ≡ rows) × (10 * bodies ≤ length (now masses)) × (12 * rows ≤ length (now jacobians)) × (2 * rows ≤ length (now links)) ⌝ }
+    requires { ⌜ Linking begun (now links) rows bodies ⌝ }
+    requires { ⌜ Roomy mode rows record { diagonal = now diagonal; pattern = now pattern; order = now order; values = now values } ⌝ }
+    requires { ⌜ (length (now «body_impulses») ≡ 6 * bodies) × (length (now product) ≡ rows) × (length (now pending) ≡ rows) × (length (now residual) ≡ rows) × (length (now direction) ≡ rows) ⌝ }
+    ensures { λ r. ⌜ next (startOut begun (now (pending .entry)) (now (residual .entry))) (followingOf mode (compactSystem rows bodies (now (jacobians .entry)) (now (links .entry)) (now (masses .entry))) (jointsIn (now (words .entry))) (now (diagonal .entry)) (tolerancesIn (now (tolerances .entry))) limit)
+        ≡ iteratedOut r limit (now (pending .exit)) (now (residual .exit)) ⌝ }
 {
+    match begun {
+        Begun::Done => {}
+        Begun::Refused(number) => {
+            return Iterated::Refused(number);
+        }
+    }
+    if position_vector_converged(tolerances, residual) {
+        return Iterated::Met(0);
+    }
     let built = build_preconditioner(
         mode,
+        words,
         jacobians,
         links,
         masses,
-        owners,
-        diagonal,
         rows,
         bodies,
-        starts,
-        columns,
+        diagonal,
+        pattern,
+        order,
         values,
-        pivots,
-        marks,
-        heads,
-        nexts,
-        homes,
-        room,
-        blocks,
     );
     let Prepared::Done(preconditioner) = built else {
         return Iterated::Refused(refusal_of(built));
     };
     step_on(
-        words,
-        tolerance,
-        mode,
+        tolerances,
         preconditioner,
         masses,
         bodies,
         jacobians,
         links,
-        owners,
         diagonal,
-        starts,
-        columns,
-        heads,
-        nexts,
-        homes,
+        pattern,
+        order,
         values,
-        pivots,
-        blocks,
         limit,
         body_impulses,
-        body_responses,
         product,
-        preconditioned,
         pending,
         residual,
         direction,

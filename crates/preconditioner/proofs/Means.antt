@@ -8,24 +8,26 @@ use lib.ListN.{length}
 use lib.Ieee.{Float}
 use Rattle.loops.specs.Run.{Run, going, ended, on, next, turns, check}
 use Rattle.loops.specs.Judge.{judged}
+use Rattle.loops.specs.Tabulate.{tabulate}
 use Rattle.loops.proofs.Loop.{on-going, on-ended}
 use Rattle.mass_operator.specs.System.{System}
-use Rattle.sparse.specs.Kept.{numbers}
-use Rattle.sparse.specs.Cholesky.{Factor}
-use Rattle.incomplete_cholesky.specs.Build.{zeros, choleskyRun, buildOut, FactorHeld}
+use Rattle.triangular.specs.Column.{Indexed}
+use Rattle.pairs.specs.Pattern.{startsIn, columnsIn}
+use Rattle.loops.specs.Cleared.{zeros}
+use Rattle.incomplete_cholesky.specs.Build.{choleskyRun, buildOut}
 use Rattle.incomplete_cholesky.specs.declared.build.Built.{Built}
 use Rattle.incomplete_cholesky.specs.declared.build.Built.the-variants as factors
 use Rattle.block_factor.specs.Answers.{blockOf}
 use Rattle.block_factor.specs.Solves.{blockSolveRun}
-use Rattle.block_jacobi.specs.Runs.{begins, runLength, RunsFit}
+use Rattle.block_jacobi.specs.Runs.{ownerIn, begins, runLength}
 use Rattle.block_jacobi.specs.Blocks.{blockIn, putBlock, putStretch, stretch, blockTurn, blocksRun, blockedOut, solveTurn, blocksSolveRun}
 use Rattle.block_jacobi.specs.declared.build.Blocked.{Blocked}
 use Rattle.block_jacobi.specs.declared.build.Blocked.the-variants as blocks
 use Rattle.block_jacobi.proofs.BlocksHeld.{kept-all, runs-fit}
-use Rattle.block_jacobi.proofs.Turned.{apart}
 use Rattle.preconditioner.specs.Factor.{blockAt, blockJudged, factorJudged}
 use Rattle.preconditioner.specs.Apply.{diagonalSolveOf, orSixteen, blockNumbers, preconditioned, preconditionedRun}
-use Rattle.preconditioner.specs.Held.{Ready, Memory, Holds, holds-diagonal, holds-factor, holds-blocks, FactorBuilt, built-diagonal, built-factor, built-blocks, preparedOut, factorPrepared, blocksPrepared, zIn}
+use Rattle.preconditioner.specs.Room.{Memory, Roomy, patternRoom, orderRoom, valuesRoom}
+use Rattle.preconditioner.specs.Held.{factorIn, Ready, Holds, holds-diagonal, holds-factor, holds-blocks, FactorBuilt, built-diagonal, built-factor, built-blocks, preparedOut, factorPrepared, blocksPrepared, zIn}
 use Rattle.preconditioner.specs.declared.mode.Mode.{Mode}
 use Rattle.preconditioner.specs.declared.mode.Mode.the-variants as modes
 use Rattle.preconditioner.specs.declared.apply.Preconditioner.{Preconditioner}
@@ -66,58 +68,73 @@ module _ (s : System) (owner : ℕ → ℕ) (l : List Float) where
   blocks-judged = judged-to (s .rows)
 
 -- ---- what is built: judged as the definition says, and there where it is not refused
-module _ (s : System) (owner : ℕ → ℕ) (diagonal : List Float) (before after : Memory) where
-  factor-answered : (a : Built) → choleskyRun s diagonal ≡ buildOut a (numbers (after .starts) (after .columns) (after .values)) (after .pivots) → next (choleskyRun s diagonal) (λ _. going tt) ≡ preparedOut (factorPrepared a)
+module _ (s : System) (owner : ℕ → ℕ) (before after : Memory) where
+  factor-answered : (a : Built) → choleskyRun s (before .diagonal) ≡ buildOut a (factorIn (s .rows) after) (after .diagonal) → next (choleskyRun s (before .diagonal)) (λ _. going tt) ≡ preparedOut (factorPrepared a)
   factor-answered (factors.Done count) e = on-going _ _ _ e
   factor-answered (factors.Refused n) e = on-ended _ _ _ e
 
-  blocks-answered : (a : Blocked) → blocksRun s owner (before .blocks) ≡ blockedOut a (after .blocks) → judged (blockJudged s owner) (s .rows) ≡ preparedOut (blocksPrepared a)
-  blocks-answered blocks.Done e = sym (blocks-judged s owner (before .blocks)) ∙ on-going _ _ _ e
-  blocks-answered (blocks.Refused n) e = sym (blocks-judged s owner (before .blocks)) ∙ on-ended _ _ _ e
+  blocks-answered : (a : Blocked) → blocksRun s owner (before .values) ≡ blockedOut a (after .values) → judged (blockJudged s owner) (s .rows) ≡ preparedOut (blocksPrepared a)
+  blocks-answered blocks.Done e = sym (blocks-judged s owner (before .values)) ∙ on-going _ _ _ e
+  blocks-answered (blocks.Refused n) e = sym (blocks-judged s owner (before .values)) ∙ on-ended _ _ _ e
 
-  pub built-answered : (mode : Mode) (r : Prepared) → FactorBuilt s owner diagonal before after mode r → factorJudged mode s owner diagonal ≡ preparedOut r
+  pub built-answered : (mode : Mode) (r : Prepared) → FactorBuilt s owner before after mode r → factorJudged mode s owner (before .diagonal) ≡ preparedOut r
   unfolding factorJudged
   built-answered modes.Diagonal (prepared.Done built.Diagonal) (built-diagonal e) = refl
-  built-answered modes.IncompleteCholesky r (built-factor a h b) = factor-answered a (h .answered)
+  built-answered modes.IncompleteCholesky r (built-factor a h) = factor-answered a (h .answered)
   built-answered modes.BlockJacobi r (built-blocks a e q) = blocks-answered a e
 
-  module _ (p : Preconditioner) where
+  module _ (p : Preconditioner) (joints : ownerIn (tabulate owner (s .rows)) ≡ owner) where
     unlike : {R : Type 0} (n : ℕ) → _≡_ {A = Prepared} (prepared.Refused n) (prepared.Done p) → R
     unlike n e = absurd (let z : _≡_ {A = ℕ} 0 1 = cc in omega arith)
 
-    factor-holds : (a : Built) → factorPrepared a ≡ prepared.Done p → choleskyRun s diagonal ≡ buildOut a (numbers (after .starts) (after .columns) (after .values)) (after .pivots) → Holds s owner diagonal after modes.IncompleteCholesky p
+    factor-holds : (a : Built) → factorPrepared a ≡ prepared.Done p → choleskyRun s (before .diagonal) ≡ buildOut a (factorIn (s .rows) after) (after .diagonal) → Holds s owner (before .diagonal) after modes.IncompleteCholesky p
     factor-holds (factors.Done count) e h = let z : built.IncompleteCholesky count ≡ p = cc in rw (← z) (holds-factor count h)
     factor-holds (factors.Refused n) e h = unlike n e
 
-    blocks-hold : (a : Blocked) → blocksPrepared a ≡ prepared.Done p → blocksRun s owner (before .blocks) ≡ blockedOut a (after .blocks) → 36 * s .rows ≤ length (before .blocks) → Holds s owner diagonal after modes.BlockJacobi p
+    gathered : after ≡ record { diagonal = before .diagonal; pattern = tabulate owner (s .rows); order = before .order; values = after .values } → ownerIn (after .pattern) ≡ owner
+    gathered q = ap (λ (m : Memory). ownerIn (m .pattern)) q ∙ joints
+
+    blocks-hold : (a : Blocked) → blocksPrepared a ≡ prepared.Done p → blocksRun s owner (before .values) ≡ blockedOut a (after .values) → ownerIn (after .pattern) ≡ owner → 36 * s .rows ≤ length (before .values) → Holds s owner (before .diagonal) after modes.BlockJacobi p
     unfolding blockAt
-    blocks-hold blocks.Done e h room = let z : built.BlockJacobi ≡ p = cc in rw (← z) (holds-blocks (kept-all s owner (before .blocks) room (after .blocks) h .blocks))
-    blocks-hold (blocks.Refused n) e h room = unlike n e
+    blocks-hold blocks.Done e h o room = let z : built.BlockJacobi ≡ p = cc in rw (← z) (holds-blocks o (kept-all s owner (before .values) room (after .values) h .blocks))
+    blocks-hold (blocks.Refused n) e h o room = unlike n e
 
-    pub built-holds : (mode : Mode) (r : Prepared) → r ≡ prepared.Done p → 36 * s .rows ≤ length (before .blocks) → FactorBuilt s owner diagonal before after mode r → Holds s owner diagonal after mode p
-    built-holds modes.Diagonal r e room (built-diagonal q) = let z : built.Diagonal ≡ p = cc in rw (← z) holds-diagonal
-    built-holds modes.IncompleteCholesky r e room (built-factor a h b) = factor-holds a e (h .answered)
-    built-holds modes.BlockJacobi r e room (built-blocks a h q) = blocks-hold a e h room
+    block-room : Roomy modes.BlockJacobi (s .rows) before → 36 * s .rows ≤ length (before .values)
+    unfolding valuesRoom
+    block-room r = omega (arith, r .values-long)
 
-    -- the solves may be called with it
-    abbrev ReadyFor : Type 0
-    ReadyFor = Ready p (after .starts) (after .columns) (after .index .heads) (after .index .nexts) (after .index .homes) owner (s .rows)
+    pub built-holds : (mode : Mode) (r : Prepared) → r ≡ prepared.Done p → Roomy mode (s .rows) before → FactorBuilt s owner before after mode r → Holds s owner (before .diagonal) after mode p
+    built-holds modes.Diagonal r e room (built-diagonal q) = let z : built.Diagonal ≡ p = cc in rw (← z) (holds-diagonal (ap (λ (m : Memory). m .diagonal) q))
+    built-holds modes.IncompleteCholesky r e room (built-factor a h) = factor-holds a e (h .answered)
+    built-holds modes.BlockJacobi r e room (built-blocks a h q) = blocks-hold a e h (gathered q) (block-room room)
 
-    diagonal-ready : p ≡ built.Diagonal → ReadyFor
-    diagonal-ready e = record { indexed = λ count q. absurd (let z : _≡_ {A = ℕ} 0 1 = cc in omega arith); fits = λ q. absurd (let z : _≡_ {A = ℕ} 0 1 = cc in omega arith) }
+    -- ---- the solves may be called with it; lent memory keeps its lengths
+    module _ (ed : length (after .diagonal) ≡ length (before .diagonal)) (ep : length (after .pattern) ≡ length (before .pattern)) (eo : length (after .order) ≡ length (before .order)) (ev : length (after .values) ≡ length (before .values)) where
+      diagonal-ready : (mode : Mode) → Roomy mode (s .rows) before → p ≡ built.Diagonal → Ready p (s .rows) after
+      diagonal-ready mode room e = record { long = ed ∙ room .diagonal-long; factor = λ count q. absurd (let z : _≡_ {A = ℕ} 0 1 = cc in omega arith); blocks = λ q. absurd (let z : _≡_ {A = ℕ} 0 1 = cc in omega arith) }
 
-    factor-ready : (a : Built) → factorPrepared a ≡ prepared.Done p → FactorHeld s diagonal a (after .starts) (after .columns) (before .values) (after .values) (before .pivots) (after .pivots) (before .index) (after .index) → ReadyFor
-    factor-ready (factors.Done c) e h = record { indexed = λ count q. h .indexed count (let z : c ≡ count = cc in rw z); fits = λ q. absurd (let z : _≡_ {A = ℕ} 0 1 = cc in omega arith) }
-    factor-ready (factors.Refused n) e h = unlike n e
+      factor-ready : (a : Built) → factorPrepared a ≡ prepared.Done p → Roomy modes.IncompleteCholesky (s .rows) before → ((count : ℕ) → a ≡ factors.Done count → Indexed (startsIn (s .rows) (after .pattern)) (columnsIn (s .rows) (after .pattern)) (after .order) (s .rows) count) → Ready p (s .rows) after
+      unfolding patternRoom orderRoom valuesRoom
+      factor-ready (factors.Done c) e room h = record {
+        long = ed ∙ room .diagonal-long;
+        factor = λ count q. record { indexed = let z : c ≡ count = cc in rw (← z) (h c refl); pattern-long = omega (arith, ep, ev, room .pattern-long, room .values-long); order-long = omega (arith, eo, ev, room .order-long, room .values-long) };
+        blocks = λ q. absurd (let z : _≡_ {A = ℕ} 0 1 = cc in omega arith);
+      }
+      factor-ready (factors.Refused n) e room h = unlike n e
 
-    blocks-ready : (a : Blocked) → blocksPrepared a ≡ prepared.Done p → blocksRun s owner (before .blocks) ≡ blockedOut a (after .blocks) → 36 * s .rows ≤ length (before .blocks) → ReadyFor
-    blocks-ready blocks.Done e h room = record { indexed = λ count q. absurd (let z : _≡_ {A = ℕ} 0 1 = cc in omega arith); fits = λ q. runs-fit s owner (before .blocks) room (after .blocks) h }
-    blocks-ready (blocks.Refused n) e h room = unlike n e
+      blocks-ready : (a : Blocked) → blocksPrepared a ≡ prepared.Done p → Roomy modes.BlockJacobi (s .rows) before → blocksRun s owner (before .values) ≡ blockedOut a (after .values) → ownerIn (after .pattern) ≡ owner → Ready p (s .rows) after
+      unfolding patternRoom valuesRoom
+      blocks-ready blocks.Done e room h o = record {
+        long = ed ∙ room .diagonal-long;
+        factor = λ count q. absurd (let z : _≡_ {A = ℕ} 0 1 = cc in omega arith);
+        blocks = λ q. record { fits = rw o (runs-fit s owner (before .values) (block-room room) (after .values) h); pattern-long = ep ∙ room .pattern-long; values-long = ev ∙ room .values-long };
+      }
+      blocks-ready (blocks.Refused n) e room h o = unlike n e
 
-    pub built-ready : (mode : Mode) (r : Prepared) → r ≡ prepared.Done p → 36 * s .rows ≤ length (before .blocks) → FactorBuilt s owner diagonal before after mode r → ReadyFor
-    built-ready modes.Diagonal r e room (built-diagonal q) = diagonal-ready (let z : built.Diagonal ≡ p = cc in sym z)
-    built-ready modes.IncompleteCholesky r e room (built-factor a h b) = factor-ready a e h
-    built-ready modes.BlockJacobi r e room (built-blocks a h q) = blocks-ready a e h room
+      pub built-ready : (mode : Mode) (r : Prepared) → r ≡ prepared.Done p → Roomy mode (s .rows) before → FactorBuilt s owner before after mode r → Ready p (s .rows) after
+      built-ready modes.Diagonal r e room (built-diagonal q) = diagonal-ready modes.Diagonal room (let z : built.Diagonal ≡ p = cc in sym z)
+      built-ready modes.IncompleteCholesky r e room (built-factor a h) = factor-ready a e room (h .indexed)
+      built-ready modes.BlockJacobi r e room (built-blocks a h q) = blocks-ready a e room h (gathered q)
 
 -- ---- the blocks' solves read a block only where a run begins
 module _ (block block′ : ℕ → List Float) (owner : ℕ → ℕ) (residual y : List Float) (agree : (i : ℕ) → i < length residual → begins owner i ≡ true → block i ≡ block′ i) where
@@ -148,8 +165,10 @@ module _ (block block′ : ℕ → List Float) (owner : ℕ → ℕ) (residual y
 
 -- ---- z by what the memory holds is the definition's
 module _ (s : System) (owner : ℕ → ℕ) (diagonal : List Float) (m : Memory) (residual : List Float) (long : length residual ≡ s .rows) where
-  pub holds-same : (mode : Mode) (p : Preconditioner) → Holds s owner diagonal m mode p → zIn p diagonal m owner residual ≡ preconditioned mode s owner diagonal residual
+  pub holds-same : (mode : Mode) (p : Preconditioner) → Holds s owner diagonal m mode p → zIn p (s .rows) m residual ≡ preconditioned mode s owner diagonal residual
   unfolding preconditioned preconditionedRun
-  holds-same modes.Diagonal p holds-diagonal = on-going _ _ _ refl
+  holds-same modes.Diagonal p (holds-diagonal e) = on-going _ _ _ refl ∙ rw e
   holds-same modes.IncompleteCholesky p (holds-factor count h) = sym (on-going _ _ _ h)
-  holds-same modes.BlockJacobi p (holds-blocks h) = sym (ap orSixteen (same-solves (λ i. blockNumbers (blockAt s owner i)) (blockIn (m .blocks)) owner residual (zeros (length residual)) (λ i l b. on-going _ _ _ (h i (rw (← long) l) b))))
+  holds-same modes.BlockJacobi p (holds-blocks o h) =
+      ap (λ (f : ℕ → ℕ). orSixteen (blocksSolveRun (blockIn (m .values)) f residual (zeros (length residual)))) o
+      ∙ sym (ap orSixteen (same-solves (λ i. blockNumbers (blockAt s owner i)) (blockIn (m .values)) owner residual (zeros (length residual)) (λ i l b. on-going _ _ _ (h i (rw (← long) l) b))))

@@ -1,18 +1,26 @@
 -- The ways through the functions that go by the mode. Assumes nothing.
-use Prim.Native.Nat.{ℕ, zero, suc}
-use mathlib.Core.Path.{_≡_, refl, sym}
+use Prim.Native.Nat.{ℕ, zero, suc, _+_, _*_, _<_, _≤_}
+use mathlib.Core.Path.{_≡_, refl, sym, ap, _∙_, fun-ext}
 use mathlib.Core.List.{List}
+use native.Mathlib.Decide.{decLt}
 use native.Mathlib.Omega.{arith}
+use lib.ListN.{length, getD, List·getD-eq-default}
+use Rattle.loops.specs.Tabulate.{tabulate}
+use Rattle.loops.proofs.Tabulate.{getD-tabulate, length-tabulate}
 use lib.Ieee.{Float}
 use Rattle.mass_operator.specs.System.{System, compactSystem}
-use Rattle.incomplete_cholesky.specs.Build.{Index, FactorHeld}
+use Rattle.pairs.specs.Pairs.{pairRoom}
+use Rattle.pairs.specs.Pattern.{startsIn, columnsIn}
+use Rattle.incomplete_cholesky.specs.Build.{FactorHeld}
 use Rattle.incomplete_cholesky.specs.declared.build.Built.{Built}
 use Rattle.incomplete_cholesky.specs.declared.build.Built.the-variants as factors
+use Rattle.block_jacobi.specs.Runs.{ownerIn}
 use Rattle.block_jacobi.specs.Blocks.{blocksRun, blockedOut}
 use Rattle.block_jacobi.specs.declared.build.Blocked.{Blocked}
 use Rattle.block_jacobi.specs.declared.build.Blocked.the-variants as blocks
 use Rattle.preconditioner.specs.Mode.{modeOf}
-use Rattle.preconditioner.specs.Held.{Memory, FactorBuilt, built-diagonal, built-factor, built-blocks, factorPrepared, blocksPrepared}
+use Rattle.preconditioner.specs.Room.{Memory, Roomy, patternRoom, orderRoom, valuesRoom}
+use Rattle.preconditioner.specs.Held.{FactorBuilt, built-diagonal, built-factor, built-blocks, factorPrepared, blocksPrepared, jointsIn}
 use Rattle.preconditioner.specs.declared.mode.Mode.{Mode}
 use Rattle.preconditioner.specs.declared.mode.Mode.the-variants as modes
 use Rattle.preconditioner.specs.declared.apply.Preconditioner.the-variants as built
@@ -47,18 +55,58 @@ blocks-done a e = rw e
 pub blocks-refused : (a : Blocked) (number : ℕ) → a ≡ blocks.Refused number → prepared.Refused number ≡ blocksPrepared a
 blocks-refused a number e = rw e
 
+-- ---- `pattern_room`, `order_room`, `values_room`
+module _ (mode : Mode) (n : ℕ) where
+  pub diagonal-rooms : mode ≡ modes.Diagonal → (0 ≡ patternRoom mode n) × (0 ≡ orderRoom mode n) × (0 ≡ valuesRoom mode n)
+  unfolding patternRoom orderRoom valuesRoom
+  diagonal-rooms e = rw e (refl, refl, refl)
+
+  pub factor-rooms : mode ≡ modes.IncompleteCholesky → (n + 1 + pairRoom n ≡ patternRoom mode n) × (n + 2 * pairRoom n ≡ orderRoom mode n) × (pairRoom n ≡ valuesRoom mode n)
+  unfolding patternRoom orderRoom valuesRoom
+  factor-rooms e = rw e (refl, refl, refl)
+
+  pub block-rooms : mode ≡ modes.BlockJacobi → (n ≡ patternRoom mode n) × (0 ≡ orderRoom mode n) × (36 * n ≡ valuesRoom mode n)
+  unfolding patternRoom orderRoom valuesRoom
+  block-rooms e = rw e (refl, refl, refl)
+
+-- ---- what a mode's build is lent
+module _ (mode : Mode) (n : ℕ) (m : Memory) (room : Roomy mode n m) where
+  pub factor-lent : mode ≡ modes.IncompleteCholesky → (length (m .diagonal) ≡ n) × (length (m .pattern) ≡ n + 1 + pairRoom n) × (length (m .order) ≡ n + 2 * pairRoom n) × (length (m .values) ≡ pairRoom n)
+  factor-lent e = let r = factor-rooms mode n e in (room .diagonal-long, room .pattern-long ∙ sym (r .0), room .order-long ∙ sym (r .1), room .values-long ∙ sym (r .2))
+
+  pub blocks-lent : mode ≡ modes.BlockJacobi → (length (m .pattern) ≡ n) × (length (m .values) ≡ 36 * n)
+  blocks-lent e = let r = block-rooms mode n e in (room .pattern-long ∙ sym (r .0), room .values-long ∙ sym (r .2))
+
 -- ---- `build_preconditioner`
-module _ (s : System) (owner : ℕ → ℕ) (diagonal : List Float) (mode : Mode) where
-  pub mode-diagonal : (m : Memory) → mode ≡ modes.Diagonal → FactorBuilt s owner diagonal m m mode (prepared.Done built.Diagonal)
-  mode-diagonal m e = rw e (built-diagonal refl)
+module _ (s : System) (owner : ℕ → ℕ) (mode : Mode) (before : Memory) where
+  pub mode-diagonal : mode ≡ modes.Diagonal → FactorBuilt s owner before before mode (prepared.Done built.Diagonal)
+  mode-diagonal e = rw e (built-diagonal refl)
 
-  pub mode-factor : (before after : Memory) (a : Built) (r : Prepared) → mode ≡ modes.IncompleteCholesky
-      → FactorHeld s diagonal a (after .starts) (after .columns) (before .values) (after .values) (before .pivots) (after .pivots) (before .index) (after .index) → after .blocks ≡ before .blocks → r ≡ factorPrepared a
-      → FactorBuilt s owner diagonal before after mode r
-  mode-factor before after a r e h b t = rw (e, t) (built-factor a h b)
+  pub mode-factor : (after : Memory) (a : Built) (r : Prepared) → mode ≡ modes.IncompleteCholesky
+      → FactorHeld s (before .diagonal) a (startsIn (s .rows) (after .pattern)) (columnsIn (s .rows) (after .pattern)) (before .order) (after .order) (before .values) (after .values) (after .diagonal) → r ≡ factorPrepared a → FactorBuilt s owner before after mode r
+  mode-factor after a r e h t = rw (e, t) (built-factor a h)
 
--- the blocks are built of as many rows as there are owners
-pub mode-blocks : (owner : ℕ → ℕ) (diagonal jacobians masses : List Float) (links : List ℕ) (bodies n rows : ℕ) (mode : Mode) (before : Memory) (l : List Float) (a : Blocked) (r : Prepared) → n ≡ rows → mode ≡ modes.BlockJacobi
-    → blocksRun (compactSystem n bodies jacobians links masses) owner (before .blocks) ≡ blockedOut a l → r ≡ blocksPrepared a
-    → FactorBuilt (compactSystem rows bodies jacobians links masses) owner diagonal before record { starts = before .starts; columns = before .columns; values = before .values; pivots = before .pivots; index = before .index; blocks = l } mode r
-mode-blocks owner diagonal jacobians masses links bodies n rows mode before l a r en e h t = rw (← en, e, t) (built-blocks a h refl)
+-- the joints of the rows are gathered, and the blocks built of as many rows as there are joints
+pub joints-are : (words : List ℕ) (n : ℕ) → length words ≡ 8 * n → ownerIn (tabulate (jointsIn words) n) ≡ jointsIn words
+joints-are words n ew = fun-ext (λ i. at i (decLt i n))
+  where
+    beyond : (l : List ℕ) (k : ℕ) → length l ≤ k → getD l k 0 ≡ 0
+    beyond l k h = List·getD-eq-default l 0 {n = k} h
+
+    at : (i : ℕ) → Dec (i < n) → getD (tabulate (jointsIn words) n) i 0 ≡ jointsIn words i
+    at i (yes h) = getD-tabulate (jointsIn words) n i 0 h
+    at i (no h) = beyond (tabulate (jointsIn words) n) i (rw (length-tabulate (jointsIn words) n) (omega arith)) ∙ sym (beyond words (8 * i + 6) (omega arith))
+
+-- k joints are gathered, and the blocks are built of as many rows
+pub mode-blocks : (words : List ℕ) (bodies : ℕ) (jacobians : List Float) (links : List ℕ) (masses : List Float) (k n m : ℕ) (mode : Mode) (before : Memory) (joints : List ℕ) (values : List Float) (a : Blocked) (r : Prepared) → length words ≡ 8 * n → k ≡ n → m ≡ n
+    → joints ≡ tabulate (jointsIn words) k → mode ≡ modes.BlockJacobi → blocksRun (compactSystem m bodies jacobians links masses) (ownerIn joints) (before .values) ≡ blockedOut a values → r ≡ blocksPrepared a
+    → FactorBuilt (compactSystem n bodies jacobians links masses) (jointsIn words) before record { diagonal = before .diagonal; pattern = joints; order = before .order; values = values } mode r
+mode-blocks words bodies jacobians links masses k n m mode before joints values a r ew ek em ej e h t =
+    let listed : joints ≡ tabulate (jointsIn words) n = ej ∙ ap (tabulate (jointsIn words)) ek in
+    let owner : ownerIn joints ≡ jointsIn words = ap ownerIn listed ∙ joints-are words n ew in
+    let made : blocksRun (compactSystem n bodies jacobians links masses) (jointsIn words) (before .values) ≡ blockedOut a values =
+    ap (λ (f : ℕ → ℕ). blocksRun (compactSystem n bodies jacobians links masses) f (before .values)) (sym owner) ∙ ap (λ (i : ℕ). blocksRun (compactSystem i bodies jacobians links masses) (ownerIn joints) (before .values)) (sym em) ∙ h in
+    rw (e, t) (built-blocks a made (ap (λ (l : List ℕ). the (record { diagonal = before .diagonal; pattern = l; order = before .order; values = values })) listed))
+  where
+    the : Memory → Memory
+    the m = m

@@ -8,7 +8,8 @@ use Rattle.loops.specs.Tabulate.{tabulate}
 use Rattle.mass_operator.specs.System.{System}
 use Rattle.sparse.specs.Triangle.{Sparse}
 use Rattle.triangular.specs.Triangular.{solveRun}
-use Rattle.incomplete_cholesky.specs.Build.{zeros, choleskyRun}
+use Rattle.loops.specs.Cleared.{zeros}
+use Rattle.incomplete_cholesky.specs.Build.{choleskyRun}
 use Rattle.block_jacobi.specs.Blocks.{blocksSolveRun}
 use Rattle.preconditioner.specs.Factor.{blockAt}
 use Rattle.preconditioner.specs.declared.mode.Mode.{Mode}
@@ -32,8 +33,8 @@ preconditioned modes.Diagonal s owner diagonal residual = going (diagonalSolveOf
 preconditioned modes.IncompleteCholesky s owner diagonal residual = next (choleskyRun s diagonal) (λ f. orSixteen (solveRun (f .0) (f .1) residual (zeros (length residual))))
 preconditioned modes.BlockJacobi s owner diagonal residual = orSixteen (blocksSolveRun (λ i. blockNumbers (blockAt s owner i)) owner residual (zeros (length residual)))
 
--- the same by what was built: L, pivots and block are what the lent memory holds. A Run that has ended met 16, and carries the numbers as they then stand.
-unfoldable pub preconditionedRun : Preconditioner → List Float → Sparse → List Float → (ℕ → List Float) → (ℕ → ℕ) → List Float → Run (List Float) (List Float)
-preconditionedRun built.Diagonal diagonal L pivots block owner residual = going (diagonalSolveOf residual diagonal)
-preconditionedRun (built.IncompleteCholesky count) diagonal L pivots block owner residual = solveRun L pivots residual (zeros (length residual))
-preconditionedRun built.BlockJacobi diagonal L pivots block owner residual = blocksSolveRun block owner residual (zeros (length residual))
+-- the same by what was built: diagonal, L, block and owner are what the lent memory holds. A Run that has ended met 16, and carries the numbers as they then stand.
+unfoldable pub preconditionedRun : Preconditioner → List Float → Sparse → (ℕ → List Float) → (ℕ → ℕ) → List Float → Run (List Float) (List Float)
+preconditionedRun built.Diagonal diagonal L block owner residual = going (diagonalSolveOf residual diagonal)
+preconditionedRun (built.IncompleteCholesky count) diagonal L block owner residual = solveRun L diagonal residual (zeros (length residual))
+preconditionedRun built.BlockJacobi diagonal L block owner residual = blocksSolveRun block owner residual (zeros (length residual))

@@ -1,22 +1,27 @@
--- What the lent memory holds of a mode's factor: said here once.
-use Prim.Native.Nat.{ℕ, _<_}
+-- What the lent memory holds of a mode's factor.
+use Prim.Native.Nat.{ℕ, _+_, _*_, _<_}
 use mathlib.Core.Path.{_≡_}
 use mathlib.Core.Bool.{true}
 use mathlib.Core.List.{List}
+use lib.ListN.{length, getD}
 use lib.Ieee.{Float}
 use Rattle.loops.specs.Run.{Run, going, ended}
+use Rattle.loops.specs.Tabulate.{tabulate}
 use Rattle.mass_operator.specs.System.{System}
+use Rattle.sparse.specs.Triangle.{Sparse}
 use Rattle.sparse.specs.Kept.{numbers}
 use Rattle.triangular.specs.Column.{Indexed}
-use Rattle.incomplete_cholesky.specs.Build.{Index, choleskyRun, FactorHeld}
+use Rattle.pairs.specs.Pattern.{startsIn, columnsIn}
+use Rattle.incomplete_cholesky.specs.Build.{choleskyRun, FactorHeld}
 use Rattle.incomplete_cholesky.specs.declared.build.Built.{Built}
 use Rattle.incomplete_cholesky.specs.declared.build.Built.the-variants as factors
-use Rattle.block_jacobi.specs.Runs.{begins, RunsFit}
+use Rattle.block_jacobi.specs.Runs.{ownerIn, begins, RunsFit}
 use Rattle.block_jacobi.specs.Blocks.{blockIn, blocksRun, blockedOut}
 use Rattle.block_jacobi.specs.declared.build.Blocked.{Blocked}
 use Rattle.block_jacobi.specs.declared.build.Blocked.the-variants as blocks
 use Rattle.preconditioner.specs.Factor.{blockAt}
 use Rattle.preconditioner.specs.Apply.{orSixteen, preconditionedRun}
+use Rattle.preconditioner.specs.Room.{Memory}
 use Rattle.preconditioner.specs.declared.mode.Mode.{Mode}
 use Rattle.preconditioner.specs.declared.mode.Mode.the-variants as modes
 use Rattle.preconditioner.specs.declared.apply.Preconditioner.{Preconditioner}
@@ -24,29 +29,39 @@ use Rattle.preconditioner.specs.declared.apply.Preconditioner.the-varian
 use Rattle.preconditioner.specs.declared.prepare.Prepared.{Prepared}
 use Rattle.preconditioner.specs.declared.prepare.Prepared.the-variants as prepared
 
--- what a solve with it asks of the memory
-pub record Ready (p : Preconditioner) (starts columns heads nexts homes : List ℕ) (owner : ℕ → ℕ) (rows : ℕ) : Type 0 where
-  pub indexed : (count : ℕ) → p ≡ built.IncompleteCholesky count → Indexed starts columns heads nexts homes count
-  pub fits : p ≡ built.BlockJacobi → RunsFit owner rows
+-- the factor's numbers of n rows
+abbrev pub factorIn : ℕ → Memory → Sparse
+factorIn n m = numbers (startsIn n (m .pattern)) (columnsIn n (m .pattern)) (m .values)
 
--- the lent memory of modes 1 and 2; the marks are left free
-pub record Memory : Type 0 where
-  pub starts : List ℕ
-  pub columns : List ℕ
-  pub values : List Float
-  pub pivots : List Float
-  pub index : Index
-  pub blocks : List Float
+-- ---- what a solve asks of the memory, for n rows
+pub record FactorReady (n count : ℕ) (m : Memory) : Type 0 where
+  pub indexed : Indexed (startsIn n (m .pattern)) (columnsIn n (m .pattern)) (m .order) n count
+  pub pattern-long : length (m .pattern) ≡ n + 1 + length (m .values)
+  pub order-long : length (m .order) ≡ n + 2 * length (m .values)
+
+pub record BlocksReady (n : ℕ) (m : Memory) : Type 0 where
+  pub fits : RunsFit (ownerIn (m .pattern)) n
+  pub pattern-long : length (m .pattern) ≡ n
+  pub values-long : length (m .values) ≡ 36 * n
+
+pub record Ready (p : Preconditioner) (n : ℕ) (m : Memory) : Type 0 where
+  pub long : length (m .diagonal) ≡ n
+  pub factor : (count : ℕ) → p ≡ built.IncompleteCholesky count → FactorReady n count m
+  pub blocks : p ≡ built.BlockJacobi → BlocksReady n m
 
 -- z by what stands there
-abbrev pub zIn : Preconditioner → List Float → Memory → (ℕ → ℕ) → List Float → Run (List Float) ℕ
-zIn p diagonal m owner residual = orSixteen (preconditionedRun p diagonal (numbers (m .starts) (m .columns) (m .values)) (m .pivots) (blockIn (m .blocks)) owner residual)
+abbrev pub zIn : Preconditioner → ℕ → Memory → List Float → Run (List Float) ℕ
+zIn p n m residual = orSixteen (preconditionedRun p (m .diagonal) (factorIn n m) (blockIn (m .values)) (ownerIn (m .pattern)) residual)
 
--- the mode's factor is there
+-- ---- the mode's factor is there; diagonal is the one that it is made of
 pub data Holds (s : System) (owner : ℕ → ℕ) (diagonal : List Float) (m : Memory) : Mode → Preconditioner → Type 0 where
-  holds-diagonal : Holds s owner diagonal m modes.Diagonal built.Diagonal
-  holds-factor : (count : ℕ) → choleskyRun s diagonal ≡ going (numbers (m .starts) (m .columns) (m .values), m .pivots) → Holds s owner diagonal m modes.IncompleteCholesky (built.IncompleteCholesky count)
-  holds-blocks : ((i : ℕ) → i < s .rows → begins owner i ≡ true → blockAt s owner i ≡ going (blockIn (m .blocks) i)) → Holds s owner diagonal m modes.BlockJacobi built.BlockJacobi
+  holds-diagonal : m .diagonal ≡ diagonal → Holds s owner diagonal m modes.Diagonal built.Diagonal
+  holds-factor : (count : ℕ) → choleskyRun s diagonal ≡ going (factorIn (s .rows) m, m .diagonal) → Holds s owner diagonal m modes.IncompleteCholesky (built.IncompleteCholesky count)
+  holds-blocks : ownerIn (m .pattern) ≡ owner → ((i : ℕ) → i < s .rows → begins owner i ≡ true → blockAt s owner i ≡ going (blockIn (m .values) i)) → Holds s owner diagonal m modes.BlockJacobi built.BlockJacobi
+
+-- the joint of each row: word 6 of its eight
+abbrev pub jointsIn : List ℕ → ℕ → ℕ
+jointsIn words i = getD words (8 * i + 6) 0
 
 -- ---- what an answer tells
 abbrev pub preparedOut : Prepared → Run Unit ℕ
@@ -66,9 +81,8 @@ blocksPrepared blocks.Done = prepared.Done built.BlockJacobi
 blocksPrepared (blocks.Refused number) = prepared.Refused number
 
 -- of an answer the memory before and after: what is not the mode's is untouched
-pub data FactorBuilt (s : System) (owner : ℕ → ℕ) (diagonal : List Float) (before after : Memory) : Mode → Prepared → Type 0 where
-  built-diagonal : after ≡ before → FactorBuilt s owner diagonal before after modes.Diagonal (prepared.Done built.Diagonal)
-  built-factor : (answer : Built) → FactorHeld s diagonal answer (after .starts) (after .columns) (before .values) (after .values) (before .pivots) (after .pivots) (before .index) (after .index) → after .blocks ≡ before .blocks
-      → FactorBuilt s owner diagonal before after modes.IncompleteCholesky (factorPrepared answer)
-  built-blocks : (answer : Blocked) → blocksRun s owner (before .blocks) ≡ blockedOut answer (after .blocks) → after ≡ record { starts = before .starts; columns = before .columns; values = before .values; pivots = before .pivots; index = before .index; blocks = after .blocks }
-      → FactorBuilt s owner diagonal before after modes.BlockJacobi (blocksPrepared answer)
+pub data FactorBuilt (s : System) (owner : ℕ → ℕ) (before after : Memory) : Mode → Prepared → Type 0 where
+  built-diagonal : after ≡ before → FactorBuilt s owner before after modes.Diagonal (prepared.Done built.Diagonal)
+  built-factor : (answer : Built) → FactorHeld s (before .diagonal) answer (startsIn (s .rows) (after .pattern)) (columnsIn (s .rows) (after .pattern)) (before .order) (after .order) (before .values) (after .values) (after .diagonal) → FactorBuilt s owner before after modes.IncompleteCholesky (factorPrepared answer)
+  built-blocks : (answer : Blocked) → blocksRun s owner (before .values) ≡ blockedOut answer (after .values) → after ≡ record { diagonal = before .diagonal; pattern = tabulate owner (s .rows); order = before .order; values = after .values }
+      → FactorBuilt s owner before after modes.BlockJacobi (blocksPrepared answer)

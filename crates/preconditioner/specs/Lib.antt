@@ -1,4 +1,5 @@
 pub mod Mode
+pub mod Room
 pub mod Factor
 pub mod Apply
 pub mod Held

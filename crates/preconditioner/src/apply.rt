@@ -3,11 +3,13 @@ ghost use mathlib.Core.Path.{_≡_};
 ghost use Prim.Native.Nat.{_+_, _*_, _≤_};
 ghost use lib.ListN.{length};
 ghost use Rattle.sparse.specs.Kept.{numbers};
+ghost use Rattle.pairs.specs.Pattern.{startsIn, columnsIn};
+ghost use Rattle.triangular.specs.Triangular.{solveRun};
 ghost use Rattle.triangular.specs.Answers.{solveOut};
 ghost use Rattle.block_jacobi.specs.Runs.{ownerIn};
 ghost use Rattle.block_jacobi.specs.Blocks.{blockIn};
 ghost use Rattle.preconditioner.specs.Apply.{diagonalSolveOf, preconditionedRun};
-ghost use Rattle.preconditioner.specs.Held.{Ready};
+ghost use Rattle.preconditioner.specs.Held.{FactorReady, Ready};
 use block_jacobi::apply_block_jacobi_preconditioner;
 use triangular::Solved;
 use triangular::solve;
@@ -30,26 +32,47 @@ fn diagonal_solve(residual: &[f64], diagonal: &[f64], output: &mut [f64])
     }
 }
 
+// Starts and columns are the two parts of the pattern.
+fn solve_factor(
+    pattern: &[u32],
+    order: &[u32],
+    count: u32,
+    values: &[f64],
+    pivots: &[f64],
+    residual: &[f64],
+    output: &mut [f64],
+) -> Solved
+    requires { ⌜ FactorReady (length (now output)) count record { diagonal = now pivots; pattern = now pattern; order = now order; values = now values } ⌝ }
+    requires { ⌜ (length (now pivots) ≡ length (now output)) × (length (now residual) ≡ length (now output)) ⌝ }
+    ensures { λ r. ⌜ solveRun (numbers (startsIn (length (now (output .entry))) (now (pattern .entry))) (columnsIn (length (now (output .entry))) (now (pattern .entry))) (now (values .entry))) (now (pivots .entry)) (now (residual .entry)) (now (output .entry))
+        ≡ solveOut r (now (output .exit)) ⌝ }
+{
+    let ends = output.len() + 1;
+    solve(
+        &pattern[..ends],
+        &pattern[ends..],
+        order,
+        count,
+        values,
+        pivots,
+        residual,
+        output,
+    )
+}
+
 // The two triangular solves and the blocks' solves start from +0.0, so that z depends on nothing that stood there.
 pub fn apply_preconditioner(
     preconditioner: Preconditioner,
     diagonal: &[f64],
-    starts: &[u32],
-    columns: &[u32],
-    heads: &[u32],
-    nexts: &[u32],
-    homes: &[u32],
+    pattern: &[u32],
+    order: &[u32],
     values: &[f64],
-    pivots: &[f64],
-    owners: &[u32],
-    blocks: &[f64],
     residual: &[f64],
     output: &mut [f64],
 ) -> Solved
-    requires { ⌜ Ready preconditioner (now starts) (now columns) (now heads) (now nexts) (now homes) (ownerIn (now owners)) (length (now owners)) ⌝ }
-    requires { ⌜ (length (now values) ≡ length (now columns)) × (length (now nexts) ≡ length (now columns)) × (length (now homes) ≡ length (now columns)) × (36 * length (now output) ≤ length (now blocks)) ⌝ }
-    requires { ⌜ (length (now heads) ≡ length (now output)) × (length (now diagonal) ≡ length (now output)) × (length (now pivots) ≡ length (now output)) × (length (now owners) ≡ length (now output)) × (length (now residual) ≡ length (now output)) ⌝ }
-    ensures { λ r. ⌜ preconditionedRun preconditioner (now (diagonal .entry)) (numbers (now (starts .entry)) (now (columns .entry)) (now (values .entry))) (now (pivots .entry)) (blockIn (now (blocks .entry))) (ownerIn (now (owners .entry))) (now (residual .entry))
+    requires { ⌜ Ready preconditioner (length (now residual)) record { diagonal = now diagonal; pattern = now pattern; order = now order; values = now values } ⌝ }
+    requires { ⌜ length (now residual) ≡ length (now output) ⌝ }
+    ensures { λ r. ⌜ preconditionedRun preconditioner (now (diagonal .entry)) (numbers (startsIn (length (now (residual .entry))) (now (pattern .entry))) (columnsIn (length (now (residual .entry))) (now (pattern .entry))) (now (values .entry))) (blockIn (now (values .entry))) (ownerIn (now (pattern .entry))) (now (residual .entry))
         ≡ solveOut r (now (output .exit)) ⌝ }
 {
     match preconditioner {
@@ -59,22 +82,11 @@ pub fn apply_preconditioner(
         }
         Preconditioner::IncompleteCholesky(count) => {
             loops::clear(output);
-            solve(
-                starts,
-                columns,
-                heads,
-                nexts,
-                homes,
-                count,
-                values,
-                pivots,
-                residual,
-                output,
-            )
+            solve_factor(pattern, order, count, values, diagonal, residual, output)
         }
         Preconditioner::BlockJacobi => {
             loops::clear(output);
-            apply_block_jacobi_preconditioner(owners, blocks, residual, output)
+            apply_block_jacobi_preconditioner(pattern, values, residual, output)
         }
     }
 }

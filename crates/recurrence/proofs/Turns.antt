@@ -21,7 +21,7 @@ use Rattle.recurrence.specs.Step.{Iterate, Carried, alphaOf, updatedOf, 
 use Rattle.recurrence.specs.Answers.{scaleOut, carriedOut}
 use Rattle.recurrence.specs.declared.ratio.Scale.{Scale}
 use Rattle.recurrence.specs.declared.ratio.Scale.the-variants as scales
-use Rattle.recurrence.proofs.Ways.{test-pass, test-fail}
+use Rattle.loops.proofs.Judge.{test-pass, test-fail}
 
 -- ---- `update`
 module _ (x₀ r₀ direction product : List Float) (a : Float) (x r : List Float) (s t : Bool) (ex : x ≡ plusScaled x₀ a direction) (er : r ≡ lessScaled r₀ a product) (es : s ≡ allFiniteOf x) (et : t ≡ allFiniteOf r) where
@@ -53,7 +53,7 @@ overflow-of l = by (allFiniteOf l)
     by true h = let z : _≡_ {A = ℕ} 0 1 = cc in absurd (omega arith)
     by false h = refl
 
-module _ (system : System) (x₀ r₀ direction : List Float) (s : Float) (answer : Applied) (impulses responses product : List Float) (m : Multiplied system (coefficients direction) answer impulses responses product) where
+module _ (system : System) (x₀ r₀ direction : List Float) (s : Float) (answer : Applied) (responses product : List Float) (m : Multiplied system (coefficients direction) answer responses product) where
   pub advance-bad : answer ≡ applied.Overflow → advanceOf system record { solution = x₀; residual = r₀ } record { direction = direction; s = s } ≡ ended 16
   unfolding advanceOf
   advance-bad t = test-fail _ _ _ refl (ap not (overflow-of _ (sym t ∙ m .answered)))

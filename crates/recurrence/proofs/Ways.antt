@@ -5,20 +5,9 @@ use mathlib.Core.Bool.{Bool, true, false, not}
 use lib.Ieee.{Float, binary64, div, le}
 use lib.Ieee.Scale.{finite}
 use Rattle.loops.specs.Run.{Run, going, ended, next}
-use Rattle.loops.specs.Judge.{test}
-use Rattle.loops.proofs.Loop.{on-going, on-ended, check-pass, check-fail}
+use Rattle.loops.proofs.Judge.{test-pass, test-fail}
 use Rattle.binary64.specs.Order.{minPositive}
 use Rattle.recurrence.specs.Step.{alphaOf, productFit, betaOf}
-
--- ---- the two ways of `if !g(x) { return .. }`, as `check-pass` and `check-fail` have them
-module _ {S : Type 0} (b : Bool) (n : ℕ) (f : Unit → Run S ℕ) {r : Bool} (e : r ≡ b) where
-  pub test-pass : {o : Run S ℕ} → not r ≡ false → f tt ≡ o → next (test b n) f ≡ o
-  unfolding test
-  test-pass t h = on-going _ _ _ (check-pass _ _ _ e t refl) ∙ h
-
-  pub test-fail : not r ≡ true → next (test b n) f ≡ ended n
-  unfolding test
-  test-fail t = on-ended _ _ _ (check-fail _ _ _ e t refl)
 
 -- ---- `alpha`
 module _ (s d : Float) (t : Bool) (et : t ≡ finite d) where

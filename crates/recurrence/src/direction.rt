@@ -3,7 +3,6 @@ ghost use mathlib.Core.Path.{_≡_};
 ghost use Prim.Native.Nat.{_+_, _*_, _≤_};
 ghost use lib.ListN.{length};
 ghost use Rattle.loops.specs.Run.{going, next};
-ghost use Rattle.block_jacobi.specs.Runs.{ownerIn};
 ghost use Rattle.preconditioner.specs.Held.{Ready, zIn};
 ghost use Rattle.recurrence.specs.Step.{productFit, firstFrom, betaOf, turnedOf, renewFrom};
 ghost use Rattle.recurrence.specs.Vectors.{dotProductOf};
@@ -68,38 +67,24 @@ fn next_direction(
 pub fn first(
     preconditioner: Preconditioner,
     diagonal: &[f64],
-    starts: &[u32],
-    columns: &[u32],
-    heads: &[u32],
-    nexts: &[u32],
-    homes: &[u32],
+    pattern: &[u32],
+    order: &[u32],
     values: &[f64],
-    pivots: &[f64],
-    owners: &[u32],
-    blocks: &[f64],
     residual: &[f64],
     preconditioned: &mut [f64],
     direction: &mut [f64],
 ) -> Scale
-    requires { ⌜ Ready preconditioner (now starts) (now columns) (now heads) (now nexts) (now homes) (ownerIn (now owners)) (length (now owners)) ⌝ }
-    requires { ⌜ (length (now values) ≡ length (now columns)) × (length (now nexts) ≡ length (now columns)) × (length (now homes) ≡ length (now columns)) × (36 * length (now residual) ≤ length (now blocks)) ⌝ }
-    requires { ⌜ (length (now heads) ≡ length (now residual)) × (length (now diagonal) ≡ length (now residual)) × (length (now pivots) ≡ length (now residual)) × (length (now owners) ≡ length (now residual)) ⌝ }
+    requires { ⌜ Ready preconditioner (length (now residual)) record { diagonal = now diagonal; pattern = now pattern; order = now order; values = now values } ⌝ }
     requires { ⌜ (length (now preconditioned) ≡ length (now residual)) × (length (now direction) ≡ length (now residual)) ⌝ }
-    ensures { λ r. ⌜ firstFrom (zIn preconditioner (now (diagonal .entry)) record { starts = now (starts .entry); columns = now (columns .entry); values = now (values .entry); pivots = now (pivots .entry); index = record { heads = now (heads .entry); nexts = now (nexts .entry); homes = now (homes .entry) }; blocks = now (blocks .entry) } (ownerIn (now (owners .entry))) (now (residual .entry))) (now (residual .entry))
+    ensures { λ r. ⌜ firstFrom (zIn preconditioner (length (now (residual .entry))) record { diagonal = now (diagonal .entry); pattern = now (pattern .entry); order = now (order .entry); values = now (values .entry) } (now (residual .entry))) (now (residual .entry))
         ≡ carriedOut r (now (direction .exit)) ⌝ }
 {
     let Solved::Done = apply_preconditioner(
         preconditioner,
         diagonal,
-        starts,
-        columns,
-        heads,
-        nexts,
-        homes,
+        pattern,
+        order,
         values,
-        pivots,
-        owners,
-        blocks,
         residual,
         preconditioned,
     ) else {
@@ -112,39 +97,25 @@ pub fn first(
 pub fn renew(
     preconditioner: Preconditioner,
     diagonal: &[f64],
-    starts: &[u32],
-    columns: &[u32],
-    heads: &[u32],
-    nexts: &[u32],
-    homes: &[u32],
+    pattern: &[u32],
+    order: &[u32],
     values: &[f64],
-    pivots: &[f64],
-    owners: &[u32],
-    blocks: &[f64],
     residual: &[f64],
     residual_product: f64,
     preconditioned: &mut [f64],
     direction: &mut [f64],
 ) -> Scale
-    requires { ⌜ Ready preconditioner (now starts) (now columns) (now heads) (now nexts) (now homes) (ownerIn (now owners)) (length (now owners)) ⌝ }
-    requires { ⌜ (length (now values) ≡ length (now columns)) × (length (now nexts) ≡ length (now columns)) × (length (now homes) ≡ length (now columns)) × (36 * length (now residual) ≤ length (now blocks)) ⌝ }
-    requires { ⌜ (length (now heads) ≡ length (now residual)) × (length (now diagonal) ≡ length (now residual)) × (length (now pivots) ≡ length (now residual)) × (length (now owners) ≡ length (now residual)) ⌝ }
+    requires { ⌜ Ready preconditioner (length (now residual)) record { diagonal = now diagonal; pattern = now pattern; order = now order; values = now values } ⌝ }
     requires { ⌜ (length (now preconditioned) ≡ length (now residual)) × (length (now direction) ≡ length (now residual)) ⌝ }
-    ensures { λ r. ⌜ renewFrom (zIn preconditioner (now (diagonal .entry)) record { starts = now (starts .entry); columns = now (columns .entry); values = now (values .entry); pivots = now (pivots .entry); index = record { heads = now (heads .entry); nexts = now (nexts .entry); homes = now (homes .entry) }; blocks = now (blocks .entry) } (ownerIn (now (owners .entry))) (now (residual .entry))) (now (residual .entry)) record { direction = now (direction .entry); s = «residual_product» }
+    ensures { λ r. ⌜ renewFrom (zIn preconditioner (length (now (residual .entry))) record { diagonal = now (diagonal .entry); pattern = now (pattern .entry); order = now (order .entry); values = now (values .entry) } (now (residual .entry))) (now (residual .entry)) record { direction = now (direction .entry); s = «residual_product» }
         ≡ carriedOut r (now (direction .exit)) ⌝ }
 {
     let Solved::Done = apply_preconditioner(
         preconditioner,
         diagonal,
-        starts,
-        columns,
-        heads,
-        nexts,
-        homes,
+        pattern,
+        order,
         values,
-        pivots,
-        owners,
-        blocks,
         residual,
         preconditioned,
     ) else {

@@ -48,13 +48,12 @@ pub fn advance(
     direction: &[f64],
     residual_product: f64,
     body_impulses: &mut [f64],
-    body_responses: &mut [f64],
     product: &mut [f64],
     solution: &mut [f64],
     residual: &mut [f64],
 ) -> Advanced
     requires { ⌜ (12 * length (now direction) ≤ length (now jacobians)) × (2 * length (now direction) ≤ length (now links)) × (10 * bodies ≤ length (now masses)) ⌝ }
-    requires { ⌜ (length (now «body_impulses») ≡ 6 * bodies) × (length (now «body_responses») ≡ 6 * bodies) × (length (now product) ≡ length (now direction)) × (length (now solution) ≡ length (now direction)) × (length (now residual) ≡ length (now direction)) ⌝ }
+    requires { ⌜ (length (now «body_impulses») ≡ 6 * bodies) × (length (now product) ≡ length (now direction)) × (length (now solution) ≡ length (now direction)) × (length (now residual) ≡ length (now direction)) ⌝ }
     requires { ⌜ Linked (now links) (length (now direction)) bodies ⌝ }
     ensures { λ r. ⌜ advanceOf (compactSystem (length (now (direction .entry))) bodies (now (jacobians .entry)) (now (links .entry)) (now (masses .entry)))
         record { solution = now (solution .entry); residual = now (residual .entry) } record { direction = now (direction .entry); s = «residual_product» }
@@ -67,7 +66,6 @@ pub fn advance(
         direction,
         bodies,
         body_impulses,
-        body_responses,
         product,
     ) else {
         return Advanced::Refused(16);

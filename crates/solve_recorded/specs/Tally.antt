@@ -36,7 +36,7 @@ closedOf c size = record { jobs = c .jobs; met = c .met; «open» = c .«open»;
 abbrev pub noneYet : Count
 noneYet = record { jobs = 0; met = 0; «open» = 0; refused = 0; differ = 0; end = 0 }
 
--- ---- a list: oracle/recorded/README.md, "8 KAPITSA1; 4 u32, number of jobs; 4 u32, 0; … the jobs, one straight after the other"
+-- ---- a list: oracle/README.md, "8 KAPITSA1; 4 u32, number of jobs; 4 u32, 0; … the jobs, one straight after the other"
 
 -- "KAPITSA1" as a word
 unfoldable pub beginsAt : List ℕ → ℕ → Bool

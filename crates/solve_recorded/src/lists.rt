@@ -4,8 +4,8 @@ ghost use Prim.Native.Nat.{_<_};
 ghost use lib.ListN.{length};
 ghost use Rattle.solve_recorded.specs.Tally.{beginsAt, nextOf, listOf, bothOf};
 use crate::tally::Count;
-use recorded_list::word;
-use recorded_list::words::half;
+use packed_list::half;
+use packed_list::word;
 use solve_replay::job_seen;
 
 // "KAPITSA1", which a list begins with.

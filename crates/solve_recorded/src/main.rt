@@ -1,4 +1,4 @@
-// Replays the recorded solves, oracle/recorded/position.bin and then defined.bin on one standard input (README.md beside them has their form, and oracle/run makes them), through `solve_position`,
+// Replays the recorded solves, two lists on one standard input (oracle/README.md has their form, `oracle/run record` makes them), through `solve_position`,
 // and prints how many jobs there are, how they end, and how many differ from what is recorded.
 ghost use mathlib.Core.Path.{_≡_};
 ghost use Prim.Native.Nat.{_<_};

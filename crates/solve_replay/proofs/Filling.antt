@@ -6,6 +6,14 @@ use native.Mathlib.Omega.{arith}
 use lib.ListN.{length, replicate, take, length-replicate, getD-replicate}
 use lib.Seq.{ext-getD, getD-take, length-take-le}
 
+-- a part that is lent: the first w of m, where the counts call for k
+module _ {A : Type 0} (m : ℕ) (l : List A) (w k : ℕ) (e : m ≡ length l) (p : w ≡ k) (h : k ≤ m) where
+  pub within : w ≤ length l
+  within = omega arith
+
+  pub lent-long : length (take w l) ≡ k
+  lent-long = length-take-le w l within ∙ p
+
 module _ {A : Type 0} (x : A) where
   pub filled-long : (k : ℕ) (l : List A) → l ≡ replicate k x → length l ≡ k
   filled-long k l e = ap length e ∙ length-replicate k x

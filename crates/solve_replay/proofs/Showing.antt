@@ -78,16 +78,16 @@ and-both : (a b : Bool) → (a && b) ≡ true → (a ≡ true) × (b ≡ true)
 and-both true b e = (refl, e)
 and-both false b e = absurd (let z : _≡_ {A = ℕ} 0 1 = cc in omega arith)
 
-pub job-counts : (n b : ℕ) → not (leb n 512 && leb b 256) ≡ false → (n ≤ 512) × (b ≤ 256)
-job-counts n b t = let c = and-both (leb n 512) (leb b 256) (not-false (leb n 512 && leb b 256) t) in (leb-true n 512 (c .0), leb-true b 256 (c .1))
+pub job-counts : (n b : ℕ) → not (leb n 513 && leb b 257) ≡ false → (n ≤ 513) × (b ≤ 257)
+job-counts n b t = let c = and-both (leb n 513) (leb b 257) (not-false (leb n 513 && leb b 257) t) in (leb-true n 513 (c .0), leb-true b 257 (c .1))
 
 module _ (list : List ℕ) (at : ℕ) (h : Header) (r : Seen) (e : h ≡ headerOf list at) where
-  opened : r ≡ cond (leb (h .rows) 512 && leb (h .bodies) 256) (tableSeen list (at + 64) h) (malformedIn list) → r ≡ jobSeen list at
+  opened : r ≡ cond (leb (h .rows) 513 && leb (h .bodies) 257) (tableSeen list (at + 64) h) (malformedIn list) → r ≡ jobSeen list at
   unfolding jobSeen
-  opened q = q ∙ ap (λ (x : Header). cond (leb (x .rows) 512 && leb (x .bodies) 256) (tableSeen list (at + 64) x) (malformedIn list)) e
+  opened q = q ∙ ap (λ (x : Header). cond (leb (x .rows) 513 && leb (x .bodies) 257) (tableSeen list (at + 64) x) (malformedIn list)) e
 
-  pub job-malformed : not (leb (h .rows) 512 && leb (h .bodies) 256) ≡ true → r ≡ malformedIn list → r ≡ jobSeen list at
-  job-malformed t q = opened (q ∙ rw (not-true (leb (h .rows) 512 && leb (h .bodies) 256) t))
+  pub job-malformed : not (leb (h .rows) 513 && leb (h .bodies) 257) ≡ true → r ≡ malformedIn list → r ≡ jobSeen list at
+  job-malformed t q = opened (q ∙ rw (not-true (leb (h .rows) 513 && leb (h .bodies) 257) t))
 
-  pub job-shown : not (leb (h .rows) 512 && leb (h .bodies) 256) ≡ false → r ≡ tableSeen list (at + 64) h → r ≡ jobSeen list at
-  job-shown t q = opened (q ∙ rw (not-false (leb (h .rows) 512 && leb (h .bodies) 256) t))
+  pub job-shown : not (leb (h .rows) 513 && leb (h .bodies) 257) ≡ false → r ≡ tableSeen list (at + 64) h → r ≡ jobSeen list at
+  job-shown t q = opened (q ∙ rw (not-false (leb (h .rows) 513 && leb (h .bodies) 257) t))

@@ -1,4 +1,4 @@
--- A job in its words. oracle/recorded/README.md has the 64 bytes of header, and "a row: its 27 doubles in document 01's order, then its eight u32, each as one word".
+-- A job in its words. oracle/README.md has the 64 bytes of header, and "a row: its 27 doubles in document 01's order, then its eight u32, each as one word".
 use Prim.Native.Nat.{ℕ, _+_, _*_, _/_, _%_}
 use mathlib.Core.List.{List}
 use lib.ListN.{getD}

@@ -15,7 +15,6 @@ use Rattle.position_delivery.specs.Outcome.{Lent, Outcome, outcomeOf}
 use Rattle.position_delivery.specs.declared.answer.PositionPcg.{PositionPcg}
 use Rattle.position_delivery.specs.declared.answer.PositionPcg.the-variants as answers
 use Rattle.position_delivery.specs.declared.answer.PositionPcgResult.{PositionPcgResult}
-use Rattle.work_memory.specs.Lengths.{tableLengths}
 use Rattle.position_solve.specs.Job.{jobFits}
 use Rattle.packed_list.specs.Packed.{groupOf}
 use Rattle.solve_replay.specs.Job.{headerOf, doublesOf, rowNumbers, rowWords}
@@ -71,7 +70,7 @@ toleranceIn h = record { «linear_m» = ofBits binary64 (h .«linear_tolerance»
 unfoldable pub solvedOf : Header → JointTolerance → List Float → List ℕ → List Float → List Float → List Float → Outcome
 solvedOf h tolerance numbers words masses solution impulses =
     outcomeOf (h .rows) (record { numbers = numbers; solution = solution; impulses = impulses })
-    (solve (positionMethod (jobFits (h .rows) (h .bodies) (h .mode) (tableLengths numbers words masses solution impulses)) (tableOf (h .rows) (h .bodies) numbers words masses tolerance) (modeOf (h .mode))) (h .limit))
+    (solve (positionMethod (jobFits (h .rows) (h .bodies) (h .mode) (length numbers) (length words) (length masses) (length solution) (length impulses)) (tableOf (h .rows) (h .bodies) numbers words masses tolerance) (modeOf (h .mode))) (h .limit))
 
 unfoldable pub solvedSeen : List ℕ → ℕ → Header → List ℕ → List Float → List ℕ → List Float → List Float → List Float → Seen
 solvedSeen list at h rows numbers words masses solution impulses = let o = solvedOf h (toleranceIn h) numbers words masses solution impulses in outcomeSeen list at h rows (o .answer) (o .lent)
@@ -92,7 +91,7 @@ abbrev pub malformedIn : List ℕ → Seen
 malformedIn list = record { outcome = 0; same = false; end = length list }
 
 unfoldable pub jobSeen : List ℕ → ℕ → Seen
-jobSeen list at = let h = headerOf list at in cond (leb (h .rows) 512 && leb (h .bodies) 256) (tableSeen list (at + 64) h) (malformedIn list)
+jobSeen list at = let h = headerOf list at in cond (leb (h .rows) 513 && leb (h .bodies) 257) (tableSeen list (at + 64) h) (malformedIn list)
 
 -- ---- the table, as it is read
 pub record TableRead (list : List ℕ) (at n b end : ℕ) (rows : List ℕ) (numbers : List Float) (words : List ℕ) (masses : List Float) : Type 0 where

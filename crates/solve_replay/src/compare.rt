@@ -33,7 +33,7 @@ pub fn same_doubles(numbers: &[f64], words: &[u64]) -> bool
 
 // Is number i of the rows as it was read? An accepted answer writes each row's number 24.
 fn kept_number(accepted: bool, numbers: &[f64], words: &[u64], i: usize) -> bool
-    requires { ⌜ (i < length (now numbers)) × (35 * length (now numbers) ≤ 27 * length (now words)) × (length (now numbers) ≤ 13824) ⌝ }
+    requires { ⌜ (i < length (now numbers)) × (35 * length (now numbers) ≤ 27 * length (now words)) × (length (now numbers) ≤ 13851) ⌝ }
     ensures { λ r. ⌜ r ≡ keptNumber accepted (now (numbers .entry)) (now (words .entry)) i ⌝ }
 {
     if accepted & (i % 27 == 24) {
@@ -43,7 +43,7 @@ fn kept_number(accepted: bool, numbers: &[f64], words: &[u64], i: usize) -> bool
 }
 
 pub fn kept_numbers(accepted: bool, numbers: &[f64], words: &[u64]) -> bool
-    requires { ⌜ (35 * length (now numbers) ≤ 27 * length (now words)) × (length (now numbers) ≤ 13824) ⌝ }
+    requires { ⌜ (35 * length (now numbers) ≤ 27 * length (now words)) × (length (now numbers) ≤ 13851) ⌝ }
     ensures { λ r. ⌜ r ≡ keptNumbers accepted (now (numbers .entry)) (now (words .entry)) ⌝ }
 {
     let mut i = 0;
@@ -58,14 +58,14 @@ pub fn kept_numbers(accepted: bool, numbers: &[f64], words: &[u64]) -> bool
 
 // Of each row, two words: the solution and the new multiplier.
 fn same_answer(solution: &[f64], numbers: &[f64], words: &[u64], i: usize) -> bool
-    requires { ⌜ (i < length (now solution)) × (length (now numbers) ≡ 27 * length (now solution)) × (2 * length (now solution) ≤ length (now words)) × (length (now solution) ≤ 512) ⌝ }
+    requires { ⌜ (i < length (now solution)) × (length (now numbers) ≡ 27 * length (now solution)) × (2 * length (now solution) ≤ length (now words)) × (length (now solution) ≤ 513) ⌝ }
     ensures { λ r. ⌜ r ≡ sameAnswer (now (solution .entry)) (now (numbers .entry)) (now (words .entry)) i ⌝ }
 {
     same_double(solution[i], words[2 * i]) & same_double(numbers[27 * i + 24], words[2 * i + 1])
 }
 
 pub fn same_answers(solution: &[f64], numbers: &[f64], words: &[u64]) -> bool
-    requires { ⌜ (length (now numbers) ≡ 27 * length (now solution)) × (2 * length (now solution) ≤ length (now words)) × (length (now solution) ≤ 512) ⌝ }
+    requires { ⌜ (length (now numbers) ≡ 27 * length (now solution)) × (2 * length (now solution) ≤ length (now words)) × (length (now solution) ≤ 513) ⌝ }
     ensures { λ r. ⌜ r ≡ sameAnswers (now (solution .entry)) (now (numbers .entry)) (now (words .entry)) ⌝ }
 {
     let mut i = 0;

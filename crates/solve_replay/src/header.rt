@@ -3,8 +3,8 @@ ghost use mathlib.Core.Path.{_≡_};
 ghost use Prim.Native.Nat.{_+_, _<_};
 ghost use Rattle.little_endian.specs.Words.{halfAt};
 ghost use Rattle.solve_replay.specs.Job.{headerOf};
-use recorded_list::word;
-use recorded_list::words::half;
+use packed_list::half;
+use packed_list::word;
 
 pub struct Header {
     pub rows: u32,

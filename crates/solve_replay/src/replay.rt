@@ -22,11 +22,11 @@ use crate::table::read_doubles;
 use crate::table::read_numbers;
 use crate::table::read_words;
 use kapitsa_joint::JointTolerance;
+use loops::wide;
 use packed_list::unpack;
 use position_delivery::PositionPcg;
 use position_delivery::PositionPcgResult;
 use position_solve::solve_position;
-use sparse::wide;
 
 // The outcome is 0 where the solve refuses, 1 with flag 0, 2 with flag 1. `end` is where the job ends.
 pub struct Seen {
@@ -89,7 +89,7 @@ fn answers_seen(
     answers: &mut [u64],
     body_words: &mut [u64],
 ) -> Seen
-    requires { ⌜ (at < 3000000000) × (header .rows ≤ 512) × (header .bodies ≤ 256) ⌝ }
+    requires { ⌜ (at < 3000000000) × (header .rows ≤ 513) × (header .bodies ≤ 257) ⌝ }
     requires { ⌜ (length (now rows) ≡ 35 * header .rows) × (length (now numbers) ≡ 27 * header .rows) × (length (now solution) ≡ header .rows) × (length (now impulses) ≡ 6 * header .bodies) ⌝ }
     requires { ⌜ (now answers ≡ replicate (2 * header .rows) 0) × (now «body_words» ≡ replicate (6 * header .bodies) 0) ⌝ }
     ensures { λ r. ⌜ r ≡ acceptedSeen (now (list .entry)) at header (now (rows .entry)) result record { numbers = now (numbers .entry); solution = now (solution .entry); impulses = now (impulses .entry) } ⌝ }
@@ -117,7 +117,7 @@ fn accepted_seen(
     solution: &[f64],
     impulses: &[f64],
 ) -> Seen
-    requires { ⌜ (at < 3000000000) × (header .rows ≤ 512) × (header .bodies ≤ 256) ⌝ }
+    requires { ⌜ (at < 3000000000) × (header .rows ≤ 513) × (header .bodies ≤ 257) ⌝ }
     requires { ⌜ (length (now rows) ≡ 35 * header .rows) × (length (now numbers) ≡ 27 * header .rows) × (length (now solution) ≡ header .rows) × (length (now impulses) ≡ 6 * header .bodies) ⌝ }
     ensures { λ r. ⌜ r ≡ acceptedSeen (now (list .entry)) at header (now (rows .entry)) result record { numbers = now (numbers .entry); solution = now (solution .entry); impulses = now (impulses .entry) } ⌝ }
 {
@@ -149,7 +149,7 @@ fn refused_seen(
     solution: &[f64],
     impulses: &[f64],
 ) -> Seen
-    requires { ⌜ (header .rows ≤ 512) × (header .bodies ≤ 256) ⌝ }
+    requires { ⌜ (header .rows ≤ 513) × (header .bodies ≤ 257) ⌝ }
     requires { ⌜ (length (now rows) ≡ 35 * header .rows) × (length (now numbers) ≡ 27 * header .rows) × (length (now solution) ≡ header .rows) × (length (now impulses) ≡ 6 * header .bodies) ⌝ }
     ensures { λ r. ⌜ r ≡ refusedSeen (now (list .entry)) at header (now (rows .entry)) number record { numbers = now (numbers .entry); solution = now (solution .entry); impulses = now (impulses .entry) } ⌝ }
 {
@@ -175,7 +175,7 @@ fn solved_seen(
     solution: &mut [f64],
     impulses: &mut [f64],
 ) -> Seen
-    requires { ⌜ (at < 3000000000) × (header .rows ≤ 512) × (header .bodies ≤ 256) ⌝ }
+    requires { ⌜ (at < 3000000000) × (header .rows ≤ 513) × (header .bodies ≤ 257) ⌝ }
     requires { ⌜ (length (now rows) ≡ 35 * header .rows) × (length (now numbers) ≡ 27 * header .rows) × (length (now solution) ≡ header .rows) × (length (now impulses) ≡ 6 * header .bodies) ⌝ }
     ensures { λ r. ⌜ r ≡ solvedSeen (now (list .entry)) at header (now (rows .entry)) (now (numbers .entry)) (now (words .entry)) (now (masses .entry)) (now (solution .entry)) (now (impulses .entry)) ⌝ }
 {
@@ -213,7 +213,7 @@ fn read_table(
     words: &mut [u32],
     masses: &mut [f64],
 ) -> usize
-    requires { ⌜ (at < 2000000000) × (header .rows ≤ 512) × (header .bodies ≤ 256) ⌝ }
+    requires { ⌜ (at < 2000000000) × (header .rows ≤ 513) × (header .bodies ≤ 257) ⌝ }
     requires { ⌜ (length (now numbers) ≡ 27 * header .rows) × (length (now words) ≡ 8 * header .rows) × (length (now masses) ≡ 10 * header .bodies) ⌝ }
     requires { ⌜ (now rows ≡ replicate (35 * header .rows) 0) × (now «mass_words» ≡ replicate (10 * header .bodies) 0) ⌝ }
     ensures { λ r. ⌜ TableRead (now (list .entry)) at (header .rows) (header .bodies) r (now (rows .exit)) (now (numbers .exit)) (now (words .exit)) (now (masses .exit)) ⌝ }
@@ -238,7 +238,7 @@ fn table_seen(
     words: &mut [u32],
     masses: &mut [f64],
 ) -> Seen
-    requires { ⌜ (at < 2000000000) × (header .rows ≤ 512) × (header .bodies ≤ 256) ⌝ }
+    requires { ⌜ (at < 2000000000) × (header .rows ≤ 513) × (header .bodies ≤ 257) ⌝ }
     requires { ⌜ (length (now numbers) ≡ 27 * header .rows) × (length (now words) ≡ 8 * header .rows) × (length (now masses) ≡ 10 * header .bodies) ⌝ }
     requires { ⌜ (now rows ≡ replicate (35 * header .rows) 0) × (now «mass_words» ≡ replicate (10 * header .bodies) 0) ⌝ }
     ensures { λ r. ⌜ r ≡ tableSeen (now (list .entry)) at header ⌝ }
@@ -262,7 +262,7 @@ fn table_seen(
 }
 
 fn sized_seen(list: &[u8], at: usize, header: Header) -> Seen
-    requires { ⌜ (at < 2000000000) × (header .rows ≤ 512) × (header .bodies ≤ 256) ⌝ }
+    requires { ⌜ (at < 2000000000) × (header .rows ≤ 513) × (header .bodies ≤ 257) ⌝ }
     ensures { λ r. ⌜ r ≡ tableSeen (now (list .entry)) at header ⌝ }
 {
     let mut rows = row_word_room();
@@ -288,13 +288,13 @@ fn sized_seen(list: &[u8], at: usize, header: Header) -> Seen
     )
 }
 
-// The job at `at`. One that is not whole, or larger than any job may be, differs.
+// The job at `at`. One that is not whole, or larger than any that is recorded, differs.
 pub fn job_seen(list: &[u8], at: usize) -> Seen
     requires { ⌜ at < 1000000000 ⌝ }
     ensures { λ r. ⌜ r ≡ jobSeen (now (list .entry)) at ⌝ }
 {
     let header = read_header(list, at);
-    if !((header.rows <= 512) & (header.bodies <= 256)) {
+    if !((header.rows <= 513) & (header.bodies <= 257)) {
         return malformed(list);
     }
     sized_seen(list, at + 64, header)

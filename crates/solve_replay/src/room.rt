@@ -1,66 +1,66 @@
-// Memory for the largest job. What takes an answer is lent as 0.5 throughout, so that what is written shows.
+// Memory for the largest job that is recorded, one row or body larger than any that may be solved. What takes an answer is lent as 0.5 throughout, so that what is written shows.
 ghost use mathlib.Core.Path.{_≡_};
 ghost use lib.ListN.{length, replicate};
 ghost use Rattle.solve_replay.specs.Seen.{marked};
 
 // 35 words for each row,
-pub fn row_word_room() -> [u64; 17920]
-    ensures { λ r. ⌜ r ≡ replicate 17920 0 ⌝ }
+pub fn row_word_room() -> [u64; 17955]
+    ensures { λ r. ⌜ r ≡ replicate 17955 0 ⌝ }
 {
-    [0; 17920]
+    [0; 17955]
 }
 
 // of them 27 numbers
-pub fn number_room() -> [f64; 13824]
-    ensures { λ r. ⌜ 13824 ≡ length r ⌝ }
+pub fn number_room() -> [f64; 13851]
+    ensures { λ r. ⌜ 13851 ≡ length r ⌝ }
 {
-    [0.0; 13824]
+    [0.0; 13851]
 }
 
 // and eight u32;
-pub fn word_room() -> [u32; 4096]
-    ensures { λ r. ⌜ 4096 ≡ length r ⌝ }
+pub fn word_room() -> [u32; 4104]
+    ensures { λ r. ⌜ 4104 ≡ length r ⌝ }
 {
-    [0; 4096]
+    [0; 4104]
 }
 
 // ten words for each mass,
-pub fn mass_word_room() -> [u64; 2560]
-    ensures { λ r. ⌜ r ≡ replicate 2560 0 ⌝ }
+pub fn mass_word_room() -> [u64; 2570]
+    ensures { λ r. ⌜ r ≡ replicate 2570 0 ⌝ }
 {
-    [0; 2560]
+    [0; 2570]
 }
 
 // all of them numbers;
-pub fn mass_room() -> [f64; 2560]
-    ensures { λ r. ⌜ 2560 ≡ length r ⌝ }
+pub fn mass_room() -> [f64; 2570]
+    ensures { λ r. ⌜ 2570 ≡ length r ⌝ }
 {
-    [0.0; 2560]
+    [0.0; 2570]
 }
 
 // solution and multiplier of each row,
-pub fn answer_room() -> [u64; 1024]
-    ensures { λ r. ⌜ r ≡ replicate 1024 0 ⌝ }
+pub fn answer_room() -> [u64; 1026]
+    ensures { λ r. ⌜ r ≡ replicate 1026 0 ⌝ }
 {
-    [0; 1024]
+    [0; 1026]
 }
 
 // six impulses of each body;
-pub fn body_word_room() -> [u64; 1536]
-    ensures { λ r. ⌜ r ≡ replicate 1536 0 ⌝ }
+pub fn body_word_room() -> [u64; 1542]
+    ensures { λ r. ⌜ r ≡ replicate 1542 0 ⌝ }
 {
-    [0; 1536]
+    [0; 1542]
 }
 
 // what the solve writes them to.
-pub fn solution_room() -> [f64; 512]
-    ensures { λ r. ⌜ r ≡ replicate 512 marked ⌝ }
+pub fn solution_room() -> [f64; 513]
+    ensures { λ r. ⌜ r ≡ replicate 513 marked ⌝ }
 {
-    [0.5; 512]
+    [0.5; 513]
 }
 
-pub fn impulse_room() -> [f64; 1536]
-    ensures { λ r. ⌜ r ≡ replicate 1536 marked ⌝ }
+pub fn impulse_room() -> [f64; 1542]
+    ensures { λ r. ⌜ r ≡ replicate 1542 marked ⌝ }
 {
-    [0.5; 1536]
+    [0.5; 1542]
 }

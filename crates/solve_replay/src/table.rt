@@ -18,7 +18,7 @@ pub fn read_doubles(words: &[u64], out: &mut [f64])
 }
 
 pub fn read_numbers(words: &[u64], rows: usize, out: &mut [f64])
-    requires { ⌜ (length (now words) ≡ 35 * rows) × (length (now out) ≡ 27 * rows) × (rows ≤ 512) ⌝ }
+    requires { ⌜ (length (now words) ≡ 35 * rows) × (length (now out) ≡ 27 * rows) × (rows ≤ 513) ⌝ }
     ensures { λ _. ⌜ now (out .exit) ≡ rowNumbers (now (words .entry)) (length (now (out .entry))) ⌝ }
 {
     let mut i = 0;
@@ -30,7 +30,7 @@ pub fn read_numbers(words: &[u64], rows: usize, out: &mut [f64])
 }
 
 pub fn read_words(words: &[u64], rows: usize, out: &mut [u32])
-    requires { ⌜ (length (now words) ≡ 35 * rows) × (length (now out) ≡ 8 * rows) × (rows ≤ 512) ⌝ }
+    requires { ⌜ (length (now words) ≡ 35 * rows) × (length (now out) ≡ 8 * rows) × (rows ≤ 513) ⌝ }
     ensures { λ _. ⌜ now (out .exit) ≡ rowWords (now (words .entry)) (length (now (out .entry))) ⌝ }
 {
     let mut i = 0;

@@ -1,6 +1,6 @@
 -- A definition that counts through all of 0 .. n - 1, and code that visits only the numbers that a stretch of a list holds, ascending: the turns in between change nothing. Assumes nothing.
 use Prim.Native.Nat.{ℕ, zero, suc, _+_, _<_, _≤_}
-use mathlib.Core.Path.{_≡_, refl, ap, sym, _∙_}
+use mathlib.Core.Path.{_≡_, refl, _∙_}
 use mathlib.Core.List.{List}
 use mathlib.Core.Logic.{_⊎_, inl, inr}
 use native.Mathlib.Decide.{le-ind, decLe}

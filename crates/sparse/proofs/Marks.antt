@@ -1,5 +1,5 @@
 -- The marks of a row, and the ways through the functions that make the factor. Assumes nothing.
-use Prim.Native.Nat.{ℕ, zero, suc, _+_, _-_, _<_, _≤_}
+use Prim.Native.Nat.{ℕ, _+_, _-_, _<_, _≤_}
 use mathlib.Core.Path.{_≡_, refl, ap, sym, _∙_}
 use mathlib.Core.Bool.{Bool, true, false, not, cond}
 use mathlib.Core.List.{List}
@@ -12,12 +12,12 @@ use lib.Seq.{getD-set-same, getD-set-other}
 use lib.Ieee.{Float, nan, binary64, sub, mul, div}
 use lib.Ieee.Scale.{finite}
 use borrow.Author.Tests.{lt-ltb, le-ltb}
-use Rattle.loops.specs.Run.{Run, going, ended, on, check}
+use Rattle.loops.specs.Run.{Run, going, ended, on}
 use Rattle.loops.proofs.Loop.{check-pass, check-fail}
 use Rattle.binary64.specs.Answer.{rootOf}
-use Rattle.sparse.specs.Triangle.{Sparse, put}
-use Rattle.sparse.specs.Cholesky.{less, lessTurn, reducedOf, quotientOf, factored, columnOf, columnTurn, factorsRun, squaresOf, fit, rootValue, Factor, pivotOf, rowTurn, factorRun}
-use Rattle.sparse.specs.Kept.{Rising, Missing, start, Kept, Row, numbers}
+use Rattle.sparse.specs.Triangle.{Sparse}
+use Rattle.sparse.specs.Cholesky.{less, lessTurn, reducedOf, quotientOf, factored, columnOf, columnTurn, factorsRun, squaresOf, fit, rootValue, Factor, pivotOf, rowTurn}
+use Rattle.sparse.specs.Kept.{Rising, start, Row, numbers}
 use Rattle.sparse.specs.Marks.{AtMost, Marked, lessAt}
 use Rattle.sparse.specs.Answers.{columnOut, factorOut}
 use Rattle.sparse.specs.declared.cholesky.Factored.{Factored}
@@ -193,17 +193,17 @@ module _ {f : Run Sparse Sparse} (r : Factored) (L : Sparse) (called : f ≡ col
   turn-out told = called ∙ rw told
 
 -- the ways through `row_at`
-module _ (diagonal pivots : List Float) (i : ℕ) (L L′ : Sparse) (r : Factored) (called : factorsRun pivots i L ≡ columnOut r L′) where
-  pub row-refused : r ≡ Refused → rowTurn diagonal i (L, pivots) ≡ ended (L′, pivots)
+module _ (pivots : List Float) (i : ℕ) (L L′ : Sparse) (r : Factored) (called : factorsRun pivots i L ≡ columnOut r L′) where
+  pub row-refused : r ≡ Refused → rowTurn i (L, pivots) ≡ ended (L′, pivots)
   unfolding rowTurn on
   row-refused told = rw (called, told)
 
-  module _ (x : Float) (t : Bool) (told : r ≡ Done) (ex : x ≡ squaresOf L′ i (getD diagonal i nan)) (et : t ≡ fit x) where
-    pub row-unfit : not t ≡ true → rowTurn diagonal i (L, pivots) ≡ ended (L′, pivots)
+  module _ (x : Float) (t : Bool) (told : r ≡ Done) (ex : x ≡ squaresOf L′ i (getD pivots i nan)) (et : t ≡ fit x) where
+    pub row-unfit : not t ≡ true → rowTurn i (L, pivots) ≡ ended (L′, pivots)
     unfolding rowTurn on pivotOf
     row-unfit h = rw (called, told, ← ex) (check-fail _ _ _ et h refl)
 
-    pub row-on : (y : Float) → not t ≡ false → y ≡ rootValue (rootOf x) → rowTurn diagonal i (L, pivots) ≡ going (L′, set pivots i y)
+    pub row-on : (y : Float) → not t ≡ false → y ≡ rootValue (rootOf x) → rowTurn i (L, pivots) ≡ going (L′, set pivots i y)
     unfolding rowTurn on pivotOf
     row-on y h ey = rw (called, told, ← ex, ← ey) (check-pass _ _ _ et h refl)
 

@@ -1,7 +1,7 @@
 -- Reading and writing one place of the flat slices, as the triangle that they keep sees it. Assumes nothing.
 use Prim.Native.Nat.{ℕ, zero, suc, _+_, _-_, _<_, _≤_}
-use mathlib.Core.Path.{_≡_, refl, ap, sym, _∙_, fun-ext}
-use mathlib.Core.Bool.{Bool, true, false, not, _&&_, cond}
+use mathlib.Core.Path.{_≡_, refl, ap, fun-ext}
+use mathlib.Core.Bool.{Bool, true, false, _&&_, cond}
 use mathlib.Core.List.{List}
 use mathlib.Core.Option.{Option, none, some}
 use native.Mathlib.Decide.{decLe}
@@ -11,7 +11,7 @@ use lib.Dec.{eqb}
 use lib.ListN.{getD, set, length, List·getD-eq-default}
 use lib.Seq.{getD-set-same, getD-set-other}
 use lib.Ieee.{Float, nan}
-use Rattle.sparse.specs.Triangle.{Sparse, put}
+use Rattle.sparse.specs.Triangle.{put}
 use Rattle.sparse.specs.Kept.{Rising, Missing, start, Kept, Row, seek, pick, numbers}
 
 module _ {l : List ℕ} {a b n : ℕ} (r : Rising l a b n) where

@@ -74,10 +74,10 @@ pivotOf pivots i L x = check (fit x) (going (L, set pivots i (rootValue (rootOf 
 
 -- ---- the factor
 
--- row i: its factors, then its pivot
-unfoldable pub rowTurn : List Float → ℕ → Factor → Run Factor Factor
-rowTurn diagonal i s = on (factorsRun (s .1) i (s .0)) (λ L. pivotOf (s .1) i L (squaresOf L i (getD diagonal i nan))) (λ L. ended (L, s .1))
+-- row i: its factors, then its pivot, which takes the place of its diagonal
+unfoldable pub rowTurn : ℕ → Factor → Run Factor Factor
+rowTurn i s = on (factorsRun (s .1) i (s .0)) (λ L. pivotOf (s .1) i L (squaresOf L i (getD (s .1) i nan))) (λ L. ended (L, s .1))
 
--- the factors in the place of the pair values, and the pivots in the place of what stood there
-unfoldable pub factorRun : List Float → Sparse → List Float → Run Factor Factor
-factorRun diagonal pairs pivots = turns (rowTurn diagonal) (pairs, pivots) (length diagonal)
+-- the factors in the place of the pair values, and the pivots in the place of the diagonal
+unfoldable pub factorRun : Sparse → List Float → Run Factor Factor
+factorRun pairs diagonal = turns rowTurn (pairs, diagonal) (length diagonal)

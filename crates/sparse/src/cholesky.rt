@@ -1,7 +1,7 @@
 // Incomplete Cholesky on a pattern: the second half of build_incomplete_cholesky_preconditioner_into of pcg.rs.
 ghost use mathlib.Core.Path.{_≡_};
-ghost use Prim.Native.Nat.{_+_, _-_, _<_, _≤_};
-ghost use lib.ListN.{length, getD, set};
+ghost use Prim.Native.Nat.{_+_, _<_, _≤_};
+ghost use lib.ListN.{length, getD};
 ghost use mathlib.Core.Bool.{true};
 ghost use Rattle.binary64.specs.Answer.{rootOf};
 ghost use Rattle.sparse.specs.Cholesky.{reducedOf, squaresOf, fit, rootValue, columnTurn, factorsRun, rowTurn, factorRun};
@@ -192,10 +192,10 @@ fn squares(value: f64, starts: &[u32], columns: &[u32], values: &[f64], i: usize
     rest
 }
 
+// row `i`: its diagonal stands in `pivots[i]`, and its pivot takes that place
 fn row_at(
     starts: &[u32],
     columns: &[u32],
-    diagonal: &[f64],
     values: &mut [f64],
     pivots: &mut [f64],
     marks: &mut [u32],
@@ -205,17 +205,16 @@ fn row_at(
     requires { ⌜ length (now values) ≡ length (now columns) ⌝ }
     requires { ⌜ length (now starts) ≡ length (now marks) + 1 ⌝ }
     requires { ⌜ length (now pivots) ≡ length (now marks) ⌝ }
-    requires { ⌜ length (now diagonal) ≡ length (now marks) ⌝ }
     requires { ⌜ i < length (now marks) ⌝ }
     requires { ⌜ AtMost (now marks) (start (now starts) i) ⌝ }
-    ensures { λ r. ⌜ rowTurn (now (diagonal .entry)) i (numbers (now (starts .entry)) (now (columns .entry)) (now (values .entry)), now (pivots .entry))
+    ensures { λ r. ⌜ rowTurn i (numbers (now (starts .entry)) (now (columns .entry)) (now (values .entry)), now (pivots .entry))
         ≡ factorOut r (numbers (now (starts .entry)) (now (columns .entry)) (now (values .exit))) (now (pivots .exit)) ⌝ }
     ensures { λ r. ⌜ AtMost (now (marks .exit)) (start (now (starts .entry)) (i + 1)) ⌝ }
 {
     let Factored::Done = factor_row(starts, columns, values, pivots, marks, i) else {
         return Factored::Refused;
     };
-    let rest = squares(diagonal[i], starts, columns, values, i);
+    let rest = squares(pivots[i], starts, columns, values, i);
     if !is_fit(rest) {
         return Factored::Refused;
     }
@@ -224,27 +223,26 @@ fn row_at(
     Factored::Done
 }
 
-// Incomplete Cholesky: `values` has the pair values at entry and the factors at exit, `pivots` the diagonal of the factor.
+// Incomplete Cholesky: `values` has the pair values at entry and the factors at exit, `pivots` the diagonal at entry and that of the factor at exit.
 pub fn factor(
     starts: &[u32],
     columns: &[u32],
-    diagonal: &[f64],
     values: &mut [f64],
     pivots: &mut [f64],
     marks: &mut [u32],
 ) -> Factored
     requires { ⌜ Kept (now starts) (now columns) ⌝ }
     requires { ⌜ length (now values) ≡ length (now columns) ⌝ }
-    requires { ⌜ length (now starts) ≡ length (now diagonal) + 1 ⌝ }
-    requires { ⌜ length (now pivots) ≡ length (now diagonal) ⌝ }
-    requires { ⌜ length (now marks) ≡ length (now diagonal) ⌝ }
+    requires { ⌜ length (now starts) ≡ length (now pivots) + 1 ⌝ }
+    requires { ⌜ length (now marks) ≡ length (now pivots) ⌝ }
     requires { ⌜ AtMost (now marks) 0 ⌝ }
-    ensures { λ r. ⌜ factorRun (now (diagonal .entry)) (numbers (now (starts .entry)) (now (columns .entry)) (now (values .entry))) (now (pivots .entry))
+    ensures { λ r. ⌜ factorRun (numbers (now (starts .entry)) (now (columns .entry)) (now (values .entry))) (now (pivots .entry))
         ≡ factorOut r (numbers (now (starts .entry)) (now (columns .entry)) (now (values .exit))) (now (pivots .exit)) ⌝ }
 {
+    let n = pivots.len();
     let mut i = 0;
-    while i < diagonal.len() {
-        let Factored::Done = row_at(starts, columns, diagonal, values, pivots, marks, i) else {
+    while i < n {
+        let Factored::Done = row_at(starts, columns, values, pivots, marks, i) else {
             return Factored::Refused;
         };
         i += 1;

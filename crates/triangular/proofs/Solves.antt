@@ -13,12 +13,14 @@ use Rattle.sparse.specs.Triangle.{Sparse}
 use Rattle.sparse.specs.Cholesky.{less}
 use Rattle.triangular.specs.Triangular.{transposed, alongTurn, written, forwardTurn, forwardRun, backwardOf, backwardTurn, backwardRun, solveRun}
 use Rattle.sparse.specs.Kept.{Row, numbers}
+use Rattle.triangular.specs.Column.{placeAt, homeAt}
 use Rattle.triangular.specs.Index.{Spread}
 use Rattle.triangular.specs.Answers.{solveOut}
 use Rattle.triangular.specs.declared.substitution.Solved.{Solved}
 use Rattle.triangular.specs.declared.substitution.Solved.the-variants.{Done, Overflow}
 use Rattle.sparse.proofs.Hop.{plain, Skips}
 use Rattle.sparse.proofs.Rows.{numbers-some, numbers-none}
+use Rattle.triangular.proofs.Homes.{homes, home-at}
 use Rattle.triangular.proofs.Down.{down-some, down-none}
 
 module _ {starts columns : List ℕ} {i a b : ℕ} (row : Row starts columns i a b) where
@@ -54,24 +56,24 @@ module _ {f : Run (List Float) (List Float)} (r : Solved) (y : List Float) (call
   solved-out told = called ∙ rw told
 
 -- ---- along a column
-module _ {starts columns heads nexts rows : List ℕ} {count j a b : ℕ} (spread : Spread starts columns heads nexts rows count j a b) where
-  pub down-skip : (values y : List Float) (v : Float) → Skips (plain (alongTurn (transposed (numbers starts columns values) j) y)) rows a b v
+module _ {starts columns order : List ℕ} {n count j a b : ℕ} (spread : Spread starts columns order n count j a b) where
+  pub down-skip : (values y : List Float) (v : Float) → Skips (plain (alongTurn (transposed (numbers starts columns values) j) y)) (homes order n) a b v
   unfolding plain alongTurn transposed less
   down-skip values y v = record { skip = λ k m. rw (down-none spread values k m) }
 
-  pub down-way : (values y : List Float) (q p r : ℕ) (v x : Float) → a ≤ q → q < b → p ≡ getD nexts q 0 → r ≡ getD rows q 0 → x ≡ mul binary64 (getD values p nan) (getD y r nan)
-      → plain (alongTurn (transposed (numbers starts columns values) j) y) (getD rows q 0) v ≡ going (sub binary64 v x)
+  pub down-way : (values y : List Float) (q p r : ℕ) (v x : Float) → a ≤ q → q < b → p ≡ placeAt order n q → r ≡ homeAt order n q → x ≡ mul binary64 (getD values p nan) (getD y r nan)
+      → plain (alongTurn (transposed (numbers starts columns values) j) y) (getD (homes order n) q 0) v ≡ going (sub binary64 v x)
   unfolding plain alongTurn transposed less
-  down-way values y q p r v x l h ep er ex = rw (down-some spread values q l h, ex, ep, er)
+  down-way values y q p r v x l h ep er ex = rw (home-at order n q, down-some spread values q l h, ex, ep, er)
 
 pub backward-way : (L : Sparse) (pivots y : List Float) (i n : ℕ) (v : Float) {o : Run (List Float) (List Float)}
     → v ≡ count (alongTurn (transposed L i) y) (getD y i nan) n → n ≡ length pivots → written y i (div binary64 v (getD pivots i nan)) ≡ o → backwardOf L pivots i y ≡ o
 unfolding backwardOf
 backward-way L pivots y i n v e l h = rw (← l, ← e) h
 
-pub backward-at : (L : Sparse) (pivots y : List Float) (t n : ℕ) {o : Run (List Float) (List Float)} → backwardOf L pivots (length pivots - 1 - t) y ≡ o → backwardTurn L pivots t y ≡ o
+pub backward-at : (L : Sparse) (pivots y : List Float) (t n : ℕ) {o : Run (List Float) (List Float)} → n ≡ length pivots → backwardOf L pivots (n - 1 - t) y ≡ o → backwardTurn L pivots t y ≡ o
 unfolding backwardTurn
-backward-at L pivots y t n h = h
+backward-at L pivots y t n e h = rw (← e) h
 
 -- the ways through `solve`
 module _ (L : Sparse) (pivots residual y y′ : List Float) (r : Solved) (called : forwardRun L pivots residual y ≡ solveOut r y′) where

@@ -1,20 +1,19 @@
 // The triangular solves: apply_velocity_preconditioner of pcg.rs with a factor.
 ghost use mathlib.Core.Path.{_≡_};
-ghost use Prim.Native.Nat.{_+_, _-_, _<_, _≤_};
-ghost use lib.ListN.{length, getD, set};
+ghost use Prim.Native.Nat.{_+_, _*_, _<_, _≤_};
+ghost use lib.ListN.{length, getD};
 ghost use lib.Ieee.{nan, binary64, mul};
 ghost use Rattle.sparse.specs.Count.{count as down};
 ghost use Rattle.sparse.specs.Kept.{Kept, numbers};
-ghost use Rattle.triangular.specs.Column.{Indexed};
+ghost use Rattle.triangular.specs.Column.{placeAt, homeAt, Indexed};
 ghost use Rattle.triangular.specs.Index.{Spread};
 ghost use Rattle.triangular.specs.Triangular.{transposed, alongTurn, forwardTurn, forwardRun, backwardOf, backwardRun, solveRun};
 ghost use Rattle.triangular.specs.Answers.{solveOut};
+use loops::wide;
 use sparse::Stretch;
-use sparse::column;
 use sparse::earlier;
 use sparse::number;
 use sparse::row;
-use sparse::wide;
 
 pub enum Solved {
     Done,
@@ -106,21 +105,20 @@ pub fn forward(
 fn column_stretch(
     starts: &[u32],
     columns: &[u32],
-    heads: &[u32],
-    nexts: &[u32],
-    rows: &[u32],
+    order: &[u32],
+    rows: usize,
     count: u32,
     j: usize,
 ) -> Stretch
-    requires { ⌜ Indexed (now starts) (now columns) (now heads) (now nexts) (now rows) count ⌝ }
-    requires { ⌜ j < length (now heads) ⌝ }
-    ensures { λ r. ⌜ Spread (now (starts .entry)) (now (columns .entry)) (now (heads .entry)) (now (nexts .entry)) (now (rows .entry)) count j (r .first) (r .end) ⌝ }
+    requires { ⌜ Indexed (now starts) (now columns) (now order) rows count ⌝ }
+    requires { ⌜ (j < rows) × (rows ≤ length (now order)) ⌝ }
+    ensures { λ r. ⌜ Spread (now (starts .entry)) (now (columns .entry)) (now (order .entry)) rows count j (r .first) (r .end) ⌝ }
 {
-    let end = heads[j];
+    let end = order[j];
     if j == 0 {
         return Stretch { first: 0, end };
     }
-    let first = heads[j - 1];
+    let first = order[j - 1];
     Stretch { first, end }
 }
 
@@ -128,40 +126,38 @@ fn column_stretch(
 fn place_at(
     starts: &[u32],
     columns: &[u32],
-    heads: &[u32],
-    nexts: &[u32],
-    rows: &[u32],
+    order: &[u32],
+    rows: usize,
     count: u32,
     j: usize,
     first: u32,
     end: u32,
     q: u32,
 ) -> u32
-    requires { ⌜ Spread (now starts) (now columns) (now heads) (now nexts) (now rows) count j first end ⌝ }
-    requires { ⌜ (first ≤ q) × (q < end) × (count ≤ length (now nexts)) ⌝ }
-    ensures { λ r. ⌜ (r ≡ getD (now (nexts .entry)) q 0) × (r < count) ⌝ }
+    requires { ⌜ Spread (now starts) (now columns) (now order) rows count j first end ⌝ }
+    requires { ⌜ (first ≤ q) × (q < end) × (rows + 2 * count ≤ length (now order)) ⌝ }
+    ensures { λ r. ⌜ (r ≡ placeAt (now (order .entry)) rows q) × (r < count) ⌝ }
 {
-    nexts[wide(q)]
+    order[rows + 2 * wide(q)]
 }
 
 // Its row.
 fn home(
     starts: &[u32],
     columns: &[u32],
-    heads: &[u32],
-    nexts: &[u32],
-    rows: &[u32],
+    order: &[u32],
+    rows: usize,
     count: u32,
     j: usize,
     first: u32,
     end: u32,
     q: u32,
 ) -> usize
-    requires { ⌜ Spread (now starts) (now columns) (now heads) (now nexts) (now rows) count j first end ⌝ }
-    requires { ⌜ (first ≤ q) × (q < end) × (count ≤ length (now rows)) ⌝ }
-    ensures { λ r. ⌜ (r ≡ getD (now (rows .entry)) q 0) × (r < length (now (heads .entry))) ⌝ }
+    requires { ⌜ Spread (now starts) (now columns) (now order) rows count j first end ⌝ }
+    requires { ⌜ (first ≤ q) × (q < end) × (rows + 2 * count ≤ length (now order)) ⌝ }
+    ensures { λ r. ⌜ (r ≡ homeAt (now (order .entry)) rows q) × (r < rows) ⌝ }
 {
-    column(rows, q)
+    wide(order[rows + 2 * wide(q) + 1])
 }
 
 // The factor at place `p` times the output of row `r`.
@@ -177,30 +173,28 @@ fn along_column(
     value: f64,
     starts: &[u32],
     columns: &[u32],
-    heads: &[u32],
-    nexts: &[u32],
-    rows: &[u32],
+    order: &[u32],
+    rows: usize,
     count: u32,
     values: &[f64],
     output: &[f64],
     j: usize,
 ) -> f64
-    requires { ⌜ Indexed (now starts) (now columns) (now heads) (now nexts) (now rows) count ⌝ }
-    requires { ⌜ count ≤ length (now nexts) ⌝ }
-    requires { ⌜ count ≤ length (now rows) ⌝ }
+    requires { ⌜ Indexed (now starts) (now columns) (now order) rows count ⌝ }
+    requires { ⌜ rows + 2 * count ≤ length (now order) ⌝ }
     requires { ⌜ count ≤ length (now values) ⌝ }
-    requires { ⌜ length (now heads) ≡ length (now output) ⌝ }
-    requires { ⌜ j < length (now heads) ⌝ }
-    ensures { λ r. ⌜ r ≡ down (alongTurn (transposed (numbers (now (starts .entry)) (now (columns .entry)) (now (values .entry))) j) (now (output .entry))) value (length (now (heads .entry))) ⌝ }
+    requires { ⌜ rows ≡ length (now output) ⌝ }
+    requires { ⌜ j < rows ⌝ }
+    ensures { λ r. ⌜ r ≡ down (alongTurn (transposed (numbers (now (starts .entry)) (now (columns .entry)) (now (values .entry))) j) (now (output .entry))) value rows ⌝ }
 {
-    let column = column_stretch(starts, columns, heads, nexts, rows, count, j);
+    let column = column_stretch(starts, columns, order, rows, count, j);
     let first = column.first;
     let end = column.end;
     let mut rest = value;
     let mut q = first;
     while q < end {
-        let p = place_at(starts, columns, heads, nexts, rows, count, j, first, end, q);
-        let r = home(starts, columns, heads, nexts, rows, count, j, first, end, q);
+        let p = place_at(starts, columns, order, rows, count, j, first, end, q);
+        let r = home(starts, columns, order, rows, count, j, first, end, q);
         rest = rest - term(values, output, p, r);
         q += 1;
     }
@@ -210,22 +204,20 @@ fn along_column(
 fn backward_at(
     starts: &[u32],
     columns: &[u32],
-    heads: &[u32],
-    nexts: &[u32],
-    rows: &[u32],
+    order: &[u32],
+    rows: usize,
     count: u32,
     values: &[f64],
     pivots: &[f64],
     output: &mut [f64],
     i: usize,
 ) -> Solved
-    requires { ⌜ Indexed (now starts) (now columns) (now heads) (now nexts) (now rows) count ⌝ }
-    requires { ⌜ count ≤ length (now nexts) ⌝ }
-    requires { ⌜ count ≤ length (now rows) ⌝ }
+    requires { ⌜ Indexed (now starts) (now columns) (now order) rows count ⌝ }
+    requires { ⌜ rows + 2 * count ≤ length (now order) ⌝ }
     requires { ⌜ count ≤ length (now values) ⌝ }
-    requires { ⌜ length (now heads) ≡ length (now output) ⌝ }
-    requires { ⌜ length (now heads) ≡ length (now pivots) ⌝ }
-    requires { ⌜ i < length (now heads) ⌝ }
+    requires { ⌜ rows ≡ length (now output) ⌝ }
+    requires { ⌜ rows ≡ length (now pivots) ⌝ }
+    requires { ⌜ i < rows ⌝ }
     ensures { λ r. ⌜ backwardOf (numbers (now (starts .entry)) (now (columns .entry)) (now (values .entry))) (now (pivots .entry)) i (now (output .entry))
         ≡ solveOut r (now (output .exit)) ⌝ }
 {
@@ -233,8 +225,7 @@ fn backward_at(
         output[i],
         starts,
         columns,
-        heads,
-        nexts,
+        order,
         rows,
         count,
         values,
@@ -252,32 +243,27 @@ fn backward_at(
 pub fn backward(
     starts: &[u32],
     columns: &[u32],
-    heads: &[u32],
-    nexts: &[u32],
-    rows: &[u32],
+    order: &[u32],
     count: u32,
     values: &[f64],
     pivots: &[f64],
     output: &mut [f64],
 ) -> Solved
-    requires { ⌜ Indexed (now starts) (now columns) (now heads) (now nexts) (now rows) count ⌝ }
-    requires { ⌜ count ≤ length (now nexts) ⌝ }
-    requires { ⌜ count ≤ length (now rows) ⌝ }
+    requires { ⌜ Indexed (now starts) (now columns) (now order) (length (now output)) count ⌝ }
+    requires { ⌜ length (now output) + 2 * count ≤ length (now order) ⌝ }
     requires { ⌜ count ≤ length (now values) ⌝ }
-    requires { ⌜ length (now heads) ≡ length (now output) ⌝ }
-    requires { ⌜ length (now heads) ≡ length (now pivots) ⌝ }
+    requires { ⌜ length (now output) ≡ length (now pivots) ⌝ }
     ensures { λ r. ⌜ backwardRun (numbers (now (starts .entry)) (now (columns .entry)) (now (values .entry))) (now (pivots .entry)) (now (output .entry))
         ≡ solveOut r (now (output .exit)) ⌝ }
 {
-    let n = pivots.len();
+    let rows = output.len();
     let mut t = 0;
-    while t < n {
-        let i = n - 1 - t;
+    while t < rows {
+        let i = rows - 1 - t;
         let Solved::Done = backward_at(
             starts,
             columns,
-            heads,
-            nexts,
+            order,
             rows,
             count,
             values,
@@ -296,38 +282,23 @@ pub fn backward(
 pub fn solve(
     starts: &[u32],
     columns: &[u32],
-    heads: &[u32],
-    nexts: &[u32],
-    rows: &[u32],
+    order: &[u32],
     count: u32,
     values: &[f64],
     pivots: &[f64],
     residual: &[f64],
     output: &mut [f64],
 ) -> Solved
-    requires { ⌜ Indexed (now starts) (now columns) (now heads) (now nexts) (now rows) count ⌝ }
+    requires { ⌜ Indexed (now starts) (now columns) (now order) (length (now output)) count ⌝ }
+    requires { ⌜ length (now order) ≡ length (now output) + 2 * length (now columns) ⌝ }
     requires { ⌜ length (now values) ≡ length (now columns) ⌝ }
-    requires { ⌜ count ≤ length (now nexts) ⌝ }
-    requires { ⌜ count ≤ length (now rows) ⌝ }
-    requires { ⌜ count ≤ length (now values) ⌝ }
-    requires { ⌜ length (now heads) ≡ length (now output) ⌝ }
-    requires { ⌜ length (now heads) ≡ length (now pivots) ⌝ }
-    requires { ⌜ length (now heads) ≡ length (now residual) ⌝ }
+    requires { ⌜ length (now pivots) ≡ length (now output) ⌝ }
+    requires { ⌜ length (now residual) ≡ length (now output) ⌝ }
     ensures { λ r. ⌜ solveRun (numbers (now (starts .entry)) (now (columns .entry)) (now (values .entry))) (now (pivots .entry)) (now (residual .entry)) (now (output .entry))
         ≡ solveOut r (now (output .exit)) ⌝ }
 {
     let Solved::Done = forward(starts, columns, values, pivots, residual, output) else {
         return Solved::Overflow;
     };
-    backward(
-        starts,
-        columns,
-        heads,
-        nexts,
-        rows,
-        count,
-        values,
-        pivots,
-        output,
-    )
+    backward(starts, columns, order, count, values, pivots, output)
 }

@@ -1,42 +1,56 @@
 -- Document 01, "3. The row count, body count or mode is beyond this paper, or a lent slice has not the length the counts call for." Each test is true where the refusal does not apply.
-use Prim.Native.Nat.{ℕ, _+_, _*_}
+use Prim.Native.Nat.{ℕ, _*_}
+use mathlib.Core.Path.{_≡_}
 use mathlib.Core.Bool.{Bool, _&&_}
 use mathlib.Core.List.{List}
-use lib.Dec.{leb, eqb}
+use lib.Dec.{eqb}
 use lib.ListN.{length}
 use lib.Ieee.{Float}
-use Rattle.pairs.specs.Pairs.{pairRoom}
-use Rattle.work_memory.specs.declared.fit.TableLengths.{TableLengths}
-use Rattle.work_memory.specs.declared.fit.VectorLengths.{VectorLengths}
-use Rattle.work_memory.specs.declared.fit.FactorLengths.{FactorLengths}
+use Rattle.joint_refusals.specs.Counts.{countsFit, rowsFit}
+use Rattle.preconditioner.specs.Mode.{modeOf}
+use Rattle.preconditioner.specs.Room.{Roomy, patternRoom, orderRoom, valuesRoom}
+use Rattle.preconditioner.specs.declared.mode.Mode.{Mode}
+use Rattle.work_memory.specs.Work.{StepMemory, TableMemory, WorkMemory}
 
--- "At most 512 rows, 256 bodies"; "a mode: 0 diagonal, 1 incomplete Cholesky, 2 block Jacobi"
-unfoldable pub countsFit : ℕ → ℕ → ℕ → Bool
-countsFit rows bodies mode = (leb rows 512 && leb bodies 256) && leb mode 2
+-- the lengths of rows, masses and what is delivered
+unfoldable pub tableFits : ℕ → ℕ → ℕ → ℕ → ℕ → ℕ → ℕ → Bool
+tableFits n b numbers words masses solution impulses = (rowsFit n b numbers words masses && eqb solution n) && eqb impulses (6 * b)
 
--- rows, masses and what is delivered
-unfoldable pub tableFits : ℕ → ℕ → TableLengths → Bool
-tableFits n b l = (((eqb (l .numbers) (27 * n) && eqb (l .words) (8 * n)) && eqb (l .masses) (10 * b)) && eqb (l .solution) n) && eqb (l .impulses) (6 * b)
+-- of the work memory: the compact table and the vectors,
+unfoldable pub vectorsFit : ℕ → ℕ → ℕ → ℕ → ℕ → ℕ → ℕ → ℕ → ℕ → ℕ → Bool
+vectorsFit n b jacobians links tolerances residual pending direction product bodyImpulses =
+    ((((((eqb jacobians (12 * n) && eqb links (2 * n)) && eqb tolerances n) && eqb residual n) && eqb pending n) && eqb direction n) && eqb product n) && eqb bodyImpulses (6 * b)
 
--- the work memory: vectors
-unfoldable pub vectorsFit : ℕ → ℕ → VectorLengths → Bool
-vectorsFit n b l =
-    (((((((((eqb (l .jacobians) (12 * n) && eqb (l .links) (2 * n)) && eqb (l .owners) n) && eqb (l .diagonal) n) && eqb (l .residual) n) && eqb (l .pending) n) && eqb (l .preconditioned) n) && eqb (l .direction) n) && eqb (l .product) n) && eqb (l .«body_impulses») (6 * b)) && eqb (l .«body_responses») (6 * b)
+-- and the factor's, by mode
+unfoldable pub factorFits : Mode → ℕ → ℕ → ℕ → ℕ → ℕ → Bool
+factorFits mode n diagonal pattern order values = ((eqb diagonal n && eqb pattern (patternRoom mode n)) && eqb order (orderRoom mode n)) && eqb values (valuesRoom mode n)
 
--- and factors, with a place for each pair
-unfoldable pub factorFits : ℕ → ℕ → FactorLengths → Bool
-factorFits n room l =
-    (((((((eqb (l .starts) (n + 1) && eqb (l .columns) room) && eqb (l .values) room) && eqb (l .pivots) n) && eqb (l .marks) n) && eqb (l .heads) n) && eqb (l .nexts) room) && eqb (l .homes) room) && eqb (l .blocks) (36 * n)
+unfoldable pub passes3 : ℕ → ℕ → ℕ → List Float → List ℕ → List Float → List Float → List Float → WorkMemory → Bool
+passes3 n b mode numbers words masses solution impulses w =
+    ((countsFit n b mode && tableFits n b (length numbers) (length words) (length masses) (length solution) (length impulses))
+    && vectorsFit n b (length (w .table .jacobians)) (length (w .table .links)) (length (w .steps .tolerances)) (length (w .table .residual)) (length (w .table .pending)) (length (w .steps .direction)) (length (w .steps .product)) (length (w .table .bodyImpulses)))
+    && factorFits (modeOf mode) n (length (w .steps .factor .diagonal)) (length (w .steps .factor .pattern)) (length (w .steps .factor .order)) (length (w .steps .factor .values))
 
-unfoldable pub passes3 : ℕ → ℕ → ℕ → TableLengths → VectorLengths → FactorLengths → Bool
-passes3 n b mode t v f = ((countsFit n b mode && tableFits n b t) && vectorsFit n b v) && factorFits n (pairRoom n) f
+-- ---- what refusal 3 has passed
+pub record StepRoom (mode : Mode) (n : ℕ) (m : StepMemory) : Type 0 where
+  pub tolerances-long : length (m .tolerances) ≡ n
+  pub direction-long : length (m .direction) ≡ n
+  pub product-long : length (m .product) ≡ n
+  pub factor : Roomy mode n (m .factor)
 
--- ---- the lengths of the lent lists
-abbrev pub tableLengths : List Float → List ℕ → List Float → List Float → List Float → TableLengths
-tableLengths numbers words masses solution impulses = record { numbers = length numbers; words = length words; masses = length masses; solution = length solution; impulses = length impulses }
+pub record TableRoom (n b : ℕ) (m : TableMemory) : Type 0 where
+  pub jacobians-long : length (m .jacobians) ≡ 12 * n
+  pub links-long : length (m .links) ≡ 2 * n
+  pub residual-long : length (m .residual) ≡ n
+  pub pending-long : length (m .pending) ≡ n
+  pub body-impulses-long : length (m .bodyImpulses) ≡ 6 * b
 
-abbrev pub vectorLengths : List Float → List ℕ → List ℕ → List Float → List Float → List Float → List Float → List Float → List Float → List Float → List Float → VectorLengths
-vectorLengths jacobians links owners diagonal residual pending preconditioned direction product bodyImpulses bodyResponses = record { jacobians = length jacobians; links = length links; owners = length owners; diagonal = length diagonal; residual = length residual; pending = length pending; preconditioned = length preconditioned; direction = length direction; product = length product; «body_impulses» = length bodyImpulses; «body_responses» = length bodyResponses }
+pub record WorkRoom (mode : Mode) (n b : ℕ) (w : WorkMemory) : Type 0 where
+  pub steps : StepRoom mode n (w .steps)
+  pub table : TableRoom n b (w .table)
 
-abbrev pub factorLengths : List ℕ → List ℕ → List Float → List Float → List ℕ → List ℕ → List ℕ → List ℕ → List Float → FactorLengths
-factorLengths starts columns values pivots marks heads nexts homes blocks = record { starts = length starts; columns = length columns; values = length values; pivots = length pivots; marks = length marks; heads = length heads; nexts = length nexts; homes = length homes; blocks = length blocks }
+-- rows and masses
+pub record RowsRoom (n b : ℕ) (numbers : List Float) (words : List ℕ) (masses : List Float) : Type 0 where
+  pub numbers-long : length numbers ≡ 27 * n
+  pub words-long : length words ≡ 8 * n
+  pub masses-long : length masses ≡ 10 * b

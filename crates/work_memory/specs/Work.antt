@@ -1,28 +1,18 @@
--- Document 01: "Work memory is +0.0 (integers 0) after each call except one refused by 1, 2 or 3, which writes nothing."
+-- The work memory of a solve, named once. Document 01: "Work memory is +0.0 (integers 0) after each call except one refused by 1, 2 or 3, which writes nothing."
 use Prim.Native.Nat.{ℕ}
 use mathlib.Core.Path.{_≡_}
 use mathlib.Core.Bool.{Bool, true, false}
 use mathlib.Core.List.{List}
 use lib.Ieee.{Float}
 use Rattle.loops.specs.Cleared.{cleared, clearedWords}
+use Rattle.preconditioner.specs.Room.{Memory}
 
--- what the steps alone use, the factor's memory with it
+-- what the count alone uses
 pub record StepMemory : Type 0 where
-  pub owners : List ℕ
-  pub diagonal : List Float
-  pub preconditioned : List Float
+  pub tolerances : List Float
   pub direction : List Float
   pub product : List Float
-  pub bodyResponses : List Float
-  pub starts : List ℕ
-  pub columns : List ℕ
-  pub values : List Float
-  pub pivots : List Float
-  pub marks : List ℕ
-  pub heads : List ℕ
-  pub nexts : List ℕ
-  pub homes : List ℕ
-  pub blocks : List Float
+  pub factor : Memory
 
 -- what the delivery reads as well
 pub record TableMemory : Type 0 where
@@ -36,24 +26,25 @@ pub record WorkMemory : Type 0 where
   pub steps : StepMemory
   pub table : TableMemory
 
--- cleared, as long as they are
+-- ---- read out of the lent slices
+abbrev pub stepMemory : List Float → List Float → List Float → List Float → List ℕ → List ℕ → List Float → StepMemory
+stepMemory tolerances diagonal direction product pattern order values = record { tolerances = tolerances; direction = direction; product = product; factor = record { diagonal = diagonal; pattern = pattern; order = order; values = values } }
+
+abbrev pub tableMemory : List Float → List ℕ → List Float → List Float → List Float → TableMemory
+tableMemory jacobians links residual pending bodyImpulses = record { jacobians = jacobians; links = links; residual = residual; pending = pending; bodyImpulses = bodyImpulses }
+
+-- in the order in which a solve is lent them
+abbrev pub workMemory : List Float → List ℕ → List Float → List Float → List Float → List Float → List Float → List Float → List Float → List ℕ → List ℕ → List Float → WorkMemory
+workMemory jacobians links tolerances diagonal residual pending direction product bodyImpulses pattern order values =
+    record { steps = stepMemory tolerances diagonal direction product pattern order values; table = tableMemory jacobians links residual pending bodyImpulses }
+
+-- ---- cleared, as long as they are
 abbrev pub clearedSteps : StepMemory → StepMemory
 clearedSteps m = record {
-  owners = clearedWords (m .owners);
-  diagonal = cleared (m .diagonal);
-  preconditioned = cleared (m .preconditioned);
+  tolerances = cleared (m .tolerances);
   direction = cleared (m .direction);
   product = cleared (m .product);
-  bodyResponses = cleared (m .bodyResponses);
-  starts = clearedWords (m .starts);
-  columns = clearedWords (m .columns);
-  values = cleared (m .values);
-  pivots = cleared (m .pivots);
-  marks = clearedWords (m .marks);
-  heads = clearedWords (m .heads);
-  nexts = clearedWords (m .nexts);
-  homes = clearedWords (m .homes);
-  blocks = cleared (m .blocks);
+  factor = record { diagonal = cleared (m .factor .diagonal); pattern = clearedWords (m .factor .pattern); order = clearedWords (m .factor .order); values = cleared (m .factor .values) };
 }
 
 abbrev pub clearedTable : TableMemory → TableMemory

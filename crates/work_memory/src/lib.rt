@@ -2,12 +2,8 @@
 pub mod clear; // clear.rt: the slices cleared
 pub mod fit; // fit.rt: refusal 3
 
-pub use clear::clear_factor;
+pub use clear::clear_steps;
 pub use clear::clear_table;
-pub use clear::clear_vectors;
-pub use fit::FactorLengths;
-pub use fit::TableLengths;
-pub use fit::VectorLengths;
-pub use fit::counts_fit;
-pub use fit::lengths_fit;
+pub use fit::factor_fits;
 pub use fit::table_fits;
+pub use fit::vectors_fit;

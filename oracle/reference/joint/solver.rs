@@ -15,7 +15,6 @@ mod pcg {
     include!(env!("ORACLE_PCG"));
 
     pub mod operator;
-    pub mod preconditioner;
 }
 
 pub mod harness;

@@ -96,7 +96,7 @@ fn tiny_residual(random: &mut Random) -> Job {
 }
 
 /// Rows with a replaced diagonal among rows that move.
-fn replaced_diagonals(random: &mut Random) -> Job {
+pub fn replaced_diagonals(random: &mut Random) -> Job {
     let mut job = chain_along_x(1.0, &[0.0, -0.5, 0.0]);
     job.tolerances[0] = random.pick(&[0.001, 0.001, f64::NAN, f64::INFINITY, -1.0]);
     for row in [0, 2] {

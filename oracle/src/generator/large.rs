@@ -3,6 +3,7 @@
 use super::doubles::{Style, double};
 use super::examples::push_x_row;
 use super::mechanism::{Plan, Shape, build, joined};
+use super::overflows::overflowing;
 use crate::job::*;
 use crate::random::Random;
 
@@ -21,13 +22,43 @@ pub fn many_pairs(random: &mut Random) -> Job {
 
 /// A star in mode 1: 181 rows have 16,290 pairs, 182 rows 16,471.
 pub fn star(rows: u32) -> Job {
+    stars(&[rows], 1)
+}
+
+/// Stars of so many rows: 181, 14 and 3 rows have 16,384 pairs. Each other body has one row
+/// or two, along x and y, which share two bodies and are one pair.
+pub fn stars(sizes: &[u32], rows_a_body: u32) -> Job {
     let mut job = Job { limit: 4, mode: INCOMPLETE_CHOLESKY, ..Job::default() };
     job.tolerances = [0.001; 2];
-    job.push_mass(1.0, [0.0; 3]);
-    for row in 0..rows {
+    for &rows in sizes {
+        let hub = job.bodies;
         job.push_mass(1.0, [0.0; 3]);
-        push_x_row(&mut job, 0, row + 1, f64::from(row % 7) * 0.25);
+        for row in 0..rows {
+            let place = row % rows_a_body;
+            if place == 0 {
+                job.push_mass(1.0, [0.0; 3]);
+            }
+            let body = job.bodies - 1;
+            push_x_row(&mut job, hub, body, f64::from(row % 7) * 0.25);
+            turn(&mut job, place as usize);
+        }
     }
+    job
+}
+
+/// The last row along x, y or z in place of x.
+fn turn(job: &mut Job, axis: usize) {
+    let row = job.rows as usize - 1;
+    for (place, size) in [(LINEAR_A, 1.0), (LINEAR_B, -1.0)] {
+        job.set(row, place, &[0.0; 3]);
+        job.set(row, place + axis, &[size]);
+    }
+}
+
+/// The same with a pair value beyond the doubles.
+pub fn stars_overflowing(sizes: &[u32]) -> Job {
+    let mut job = stars(sizes, 1);
+    overflowing(&mut job, 3, 5);
     job
 }
 

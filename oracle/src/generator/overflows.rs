@@ -32,6 +32,17 @@ pub fn pair_overflow(random: &mut Random) -> Job {
     job
 }
 
+/// Body 0 makes a value beyond the doubles of two rows whose body_a it is, the first before
+/// the second, while all diagonals are finite. Other rows turn about z alone.
+pub fn overflowing(job: &mut Job, first: usize, second: usize) {
+    job.masses[1..7].copy_from_slice(&[0.0, 1e200, 0.0, 0.0, 0.0, 0.0]);
+    for row in 0..job.rows as usize {
+        job.set(row, ANGULAR_A, &[0.0; 2]);
+    }
+    job.set(first, ANGULAR_A, &[0.0, 1e110, 0.0]);
+    job.set(second, ANGULAR_A, &[1.0, 0.0, 0.0]);
+}
+
 /// A small pivot under a large coupling: the factor is beyond the doubles.
 pub fn factor_overflow(random: &mut Random) -> Job {
     let tiny = two(-random.between(700, 1020));

@@ -1,7 +1,6 @@
 //! Calls solve_position_pcg_prepared on document 01's tables of numbers.
 
 pub use super::pcg::operator::Operator;
-pub use super::pcg::preconditioner::{Preconditioners, Triangle};
 
 use super::pcg::{solve_position_pcg_prepared, solve_velocity_pcg_prepared};
 use super::{

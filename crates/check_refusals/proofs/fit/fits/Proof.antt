@@ -9,7 +9,8 @@ unfolding passes3
 fits-spec =
     tie.close
     (tie.spec
-    (λ c κs. search needs)  -- counts-fit-requires
-    (λ c κs. search needs)  -- table-fits-requires
+    (λ c κs. search needs)  -- given-fits-requires
+    (λ c κs. search needs)  -- wide-requires
+    (λ c κs. search needs)  -- wide-requires-2
     (λ c κs. search needs)  -- work-fits-requires
-    (λ c. rw ((c .before .before .counts-fit) .ensures, (c .before .table-fits) .ensures, (c .work-fits) .ensures)))  -- returns
+    (λ c. rw ((c .before .before .before .given-fits) .ensures, (c .work-fits) .ensures, (c .before .before .wide) .ensures, (c .before .wide2) .ensures)))  -- returns

@@ -14,5 +14,4 @@ work-fits-spec =
     (λ c. search needs)  -- mul-result-2
     (λ c. search needs)  -- mul-result-3
     (λ c. search needs)  -- mul-result-4
-    (λ c. search needs)  -- mul-result-5
     (λ c. refl))  -- returns

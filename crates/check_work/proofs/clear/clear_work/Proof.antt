@@ -14,13 +14,11 @@ clear-work-spec =
     (λ c κs. search needs)  -- clear-requires-4
     (λ c κs. search needs)  -- clear-requires-5
     (λ c κs. search needs)  -- clear-requires-6
-    (λ c κs. search needs)  -- clear-requires-7
-    (λ c. (c .before .before .before .before .before .before .before .before .before .before .before .before .before .before .before .before .before .before .before .before .before .before .before .before .before .before .before .before .before .jacobians) .given)  -- same-length
-    (λ c. (c .before .before .before .before .before .before .before .before .before .before .before .before .before .before .before .before .before .before .before .before .before .before .before .before .before .links) .given)  -- same-length-2
-    (λ c. (c .before .before .before .before .before .before .before .before .before .before .before .before .before .before .before .before .before .before .before .before .before .mass-sizes) .given)  -- same-length-3
-    (λ c. (c .before .before .before .before .before .before .before .before .before .before .before .before .before .before .before .before .before .multiplier-sizes) .given)  -- same-length-4
-    (λ c. (c .before .before .before .before .before .before .before .before .before .before .before .before .before .impulses) .given)  -- same-length-5
-    (λ c. (c .before .before .before .before .before .before .before .before .before .responses) .given)  -- same-length-6
-    (λ c. (c .before .before .before .before .before .values) .given)  -- same-length-7
-    (λ c. (c .before .sizes) .given)  -- same-length-8
-    (λ c. record { jacobians = (c .before .before .before .before .before .before .before .before .before .before .before .before .before .before .before .before .before .before .before .before .before .before .before .before .before .before .before .before .before .before .clear) .ensures; links = (c .before .before .before .before .before .before .before .before .before .before .before .before .before .before .before .before .before .before .before .before .before .before .before .before .before .before .clear-words) .ensures; massSizes = (c .before .before .before .before .before .before .before .before .before .before .before .before .before .before .before .before .before .before .before .before .before .before .clear2) .ensures; multiplierSizes = (c .before .before .before .before .before .before .before .before .before .before .before .before .before .before .before .before .before .before .clear3) .ensures; impulses = (c .before .before .before .before .before .before .before .before .before .before .before .before .before .before .clear4) .ensures; responses = (c .before .before .before .before .before .before .before .before .before .before .clear5) .ensures; values = (c .before .before .before .before .before .before .clear6) .ensures; sizes = (c .before .before .clear7) .ensures }))  -- returns
+    (λ c. (c .before .before .before .before .before .before .before .before .before .before .before .before .before .before .before .before .before .before .before .before .before .before .before .before .before .jacobians) .given)  -- same-length
+    (λ c. (c .before .before .before .before .before .before .before .before .before .before .before .before .before .before .before .before .before .before .before .before .before .links) .given)  -- same-length-2
+    (λ c. (c .before .before .before .before .before .before .before .before .before .before .before .before .before .before .before .before .before .mass-sizes) .given)  -- same-length-3
+    (λ c. (c .before .before .before .before .before .before .before .before .before .before .before .before .before .multiplier-sizes) .given)  -- same-length-4
+    (λ c. (c .before .before .before .before .before .before .before .before .before .impulses) .given)  -- same-length-5
+    (λ c. (c .before .before .before .before .before .values) .given)  -- same-length-6
+    (λ c. (c .before .sizes) .given)  -- same-length-7
+    (λ c. rw ((c .before .before .before .before .before .before .before .before .before .before .before .before .before .before .before .before .before .before .before .before .before .before .before .before .before .before .clear) .ensures, (c .before .before .before .before .before .before .before .before .before .before .before .before .before .before .before .before .before .before .before .before .before .before .clear-words) .ensures, (c .before .before .before .before .before .before .before .before .before .before .before .before .before .before .before .before .before .before .clear2) .ensures, (c .before .before .before .before .before .before .before .before .before .before .before .before .before .before .clear3) .ensures, (c .before .before .before .before .before .before .before .before .before .before .clear4) .ensures, (c .before .before .before .before .before .before .clear5) .ensures, (c .before .before .clear6) .ensures)))  -- returns

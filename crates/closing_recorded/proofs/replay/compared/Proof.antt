@@ -9,5 +9,6 @@ unfolding comparedOf
 compared-spec =
     tie.close
     (tie.spec
-    (λ c. search needs)  -- cast-same
-    (λ c. search needs))  -- returns
+    (λ c κs. search needs)  -- number-requires
+    (λ c. search needs)  -- cast-result
+    (λ c. rw (c .number .ensures)))  -- returns

@@ -11,20 +11,15 @@ pub build-incomplete-cholesky-preconditioner-spec : {M : Type 1} → statement M
 build-incomplete-cholesky-preconditioner-spec =
     tie.close
     (tie.spec
-    (λ c κs. ((omega (arith, (c .before .before .before .before .before .before .before .before .before .before .before .before .before .before .before) .pre), omega (arith, (c .before .before .before .before .before .before .before .before .before .before .before .before .before .before .before) .pre), omega (arith, (c .before .before .before .before .before .before .before .before .before .before .before .before .before .before .before) .pre)), ((c .before .before .before .before .before .before .before .before .before .before .before .before .before .before .before) .pre .1 .0, (omega (arith, (c .before .before .before .before .before .before .before .before .before .before .before .before .before .before .before) .pre), (c .before .before .before .before .before .before .before .before .before .before .before .before .before .before .before) .pre .1 .1 .1 .0, omega (arith, (c .before .before .before .before .before .before .before .before .before .before .before .before .before .before .before) .pre), omega (arith, (c .before .before .before .before .before .before .before .before .before .before .before .before .before .before .before) .pre)))))  -- pairs-requires
+    (λ c κs. search known)  -- pairs-requires
     (λ c. search known)  -- enum-known-count
-    (λ c κs. (paired-kept _ ((c .before .before .before .before .before .before .before .before .before .before .before .before .before .before .before .before .before .before .before .before .before .before .before .before .before .before .before .before .before .before .before .before .before) .args .diagonal .now) _ _ _ _ _ ((c .before .before .before .before .before .before .before .before .before .before .before .before .before .before .before .before .before .pairs) .ensures) _ ((c .before .before .before .before .before .before .before .before .before .count) .given .1), ((omega (arith, (c .before .before .before .before .before .before .before .before .before .before .before .before .before .before .before .before .before .before .before .before .before .before .before .before .before .before .before .before .before .before .before .before .before) .pre), omega (arith, (c .before .before .before .before .before .before .before .before .before .before .before .before .before .before .before .before .before .before .before .before .before .before .before .before .before .before .before .before .before .before .before .before .before) .pre), omega (arith, (c .before .before .before .before .before .before .before .before .before .before .before .before .before .before .before .before .before .before .before .before .before .before .before .before .before .before .before .before .before .before .before .before .before) .pre), omega (arith, (c .before .before .before .before .before .before .before .before .before .before .before .before .before .before .before .before .before .before .before .before .before .before .before .before .before .before .before .before .before .before .before .before .before) .pre), omega (arith, (c .before .before .before .before .before .before .before .before .before .before .before .before .before .before .before .before .before .before .before .before .before .before .before .before .before .before .before .before .before .before .before .before .before) .pre)), (omega (arith, (c .before .before .before .before .before .before .before .before .before .before .before .before .before .before .before .before .before .before .before .before .before .before .before .before .before .before .before .before .before .before .before .before .before) .pre), omega (arith, (c .before .before .before .before .before .before .before .before .before .before .before .before .before .before .before .before .before .before .before .before .before .before .before .before .before .before .before .before .before .before .before .before .before) .pre), omega (arith, (c .before .before .before .before .before .before .before .before .before .before .before .before .before .before .before .before .before .before .before .before .before .before .before .before .before .before .before .before .before .before .before .before .before) .pre)))))  -- finish-requires
+    (λ c κs. (search known, (omega arith, omega arith, omega arith)))  -- finish-requires
     (λ c. search known)  -- enum-known-number
     (λ c. search known)  -- same-length
     (λ c. search known)  -- same-length-2
     (λ c. search known)  -- same-length-3
     (λ c. search known)  -- same-length-4
+    (λ c. search known)  -- returns
     (λ c. search known)  -- same-length-5
     (λ c. search known)  -- same-length-6
-    (λ c. search known)  -- same-length-7
-    (λ c. search known)  -- same-length-8
-    (λ c. build-finished _ _ _ _ _ _ _ ((c .before .before .before .before .before .before .before .before .before .before .before .before .before .before .before .before .before .before .before .before .before .before .before .before .before .before .before .before .before .before .pairs) .ensures) _ _ _ _ _ _ _ (omega (arith, (c .before .before .before .before .before .before .before .before .before .before .before .before .before .before .before .before .before .before .before .before .before .before .before .before .before .before .before .before .before .before .before .before .before .before .before .before .before .before .before .before .before .before .before .before .before .before) .pre)) ((c .before .before .before .before .before .before .before .before .before .before .before .before .before .before .before .before .before .before .before .before .before .before .count) .given .1) ((c .before .before .before .before .before .before .before .before .before .before .before .before .finish) .ensures))  -- returns
-    (λ c. search known)  -- same-length-9
-    (λ c. search known)  -- same-length-10
-    (λ c. search known)  -- same-length-11
-    (λ c. build-refused _ _ _ _ _ _ _ ((c .before .before .before .before .before .before .before .before .before .pairs) .ensures) _ _ _ ((c .before .number) .given .1)))  -- returns-2
+    (λ c. search known))  -- returns-2

@@ -12,7 +12,7 @@ pub write-job-spec : {M : Type 1} → statement M
 write-job-spec =
     tie.close
     (tie.spec
-    (λ c κs. search needs)  -- solve-position-requires
+    (λ c κs. ((c .before .before .before .before .before .before .before .before .before) .pre .0 .few-rows, (c .before .before .before .before .before .before .before .before .before) .pre .0 .few-bodies))  -- solve-small-position-requires
     (λ c. search needs)  -- enum-known-answer
     (λ c κs. refused-room _ _ (search needs) (omega (arith, (c .before .before .before .before .before .before .before .before .before .before .before .before .before .before .before .before .before .before .before .before) .pre .1)))  -- write-refusal-requires
     (λ c. search needs)  -- enum-known-answer-2
@@ -21,9 +21,9 @@ write-job-spec =
     (λ c. (c .before .before .before .before .before .before .before .before .before .before .solution) .given)  -- same-length-2
     (λ c. (c .before .before .before .before .before .before .before .before .impulses) .given)  -- same-length-3
     (λ c. (c .before .out) .given)  -- same-length-4
-    (λ c. wrote-as (job-refused ((c .before .before .before .before .before .before .before .before .before .before .before .before .before .before .before .before .before .before .before .before .before .before .before) .args .trailer) ((c .before .before .before .before .before .before .before .before .before .before .before .before .before .before .before .before .before .before .before .before .before .before .before) .args .numbers .now) ((c .before .before .before .before .before .before .before .before .before .before .before .before .before .before .before .before .before .before .before .before .before .before .before) .args .words .now) ((c .before .before .before .before .before .before .before .before .before .before .before .before .before .before .before .before .before .before .before .before .before .before .before) .args .masses .now) ((c .before .before .before .before .before .before .before .before .before .before .before .before .before .before .before .before .before .before .before .before .before .before .before) .args .solution .now) ((c .before .before .before .before .before .before .before .before .before .before .before .before .before .before .before .before .before .before .before .before .before .before .before) .args .impulses .now) (solve-fits ((c .before .before .before .before .before .before .before .before .before .before .before .before .before .before .before .before .before .before .before .before .before .before .before) .pre .0)) ((c .before .before .before .before .before .before .before .before .before .before .before .before .before .solve-position) .ensures) ((c .before .before .before .before .before .answer) .given .1)) ((c .before .before .write-refusal) .ensures))  -- returns
+    (λ c. wrote-as (job-refused ((c .before .before .before .before .before .before .before .before .before .before .before .before .before .before .before .before .before .before .before .before .before .before .before) .args .trailer) ((c .before .before .before .before .before .before .before .before .before .before .before .before .before .before .before .before .before .before .before .before .before .before .before) .args .numbers .now) ((c .before .before .before .before .before .before .before .before .before .before .before .before .before .before .before .before .before .before .before .before .before .before .before) .args .words .now) ((c .before .before .before .before .before .before .before .before .before .before .before .before .before .before .before .before .before .before .before .before .before .before .before) .args .masses .now) ((c .before .before .before .before .before .before .before .before .before .before .before .before .before .before .before .before .before .before .before .before .before .before .before) .args .solution .now) ((c .before .before .before .before .before .before .before .before .before .before .before .before .before .before .before .before .before .before .before .before .before .before .before) .args .impulses .now) (solve-fits ((c .before .before .before .before .before .before .before .before .before .before .before .before .before .before .before .before .before .before .before .before .before .before .before) .pre .0)) ((c .before .before .before .before .before .before .before .before .before .before .before .before .before .solve-small-position) .ensures) ((c .before .before .before .before .before .answer) .given .1)) ((c .before .before .write-refusal) .ensures))  -- returns
     (λ c. (c .before .before .before .before .before .before .before .before .before .before .before .before .before .before .before .numbers) .given)  -- same-length-5
     (λ c. (c .before .before .before .before .before .before .before .before .before .before .before .before .before .solution) .given)  -- same-length-6
     (λ c. (c .before .before .before .before .before .before .before .before .before .before .before .impulses) .given)  -- same-length-7
     (λ c. (c .before .out2) .given)  -- same-length-8
-    (λ c. wrote-as (job-accepted ((c .before .before .before .before .before .before .before .before .before .before .before .before .before .before .before .before .before .before .before .before .before .before .before .before .before .before) .args .trailer) ((c .before .before .before .before .before .before .before .before .before .before .before .before .before .before .before .before .before .before .before .before .before .before .before .before .before .before) .args .numbers .now) ((c .before .before .before .before .before .before .before .before .before .before .before .before .before .before .before .before .before .before .before .before .before .before .before .before .before .before) .args .words .now) ((c .before .before .before .before .before .before .before .before .before .before .before .before .before .before .before .before .before .before .before .before .before .before .before .before .before .before) .args .masses .now) ((c .before .before .before .before .before .before .before .before .before .before .before .before .before .before .before .before .before .before .before .before .before .before .before .before .before .before) .args .solution .now) ((c .before .before .before .before .before .before .before .before .before .before .before .before .before .before .before .before .before .before .before .before .before .before .before .before .before .before) .args .impulses .now) (solve-fits ((c .before .before .before .before .before .before .before .before .before .before .before .before .before .before .before .before .before .before .before .before .before .before .before .before .before .before) .pre .0)) ((c .before .before .before .before .before .before .before .before .before .before .before .before .before .before .before .before .solve-position) .ensures) _ ((c .before .before .before .before .before .before .before .before .answer2) .given .1)) ((c .before .before .write-accepted) .ensures)))  -- returns-2
+    (λ c. wrote-as (job-accepted ((c .before .before .before .before .before .before .before .before .before .before .before .before .before .before .before .before .before .before .before .before .before .before .before .before .before .before) .args .trailer) ((c .before .before .before .before .before .before .before .before .before .before .before .before .before .before .before .before .before .before .before .before .before .before .before .before .before .before) .args .numbers .now) ((c .before .before .before .before .before .before .before .before .before .before .before .before .before .before .before .before .before .before .before .before .before .before .before .before .before .before) .args .words .now) ((c .before .before .before .before .before .before .before .before .before .before .before .before .before .before .before .before .before .before .before .before .before .before .before .before .before .before) .args .masses .now) ((c .before .before .before .before .before .before .before .before .before .before .before .before .before .before .before .before .before .before .before .before .before .before .before .before .before .before) .args .solution .now) ((c .before .before .before .before .before .before .before .before .before .before .before .before .before .before .before .before .before .before .before .before .before .before .before .before .before .before) .args .impulses .now) (solve-fits ((c .before .before .before .before .before .before .before .before .before .before .before .before .before .before .before .before .before .before .before .before .before .before .before .before .before .before) .pre .0)) ((c .before .before .before .before .before .before .before .before .before .before .before .before .before .before .before .before .solve-small-position) .ensures) _ ((c .before .before .before .before .before .before .before .before .answer2) .given .1)) ((c .before .before .write-accepted) .ensures)))  -- returns-2

@@ -12,4 +12,4 @@ respond-at-spec =
     (λ c κs. search needs)  -- response-requires
     (λ c κs. search needs)  -- put-impulse-requires
     (λ c. search needs)  -- same-length
-    (λ c. rw (c .before .before .put-impulse .ensures, c .before .before .before .response .ensures, c .before .before .before .before .before .mass-at .ensures, c .before .before .before .before .impulse-at .ensures)))  -- returns
+    (λ c. rw (c .before .before .put-impulse .ensures, c .before .before .before .before .response .ensures, c .before .before .before .before .before .before .before .mass-at .ensures, c .before .before .before .before .before .impulse-at .ensures)))  -- returns

@@ -3,16 +3,16 @@ use Prim.Native.Nat.{_-_}
 use native.Mathlib.Omega.{arith}
 use lib.ListN.{length}
 use borrow.Author.Needs.{needs}
-use Rattle.kapitsa_joint.specs.Table.{tableOf}
+use Rattle.kapitsa_joint.specs.Table.{tableWith, tolerancesIn}
 use Rattle.position.proofs.Started.{Started, started-done, started-more, started-none, started-refused}
 use Rattle.position.proofs.prepare.begin.Statement.{statement}
 use Rattle.position.proofs.prepare.begin.Tie as tie
 
 abbrev Inv-loop : tie.InvT-loop
-Inv-loop numbers words masses bodies tolerance diagonal₀ residual₀ rows i₀ diagonal residual i = Started (tableOf (length diagonal₀) bodies numbers words masses tolerance) i diagonal residual
+Inv-loop numbers words masses bodies tolerances diagonal₀ residual₀ rows i₀ diagonal residual i = Started (tableWith (length diagonal₀) bodies numbers words masses (tolerancesIn tolerances)) i diagonal residual
 
 abbrev μ-loop : tie.MeasureT-loop
-μ-loop numbers words masses bodies tolerance diagonal₀ residual₀ rows i₀ diagonal residual i = rows - i
+μ-loop numbers words masses bodies tolerances diagonal₀ residual₀ rows i₀ diagonal residual i = rows - i
 
 ruleset known = (started-none, started-refused, started-done, needs)
 

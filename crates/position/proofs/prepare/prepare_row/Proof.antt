@@ -15,7 +15,7 @@ prepare-row-spec =
     (λ c. search known)  -- returns
     (λ c κs. search known)  -- row-at-requires
     (λ c κs. search known)  -- row-diagonal-requires
-    (λ c κs. search known)  -- dimension-requires
-    (λ c κs. search known)  -- of-requires
+    (λ c. search known)  -- mul-judge-diagonal
+    (λ c. search known)  -- shared-slice-read-judge-diagonal
     (λ c κs. search known)  -- judge-diagonal-requires
     (λ c. search known))  -- returns-2

@@ -1,19 +1,19 @@
 -- `position::residual::position_vector_converged` meets its contract: the rows below i meet their tolerance. Assumes nothing.
-use Prim.Native.Nat.{_*_, _+_, _-_}
+use Prim.Native.Nat.{_-_}
 use lib.ListN.{getD, length}
 use lib.Ieee.{le, nan}
 use Rattle.loops.proofs.Every.{Holds, called}
 use Rattle.binary64.specs.Order.{absolute}
-use Rattle.kapitsa_joint.specs.Tolerance.{dimensionOf, toleranceOf}
+use Rattle.kapitsa_joint.specs.Table.{tolerancesIn}
 use Rattle.position.specs.Residual.{meetsOf}
 use Rattle.position.proofs.residual.position_vector_converged.Statement.{statement}
 use Rattle.position.proofs.residual.position_vector_converged.Tie as tie
 
 abbrev Inv-loop : tie.InvT-loop
-Inv-loop words residual tolerance i₀ i = Holds (λ k. le (absolute (getD residual k nan)) (toleranceOf tolerance (dimensionOf (getD words (8 * k + 1) 0)))) (length residual) i
+Inv-loop tolerances residual i₀ i = Holds (λ k. le (absolute (getD residual k nan)) (tolerancesIn tolerances k)) (length residual) i
 
 abbrev μ-loop : tie.MeasureT-loop
-μ-loop words residual tolerance i₀ i = length residual - i
+μ-loop tolerances residual i₀ i = length residual - i
 
 pub position-vector-converged-spec : {M : Type 1} → statement M
 unfolding meetsOf

@@ -13,10 +13,6 @@ row-converged-spec =
     (λ c. search known)  -- mul-abs
     (λ c. search known)  -- shared-slice-read-abs
     (λ c κs. search known)  -- abs-requires
-    (λ c. search known)  -- mul-dimension
-    (λ c. search known)  -- add-dimension
-    (λ c. search known)  -- mul-dimension-2
-    (λ c. search known)  -- shared-slice-read-dimension
-    (λ c κs. search known)  -- dimension-requires
-    (λ c κs. search known)  -- of-requires
+    (λ c. search known)  -- mul-result
+    (λ c. search known)  -- shared-slice-read-result
     (λ c. search known))  -- returns

@@ -1,5 +1,5 @@
 -- `position_solve::fit::job_fits` meets its contract. Assumes nothing.
-use Rattle.loops.proofs.Loop.{loops}
+use borrow.Author.Needs.{needs}
 use Rattle.position_solve.specs.Job.{jobFits}
 use Rattle.position_solve.proofs.fit.job_fits.Statement.{statement}
 use Rattle.position_solve.proofs.fit.job_fits.Tie as tie
@@ -9,8 +9,6 @@ unfolding jobFits
 job-fits-spec =
     tie.close
     (tie.spec
-    (λ c κs. record {})  -- counts-fit-requires
-    (λ c κs. record {})  -- wide-requires
-    (λ c κs. record {})  -- wide-requires-2
-    (λ c κs. search loops)  -- table-fits-requires
-    (λ c. rw ((c .before .before .before .counts-fit) .ensures, (c .table-fits) .ensures, (c .before .before .wide) .ensures, (c .before .wide2) .ensures)))  -- returns
+    (λ c κs. search needs)  -- counts-fit-requires
+    (λ c κs. search needs)  -- table-fits-requires
+    (λ c. rw ((c .before .counts-fit) .ensures, (c .table-fits) .ensures)))  -- returns

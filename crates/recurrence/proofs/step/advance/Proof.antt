@@ -1,33 +1,31 @@
 -- `recurrence::step::advance` meets its contract. Assumes nothing.
-use native.Mathlib.Omega.{arith}
-use borrow.Author.Needs.{needs}
+use Rattle.loops.proofs.Loop.{loops}
 use Rattle.recurrence.proofs.Turns.{advance-bad, advance-on, advance-refused}
 use Rattle.recurrence.proofs.step.advance.Statement.{statement}
 use Rattle.recurrence.proofs.step.advance.Tie as tie
+
+ruleset known = (loops)
 
 pub advance-spec : {M : Type 1} → statement M
 advance-spec =
     tie.close
     (tie.spec
-    (λ c κs. ((omega (arith, (c .before .before .before .before .before .before .before .before .before .before .before .before) .pre), omega (arith, (c .before .before .before .before .before .before .before .before .before .before .before .before) .pre)), ((omega (arith, (c .before .before .before .before .before .before .before .before .before .before .before .before) .pre), omega (arith, (c .before .before .before .before .before .before .before .before .before .before .before .before) .pre), omega (arith, (c .before .before .before .before .before .before .before .before .before .before .before .before) .pre), omega (arith, (c .before .before .before .before .before .before .before .before .before .before .before .before) .pre)), (c .before .before .before .before .before .before .before .before .before .before .before .before) .pre .1 .1)))  -- global-velocity-matrix-vector-requires
-    (λ c. search needs)  -- enum-told
-    (λ c. search needs)  -- enum-told-2
-    (λ c. search needs)  -- same-length
-    (λ c. search needs)  -- same-length-2
-    (λ c. search needs)  -- same-length-3
-    (λ c. advance-bad _ _ _ _ _ _ _ _ _ ((c .before .before .before .before .before .before .before .before .global-velocity-matrix-vector) .ensures) ((c .enum-told2) .given .1))  -- returns
-    (λ c κs. search needs)  -- dot-product-requires
-    (λ c κs. search needs)  -- alpha-requires
-    (λ c. search needs)  -- enum-known-scale
-    (λ c κs. (omega (arith, (c .before .before .before .before .before .before .before .before .before .before .before .before .before .before .before .before .before .before .before .before .before .before .before .before .before .before .before .before .before .before) .pre), omega (arith, (c .before .before .before .before .before .before .before .before .before .before .before .before .before .before .before .before .before .before .before .before .before .before .before .before .before .before .before .before .before .before) .pre, (c .before .before .before .before .before .before .before .before .before .before .before .before .product) .given)))  -- update-requires
-    (λ c. search needs)  -- enum-known-number
-    (λ c. search needs)  -- same-length-4
-    (λ c. search needs)  -- same-length-5
-    (λ c. search needs)  -- same-length-6
-    (λ c. search needs)  -- same-length-7
-    (λ c. search needs)  -- same-length-8
-    (λ c. advance-on _ _ _ _ _ _ _ _ _ ((c .before .before .before .before .before .before .before .before .before .before .before .before .before .before .before .before .before .before .before .before .before .before .global-velocity-matrix-vector) .ensures) _ _ ((c .before .before .before .before .before .before .before .before .before .before .before .before .before .before .enum-told) .given .1) ((c .before .before .before .before .before .before .before .before .before .before .before .before .dot-product) .ensures) ((c .before .before .before .before .before .before .before .before .before .before .before .alpha) .ensures) _ ((c .before .before .before .before .before .before .before .before .before .scale) .given .1) ((c .before .before .before .before .update) .ensures))  -- returns-2
-    (λ c. search needs)  -- same-length-9
-    (λ c. search needs)  -- same-length-10
-    (λ c. search needs)  -- same-length-11
-    (λ c. advance-refused _ _ _ _ _ _ _ _ _ ((c .before .before .before .before .before .before .before .before .before .before .before .before .before .before .global-velocity-matrix-vector) .ensures) _ _ ((c .before .before .before .before .before .before .enum-told) .given .1) ((c .before .before .before .before .dot-product) .ensures) ((c .before .before .before .alpha) .ensures) _ ((c .before .number) .given .1)))  -- returns-3
+    (λ c κs. search known)  -- global-velocity-matrix-vector-requires
+    (λ c. search known)  -- enum-told
+    (λ c. search known)  -- enum-told-2
+    (λ c. search known)  -- same-length
+    (λ c. search known)  -- same-length-2
+    (λ c. advance-bad _ _ _ _ _ _ _ _ ((c .before .before .before .before .before .before .global-velocity-matrix-vector) .ensures) ((c .enum-told2) .given .1))  -- returns
+    (λ c κs. search known)  -- dot-product-requires
+    (λ c κs. search known)  -- alpha-requires
+    (λ c. search known)  -- enum-known-scale
+    (λ c κs. search known)  -- update-requires
+    (λ c. search known)  -- enum-known-number
+    (λ c. search known)  -- same-length-3
+    (λ c. search known)  -- same-length-4
+    (λ c. search known)  -- same-length-5
+    (λ c. search known)  -- same-length-6
+    (λ c. advance-on _ _ _ _ _ _ _ _ ((c .before .before .before .before .before .before .before .before .before .before .before .before .before .before .before .before .before .before .before .before .global-velocity-matrix-vector) .ensures) _ _ ((c .before .before .before .before .before .before .before .before .before .before .before .before .before .before .enum-told) .given .1) ((c .before .before .before .before .before .before .before .before .before .before .before .before .dot-product) .ensures) ((c .before .before .before .before .before .before .before .before .before .before .before .alpha) .ensures) _ ((c .before .before .before .before .before .before .before .before .before .scale) .given .1) ((c .before .before .before .before .update) .ensures))  -- returns-2
+    (λ c. search known)  -- same-length-7
+    (λ c. search known)  -- same-length-8
+    (λ c. advance-refused _ _ _ _ _ _ _ _ ((c .before .before .before .before .before .before .before .before .before .before .before .before .global-velocity-matrix-vector) .ensures) _ _ ((c .before .before .before .before .before .before .enum-told) .given .1) ((c .before .before .before .before .dot-product) .ensures) ((c .before .before .before .alpha) .ensures) _ ((c .before .number) .given .1)))  -- returns-3

@@ -3,8 +3,7 @@ use Prim.Native.Nat.{ℕ, _*_}
 use mathlib.Core.Path.{sym, ap}
 use native.Mathlib.Omega.{arith}
 use lib.Seq.{length-take-le}
-use Rattle.position_solve.proofs.Lending.{within}
-use Rattle.solve_replay.proofs.Filling.{long-filled, filled-part}
+use Rattle.solve_replay.proofs.Filling.{within, long-filled, filled-part}
 use Rattle.solve_replay.proofs.replay.accepted_seen.Statement.{statement}
 use Rattle.solve_replay.proofs.replay.accepted_seen.Tie as tie
 
@@ -18,9 +17,9 @@ accepted-seen-spec =
     (λ c. omega (arith, (c .wide) .ensures, (c .before .before .before .before .before .before .before .before) .pre .0 .1))  -- mul-two
     (λ c κs. record {})  -- wide-requires-2
     (λ c. omega (arith, (c .wide2) .ensures, (c .before .before .before .before .before .before .before .before .before) .pre .0 .2))  -- mul-six
-    (λ c. within {A = ℕ} _ ((c .before .before .before .answer-room) .result) _ _ (long-filled 0 1024 ((c .before .before .before .answer-room) .result) ((c .before .before .before .answer-room) .ensures)) (ap (λ (x : ℕ). 2 * x) ((c .before .wide) .ensures)) (omega (arith, (c .before .before .before .before .before .before .before .before .before) .pre .0 .1)))  -- array-borrow-prefix-answers
-    (λ c. sym (length-take-le _ _ (within {A = ℕ} _ ((c .before .before .before .before .answer-room) .result) _ _ (long-filled 0 1024 ((c .before .before .before .before .answer-room) .result) ((c .before .before .before .before .answer-room) .ensures)) (ap (λ (x : ℕ). 2 * x) ((c .before .before .wide) .ensures)) (omega (arith, (c .before .before .before .before .before .before .before .before .before .before) .pre .0 .1)))))  -- slice-aggregate-answers-seen
-    (λ c. within {A = ℕ} _ ((c .before .before .before .body-word-room) .result) _ _ (long-filled 0 1536 ((c .before .before .before .body-word-room) .result) ((c .before .before .before .body-word-room) .ensures)) (ap (λ (x : ℕ). 6 * x) ((c .before .wide2) .ensures)) (omega (arith, (c .before .before .before .before .before .before .before .before .before .before) .pre .0 .2)))  -- array-borrow-prefix-body-words
-    (λ c. sym (length-take-le _ _ (within {A = ℕ} _ ((c .before .before .before .before .body-word-room) .result) _ _ (long-filled 0 1536 ((c .before .before .before .before .body-word-room) .result) ((c .before .before .before .before .body-word-room) .ensures)) (ap (λ (x : ℕ). 6 * x) ((c .before .before .wide2) .ensures)) (omega (arith, (c .before .before .before .before .before .before .before .before .before .before .before) .pre .0 .2)))))  -- slice-aggregate-answers-seen-2
-    (λ c κs. ((c .before .before .before .before .before .before .before .before .before .before .before) .pre .0, ((c .before .before .before .before .before .before .before .before .before .before .before) .pre .1, (filled-part 0 1024 ((c .before .before .before .before .before .answer-room) .result) _ _ ((c .before .before .before .before .before .answer-room) .ensures) (ap (λ (x : ℕ). 2 * x) ((c .before .before .before .wide) .ensures)) (omega (arith, (c .before .before .before .before .before .before .before .before .before .before .before) .pre .0 .1)), filled-part 0 1536 ((c .before .before .before .before .body-word-room) .result) _ _ ((c .before .before .before .before .body-word-room) .ensures) (ap (λ (x : ℕ). 6 * x) ((c .before .before .wide2) .ensures)) (omega (arith, (c .before .before .before .before .before .before .before .before .before .before .before) .pre .0 .2))))))  -- answers-seen-requires
+    (λ c. within {A = ℕ} _ ((c .before .before .before .answer-room) .result) _ _ (long-filled 0 1026 ((c .before .before .before .answer-room) .result) ((c .before .before .before .answer-room) .ensures)) (ap (λ (x : ℕ). 2 * x) ((c .before .wide) .ensures)) (omega (arith, (c .before .before .before .before .before .before .before .before .before) .pre .0 .1)))  -- array-borrow-prefix-answers
+    (λ c. sym (length-take-le _ _ (within {A = ℕ} _ ((c .before .before .before .before .answer-room) .result) _ _ (long-filled 0 1026 ((c .before .before .before .before .answer-room) .result) ((c .before .before .before .before .answer-room) .ensures)) (ap (λ (x : ℕ). 2 * x) ((c .before .before .wide) .ensures)) (omega (arith, (c .before .before .before .before .before .before .before .before .before .before) .pre .0 .1)))))  -- slice-aggregate-answers-seen
+    (λ c. within {A = ℕ} _ ((c .before .before .before .body-word-room) .result) _ _ (long-filled 0 1542 ((c .before .before .before .body-word-room) .result) ((c .before .before .before .body-word-room) .ensures)) (ap (λ (x : ℕ). 6 * x) ((c .before .wide2) .ensures)) (omega (arith, (c .before .before .before .before .before .before .before .before .before .before) .pre .0 .2)))  -- array-borrow-prefix-body-words
+    (λ c. sym (length-take-le _ _ (within {A = ℕ} _ ((c .before .before .before .before .body-word-room) .result) _ _ (long-filled 0 1542 ((c .before .before .before .before .body-word-room) .result) ((c .before .before .before .before .body-word-room) .ensures)) (ap (λ (x : ℕ). 6 * x) ((c .before .before .wide2) .ensures)) (omega (arith, (c .before .before .before .before .before .before .before .before .before .before .before) .pre .0 .2)))))  -- slice-aggregate-answers-seen-2
+    (λ c κs. ((c .before .before .before .before .before .before .before .before .before .before .before) .pre .0, ((c .before .before .before .before .before .before .before .before .before .before .before) .pre .1, (filled-part 0 1026 ((c .before .before .before .before .before .answer-room) .result) _ _ ((c .before .before .before .before .before .answer-room) .ensures) (ap (λ (x : ℕ). 2 * x) ((c .before .before .before .wide) .ensures)) (omega (arith, (c .before .before .before .before .before .before .before .before .before .before .before) .pre .0 .1)), filled-part 0 1542 ((c .before .before .before .before .body-word-room) .result) _ _ ((c .before .before .before .before .body-word-room) .ensures) (ap (λ (x : ℕ). 6 * x) ((c .before .before .wide2) .ensures)) (omega (arith, (c .before .before .before .before .before .before .before .before .before .before .before) .pre .0 .2))))))  -- answers-seen-requires
     (λ c. (c .before .before .answers-seen) .ensures))  -- returns

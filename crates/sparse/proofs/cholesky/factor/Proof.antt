@@ -11,11 +11,11 @@ use Rattle.sparse.proofs.cholesky.factor.Statement.{statement}
 use Rattle.sparse.proofs.cholesky.factor.Tie as tie
 
 abbrev Inv-loop : tie.InvT-loop
-Inv-loop starts columns diagonal values₀ pivots₀ marks₀ i₀ values pivots marks i = (length values ≡ length values₀) × (length pivots ≡ length pivots₀) × (length marks ≡ length marks₀) × AtMost marks (start starts i)
-    × At (rowTurn diagonal) (numbers starts columns values₀, pivots₀) (length diagonal) i (numbers starts columns values, pivots)
+Inv-loop starts columns values₀ pivots₀ marks₀ n i₀ values pivots marks i = (length values ≡ length values₀) × (length pivots ≡ length pivots₀) × (length marks ≡ length marks₀) × AtMost marks (start starts i)
+    × At rowTurn (numbers starts columns values₀, pivots₀) (length pivots₀) i (numbers starts columns values, pivots)
 
 abbrev μ-loop : tie.MeasureT-loop
-μ-loop starts columns diagonal values₀ pivots₀ marks₀ i₀ values pivots marks i = length diagonal - i
+μ-loop starts columns values₀ pivots₀ marks₀ n i₀ values pivots marks i = length pivots₀ - i
 
 ruleset known = (rows-on, rows-out, most-clear, loops)
 
@@ -25,7 +25,7 @@ factor-spec =
     tie.close
     (tie.spec Inv-loop μ-loop
     (λ c. search known)  -- loop-holds
-    (λ c κs. (search known, (search known, (search known, (search known, (search known, (search known, search known)))))))  -- row-at-requires
+    (λ c κs. (search known, (search known, (search known, (search known, (search known, search known))))))  -- row-at-requires
     (λ c. search known)  -- enum-told
     (λ c. search known)  -- enum-told-2
     (λ c. search known)  -- same-length

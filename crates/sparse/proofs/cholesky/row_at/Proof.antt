@@ -32,4 +32,4 @@ row-at-spec =
     (λ c. search known)  -- same-length-7
     (λ c. search known)  -- same-length-8
     (λ c. search known)  -- same-length-9
-    (λ c. (search known, search known)))  -- returns-3
+    (λ c. (row-on _ _ _ _ _ ((c .before .before .before .before .before .before .before .before .before .before .before .before .factor-row) .ensures .0) _ _ ((c .before .before .before .before .before .before .enum-told) .given .1) ((c .before .before .before .squares) .ensures) ((c .before .before .is-fit) .ensures) _ ((c .before .if1) .left) ((c .pivot-root) .ensures), (c .before .before .before .before .before .before .before .before .before .before .before .before .factor-row) .ensures .1)))  -- returns-3

@@ -10,10 +10,10 @@ use Rattle.triangular.proofs.substitution.backward.Statement.{statement
 use Rattle.triangular.proofs.substitution.backward.Tie as tie
 
 abbrev Inv-loop : tie.InvT-loop
-Inv-loop starts columns heads nexts rows count values pivots output₀ n t₀ output t = (length output ≡ length output₀) × At (backwardTurn (numbers starts columns values) pivots) output₀ (length pivots) t output
+Inv-loop starts columns order count values pivots output₀ rows t₀ output t = (length output ≡ length output₀) × At (backwardTurn (numbers starts columns values) pivots) output₀ (length pivots) t output
 
 abbrev μ-loop : tie.MeasureT-loop
-μ-loop starts columns heads nexts rows count values pivots output₀ n t₀ output t = length pivots - t
+μ-loop starts columns order count values pivots output₀ rows t₀ output t = length output₀ - t
 
 ruleset known = (solved-on, solved-out, backward-at, loops)
 
@@ -25,7 +25,7 @@ backward-spec =
     (λ c. search known)  -- loop-holds
     (λ c. search known)  -- sub-i
     (λ c. search known)  -- sub-i-2
-    (λ c κs. (search known, (search known, (search known, (search known, (search known, (search known, search known)))))))  -- backward-at-requires
+    (λ c κs. (search known, (search known, (search known, (search known, (search known, search known))))))  -- backward-at-requires
     (λ c. search known)  -- enum-told
     (λ c. search known)  -- enum-told-2
     (λ c. search known)  -- same-length

@@ -12,7 +12,7 @@ backward-at-spec =
     (tie.spec
     (λ c. search known)  -- mul-along-column
     (λ c. search known)  -- slice-read-along-column
-    (λ c κs. (search known, (search known, (search known, (search known, (search known, search known))))))  -- along-column-requires
+    (λ c κs. (search known, (search known, (search known, (search known, search known)))))  -- along-column-requires
     (λ c. search known)  -- mul-value
     (λ c. search known)  -- shared-slice-read-value
     (λ c. search known)  -- mul-output

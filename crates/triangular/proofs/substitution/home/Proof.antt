@@ -1,15 +1,18 @@
 -- `triangular::substitution::home` meets its contract. Assumes nothing.
-use native.Mathlib.Omega.{arith}
-use Rattle.loops.proofs.Loop.{loops}
-use Rattle.triangular.proofs.Down.{down-row, down-end}
+use borrow.Author.Needs.{needs}
+use Rattle.triangular.proofs.Down.{down-home}
 use Rattle.triangular.proofs.substitution.home.Statement.{statement}
 use Rattle.triangular.proofs.substitution.home.Tie as tie
-
-ruleset known = (down-row, down-end, loops)
 
 pub home-spec : {M : Type 1} → statement M
 home-spec =
     tie.close
     (tie.spec
-    (λ c κs. omega (arith, down-end (c .before .before .before .before .before .pre .0) _ (c .before .before .before .before .before .pre .1 .0) (c .before .before .before .before .before .pre .1 .1), c .before .before .before .before .before .pre .1 .2))  -- column-requires
-    (λ c. let e = c .column .ensures in (e, down-row (c .before .before .before .before .before .before .pre .0) _ _ (c .before .before .before .before .before .before .pre .1 .0) (c .before .before .before .before .before .before .pre .1 .1) e)))  -- returns
+    (λ c κs. search needs)  -- wide-requires
+    (λ c. search needs)  -- mul-wide
+    (λ c. search needs)  -- add-wide
+    (λ c. search needs)  -- add-wide-2
+    (λ c. search needs)  -- mul-wide-2
+    (λ c. search needs)  -- shared-slice-read-wide
+    (λ c κs. search needs)  -- wide-requires-2
+    (λ c. down-home ((c .before .before .before .before .before .before) .pre .0) _ _ _ ((c .before .before .wide) .ensures) ((c .wide2) .ensures) ((c .before .before .before .before .before .before) .pre .1 .0) ((c .before .before .before .before .before .before) .pre .1 .1)))  -- returns

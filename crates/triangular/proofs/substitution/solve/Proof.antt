@@ -1,10 +1,11 @@
 -- `triangular::substitution::solve` meets its contract. Assumes nothing.
 use Rattle.loops.proofs.Loop.{loops}
+use Rattle.triangular.proofs.Down.{indexed-places, indexed-room, indexed-same}
 use Rattle.triangular.proofs.Solves.{solve-on, solve-out}
 use Rattle.triangular.proofs.substitution.solve.Statement.{statement}
 use Rattle.triangular.proofs.substitution.solve.Tie as tie
 
-ruleset known = (solve-out, solve-on, loops)
+ruleset known = (indexed-places, indexed-room, indexed-same, solve-out, solve-on, loops)
 
 pub solve-spec : {M : Type 1} → statement M
 solve-spec =
@@ -15,6 +16,6 @@ solve-spec =
     (λ c. search known)  -- enum-told-2
     (λ c. search known)  -- same-length
     (λ c. search known)  -- returns
-    (λ c κs. (search known, (search known, (search known, (search known, (search known, search known))))))  -- backward-requires
+    (λ c κs. (search known, (search known, (search known, search known))))  -- backward-requires
     (λ c. search known)  -- same-length-2
     (λ c. search known))  -- returns-2

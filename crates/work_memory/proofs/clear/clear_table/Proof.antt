@@ -1,5 +1,6 @@
 -- `work_memory::clear::clear_table` meets its contract. Assumes nothing.
 use Rattle.loops.proofs.Loop.{loops}
+use Rattle.work_memory.proofs.Cleared.{table-cleared}
 use Rattle.work_memory.proofs.clear.clear_table.Statement.{statement}
 use Rattle.work_memory.proofs.clear.clear_table.Tie as tie
 
@@ -19,4 +20,4 @@ clear-table-spec =
     (λ c. search known)  -- same-length-3
     (λ c. search known)  -- same-length-4
     (λ c. search known)  -- same-length-5
-    (λ c. ((c .before .before .before .before .before .before .before .before .before .before .before .before .before .before .before .before .before .before .clear) .ensures, (c .before .before .before .before .before .before .before .before .before .before .before .before .before .before .clear-words) .ensures, (c .before .before .before .before .before .before .before .before .before .before .clear2) .ensures, (c .before .before .before .before .before .before .clear3) .ensures, (c .before .before .clear4) .ensures)))  -- returns
+    (λ c. table-cleared ((c .before .before .before .before .before .before .before .before .before .before .before .before .before .before .before .before .before .before .before .before .before .before .before .before .before) .args .jacobians .now) _ ((c .before .before .before .before .before .before .before .before .before .before .before .before .before .before .before .before .before .before .before .before .before .before .before .before .before) .args .links .now) _ ((c .before .before .before .before .before .before .before .before .before .before .before .before .before .before .before .before .before .before .before .before .before .before .before .before .before) .args .residual .now) _ ((c .before .before .before .before .before .before .before .before .before .before .before .before .before .before .before .before .before .before .before .before .before .before .before .before .before) .args .pending .now) _ ((c .before .before .before .before .before .before .before .before .before .before .before .before .before .before .before .before .before .before .before .before .before .before .before .before .before) .args .body-impulses .now) _ ((c .before .before .before .before .before .before .before .before .before .before .before .before .before .before .before .before .before .before .clear) .ensures) ((c .before .before .before .before .before .before .before .before .before .before .before .before .before .before .clear-words) .ensures) ((c .before .before .before .before .before .before .before .before .before .before .clear2) .ensures) ((c .before .before .before .before .before .before .clear3) .ensures) ((c .before .before .clear4) .ensures)))  -- returns

@@ -1,0 +1,558 @@
+/* The boundary between the port and C: what a caller can get wrong without reading "closed".
+   bindings/test has the commands. The last line is `N passed, 0 failed`; the exit is 1 otherwise.
+   Doubles are set and compared as bits, so that the test is the same under -ffast-math. */
+#include "kapitsa.h"
+#include <stdio.h>
+#include <string.h>
+
+static unsigned passed, failed;
+
+static void expect(int holds, const char *what, const char *where)
+{
+    if (holds) {
+        passed++;
+    } else {
+        failed++;
+        printf("failed: %s (%s)\n", what, where);
+    }
+}
+
+/* ---- doubles as bits, memory as bytes */
+
+static double from_bits(uint64_t bits)
+{
+    double number;
+    memcpy(&number, &bits, sizeof number);
+    return number;
+}
+
+static uint64_t bits_of(double number)
+{
+    uint64_t bits;
+    memcpy(&bits, &number, sizeof bits);
+    return bits;
+}
+
+#define INFINITE 0x7ff0000000000000u
+#define MINUS 0x8000000000000000u
+#define SMALLEST 1u /* 2^-1074, subnormal */
+
+static int all(int byte, const void *memory, size_t size)
+{
+    const unsigned char *bytes = (const unsigned char *)memory;
+    for (size_t i = 0; i < size; i++)
+        if (bytes[i] != byte)
+            return 0;
+    return 1;
+}
+
+/* What is lent is filled with it beforehand: what stays as it was shows. */
+enum { PATTERN = 0x5a };
+
+#define KEPT(lent) all(PATTERN, &(lent), sizeof(lent))
+
+/* ---- the jobs */
+
+enum { ROWS = 3, BODIES = 3, LIMIT = 50 };
+
+struct job {
+    double numbers[27 * ROWS], masses[10 * BODIES], tolerance;
+    uint32_t words[8 * ROWS], rows, bodies;
+};
+
+static void set_row(double *row, uint32_t *words, uint32_t a, uint32_t b, uint32_t owner)
+{
+    row[0] = 1.0;                          /* linear_a */
+    row[9] = -1.0;                         /* linear_b */
+    row[20] = from_bits(MINUS | INFINITE); /* min_multiplier */
+    row[21] = from_bits(INFINITE);         /* max_multiplier */
+    words[2] = a;
+    words[3] = b;
+    words[5] = 1; /* position_enabled */
+    words[6] = owner;
+}
+
+/* Document 01's P1, with this error and tolerance. */
+static struct job p1(double error, double tolerance)
+{
+    struct job job;
+    memset(&job, 0, sizeof job);
+    set_row(job.numbers, job.words, 0, 1, 0);
+    job.numbers[15] = error;
+    job.masses[0] = job.masses[10] = 0.5;
+    job.rows = 1;
+    job.bodies = 2;
+    job.tolerance = tolerance;
+    return job;
+}
+
+/* Three rows of two joints on three bodies, with numbers that nothing divides evenly. */
+static struct job chain(void)
+{
+    static const double errors[] = {0.1, -0.03, 0.07};
+    struct job job;
+    memset(&job, 0, sizeof job);
+    for (uint32_t i = 0; i < 3; i++) {
+        double *row = job.numbers + 27 * i, *mass = job.masses + 10 * i;
+        set_row(row, job.words + 8 * i, i / 2, i / 2 + 1, i / 2);
+        row[i] = 0.9;
+        row[3] = 0.3; /* angular_a */
+        row[9 + i] = -0.9;
+        row[13 + i % 2] = 0.6; /* angular_b */
+        row[15] = errors[i];
+        mass[0] = 0.7;
+        mass[1] = mass[5] = mass[9] = 1.1; /* the inertia's diagonal */
+    }
+    job.rows = job.bodies = 3;
+    job.tolerance = 1e-9;
+    return job;
+}
+
+static const double no_multipliers[ROWS] = {0.0, 0.0, 0.0};
+
+/* ---- the calls */
+
+/* Longer than any call needs. */
+static double doubles[54 * KAPITSA_MAX_ROWS + 6 * KAPITSA_MAX_BODIES + 8];
+static uint32_t words[4 * KAPITSA_MAX_ROWS + 3 * KAPITSA_MAX_PAIRS + 9];
+
+static void fill_work(void)
+{
+    memset(doubles, PATTERN, sizeof doubles);
+    memset(words, PATTERN, sizeof words);
+}
+
+/* The work memory is 0 as far as it is needed, and nothing is written behind it. */
+static int work_clear(size_t need_doubles, size_t need_words)
+{
+    return all(0, doubles, need_doubles * sizeof doubles[0])
+        && all(0, words, need_words * sizeof words[0])
+        && all(PATTERN, doubles + need_doubles, sizeof doubles - need_doubles * sizeof doubles[0])
+        && all(PATTERN, words + need_words, sizeof words - need_words * sizeof words[0]);
+}
+
+/* Work memory that is lent: so much more than is needed, or none. */
+struct lent {
+    int more_doubles, more_words;
+};
+
+enum { NONE = -1000 };
+
+static const struct lent exactly = {0, 0};
+
+static size_t length(size_t need, int more)
+{
+    return more == NONE ? 0 : need + (size_t)more;
+}
+
+struct solved {
+    double numbers[27 * ROWS], solution[ROWS], impulses[6 * BODIES], maxima[2];
+    uint32_t counts[2], refusal, control;
+};
+
+/* A solve in a floating-point mode; .control is the mode that it leaves. */
+static struct solved solve(const struct job *job, uint32_t mode, unsigned control, struct lent lent)
+{
+    const uint32_t n = job->rows, b = job->bodies;
+    const size_t doubles_len = length(kapitsa_solve_doubles(n, b, mode), lent.more_doubles);
+    const size_t words_len = length(kapitsa_solve_words(n, b, mode), lent.more_words);
+    struct solved to;
+    memset(&to, PATTERN, sizeof to);
+    memcpy(to.numbers, job->numbers, sizeof to.numbers);
+    fill_work();
+    const unsigned before = _mm_getcsr();
+    _mm_setcsr(control);
+    to.refusal = kapitsa_solve_in(
+        to.numbers, 27 * n, job->words, 8 * n, job->masses, 10 * b, job->tolerance, job->tolerance,
+        n, b, LIMIT, mode, to.solution, n, to.impulses, 6 * b, to.counts, to.maxima,
+        doubles, doubles_len, words, words_len);
+    to.control = _mm_getcsr();
+    _mm_setcsr(before);
+    return to;
+}
+
+struct checked {
+    uint32_t refusal, verdict, control;
+};
+
+static struct checked check(const struct job *job, const double *multipliers, unsigned control,
+                            struct lent lent)
+{
+    const uint32_t n = job->rows, b = job->bodies;
+    const size_t doubles_len = length(kapitsa_check_doubles(n, b), lent.more_doubles);
+    const size_t words_len = length(kapitsa_check_words(n, b), lent.more_words);
+    struct checked to;
+    memset(&to, PATTERN, sizeof to);
+    fill_work();
+    const unsigned before = _mm_getcsr();
+    _mm_setcsr(control);
+    to.refusal = kapitsa_check_in(
+        job->numbers, 27 * n, job->words, 8 * n, job->masses, 10 * b, job->tolerance,
+        job->tolerance, n, b, multipliers, n, &to.verdict, doubles, doubles_len, words, words_len);
+    to.control = _mm_getcsr();
+    _mm_setcsr(before);
+    return to;
+}
+
+static int says(struct checked found, uint32_t verdict)
+{
+    return found.refusal == KAPITSA_ACCEPTED && found.verdict == verdict;
+}
+
+/* The raw functions, in mode 0. */
+static uint32_t raw_solve(const struct job *job, unsigned control, double *solution)
+{
+    double numbers[27 * ROWS], impulses[6 * BODIES], maxima[2], jacobians[12 * ROWS];
+    double tolerances[ROWS], diagonal[ROWS], residual[ROWS], pending[ROWS], direction[ROWS];
+    double product[ROWS], body_impulses[6 * BODIES];
+    uint32_t counts[2], links[2 * ROWS];
+    const uint32_t n = job->rows, b = job->bodies;
+    memcpy(numbers, job->numbers, sizeof numbers);
+    const unsigned before = _mm_getcsr();
+    _mm_setcsr(control);
+    uint32_t refusal = kapitsa_solve_position(
+        numbers, 27 * n, job->words, 8 * n, job->masses, 10 * b, job->tolerance, job->tolerance,
+        n, b, LIMIT, KAPITSA_DIAGONAL, solution, n, impulses, 6 * b, counts, 2, maxima, 2,
+        jacobians, 12 * n, links, 2 * n, tolerances, n, diagonal, n, residual, n, pending, n,
+        direction, n, product, n, body_impulses, 6 * b, NULL, 0, NULL, 0, NULL, 0);
+    _mm_setcsr(before);
+    return refusal;
+}
+
+static uint32_t raw_check(const struct job *job, const double *multipliers, unsigned control,
+                          uint32_t *verdict, size_t verdict_len)
+{
+    double jacobians[12 * ROWS], mass_sizes[10 * BODIES], multiplier_sizes[ROWS];
+    double impulses[6 * BODIES], values[ROWS], sizes[ROWS];
+    uint32_t links[2 * ROWS];
+    const uint32_t n = job->rows, b = job->bodies;
+    const unsigned before = _mm_getcsr();
+    _mm_setcsr(control);
+    uint32_t refusal = kapitsa_closing_check(
+        job->numbers, 27 * n, job->words, 8 * n, job->masses, 10 * b, job->tolerance,
+        job->tolerance, n, b, multipliers, n, verdict, verdict_len, jacobians, 12 * n, links, 2 * n,
+        mass_sizes, 10 * b, multiplier_sizes, n, impulses, 6 * b, values, n, sizes, n);
+    _mm_setcsr(before);
+    return refusal;
+}
+
+/* ---- floating-point modes */
+
+enum { DOWN = 0x2000, UP = 0x4000, TO_ZERO = 0x6000, FTZ_AND_DAZ = 0x8040, FLAGS = 0x3f };
+
+static const struct {
+    const char *name;
+    unsigned word;
+} controls[] = {
+    {"to nearest", KAPITSA_CONTROL},
+    {"down", KAPITSA_CONTROL | DOWN},
+    {"up", KAPITSA_CONTROL | UP},
+    {"to zero", KAPITSA_CONTROL | TO_ZERO},
+    {"FTZ and DAZ", KAPITSA_CONTROL | FTZ_AND_DAZ},
+    {"FTZ and DAZ, down", KAPITSA_CONTROL | FTZ_AND_DAZ | DOWN},
+    {"all flags raised", KAPITSA_CONTROL | FLAGS},
+    {"no exception masked", 0},
+};
+
+enum { CONTROLS = sizeof controls / sizeof controls[0] };
+
+/* A solve and the check of its solution: the same bits in every mode, which is left as it was. */
+static void alike(const char *name, const struct job *job, uint32_t mode)
+{
+    const struct solved wanted = solve(job, mode, KAPITSA_CONTROL, exactly);
+    const double *list = wanted.refusal ? no_multipliers : wanted.solution;
+    const struct checked verdict = check(job, list, KAPITSA_CONTROL, exactly);
+    for (size_t i = 0; i < CONTROLS; i++) {
+        struct solved solved = solve(job, mode, controls[i].word, exactly);
+        struct checked checked = check(job, list, controls[i].word, exactly);
+        expect(solved.control == controls[i].word && checked.control == controls[i].word,
+               "the mode is left as it was", controls[i].name);
+        solved.control = wanted.control;
+        checked.control = verdict.control;
+        expect(!memcmp(&solved, &wanted, sizeof solved), name, controls[i].name);
+        expect(!memcmp(&checked, &verdict, sizeof checked), name, controls[i].name);
+    }
+}
+
+static void solves_in_all_modes(void)
+{
+    const char *names[] = {"mode 0", "mode 1", "mode 2"};
+    const struct job sheet = p1(-0.25, 0.001), rows = chain(), tiny = p1(from_bits(SMALLEST), 0.0);
+    for (uint32_t mode = 0; mode < 3; mode++) {
+        struct solved found = solve(&sheet, mode, KAPITSA_CONTROL, exactly);
+        expect(found.refusal == 0 && found.counts[0] == 1 && found.counts[1] == 1
+               && bits_of(found.numbers[24]) == bits_of(0.25), "P1", names[mode]);
+        found = solve(&rows, mode, KAPITSA_CONTROL, exactly);
+        expect(found.refusal == 0 && found.counts[1] == 1, "the chain is solved", names[mode]);
+        expect(says(check(&rows, found.solution, KAPITSA_CONTROL, exactly), KAPITSA_CLOSED),
+               "the chain is closed", names[mode]);
+        found = solve(&tiny, mode, KAPITSA_CONTROL, exactly);
+        expect(found.refusal == KAPITSA_REFUSED_RESIDUAL, "a subnormal error", names[mode]);
+        alike("P1", &sheet, mode);
+        alike("the chain", &rows, mode);
+        alike("a subnormal error", &tiny, mode);
+    }
+}
+
+/* The bits of the least tolerance at which the check says closed in this mode. */
+static uint64_t least_tolerance(struct job job, const double *multipliers, unsigned control)
+{
+    uint64_t open = 0, closed = INFINITE;
+    while (closed - open > 1) {
+        uint64_t middle = open + (closed - open) / 2;
+        job.tolerance = from_bits(middle);
+        if (says(check(&job, multipliers, control, exactly), KAPITSA_CLOSED))
+            closed = middle;
+        else
+            open = middle;
+    }
+    return closed;
+}
+
+static void checks_in_all_modes(void)
+{
+    const struct job rows = chain();
+    const struct solved solved = solve(&rows, 0, KAPITSA_CONTROL, exactly);
+    const uint64_t least = least_tolerance(rows, solved.solution, KAPITSA_CONTROL);
+    const struct job below = p1(0.0, from_bits(MINUS | SMALLEST)); /* as -0.0 it would close */
+    for (size_t i = 0; i < CONTROLS; i++) {
+        expect(least_tolerance(rows, solved.solution, controls[i].word) == least,
+               "the least tolerance that closes the chain", controls[i].name);
+        expect(says(check(&below, no_multipliers, controls[i].word, exactly), KAPITSA_OPEN),
+               "a tolerance below zero", controls[i].name);
+    }
+}
+
+/* Arithmetic in a call's arguments is the caller's, in the caller's mode: rounded up, the sum is
+   the least tolerance that closes P1, 17 * 2^-52; rounded to nearest, one unit less. */
+static void arguments(void)
+{
+    static const double multiplier[] = {0.25};
+    const struct job sheet = p1(-0.25, 0.0);
+    volatile double less = from_bits(0x3cf0ffffffffffffu), little = from_bits(0x3000000000000000u);
+    for (uint32_t up = 0; up < 2; up++) {
+        uint32_t verdict = 9;
+        const unsigned before = _mm_getcsr();
+        _mm_setcsr(KAPITSA_CONTROL | (up ? UP : 0));
+        uint32_t refusal = kapitsa_check_in(
+            sheet.numbers, 27, sheet.words, 8, sheet.masses, 20, less + little, 0.0, 1, 2,
+            multiplier, 1, &verdict, doubles, 47, words, 2);
+        _mm_setcsr(before);
+        expect(refusal == 0 && verdict == up, "a sum as argument", up ? "up" : "to nearest");
+    }
+}
+
+/* The tests above can fail: where nothing sets the mode, a solve differs. */
+static void raw_modes(void)
+{
+    const struct job rows = chain(), tiny = p1(from_bits(SMALLEST), 0.0);
+    const struct solved solved = solve(&rows, KAPITSA_DIAGONAL, KAPITSA_CONTROL, exactly);
+    double found[ROWS];
+    for (size_t i = 0; i < 4; i++)
+        expect(raw_solve(&rows, controls[i].word, found) == 0
+               && (memcmp(found, solved.solution, sizeof found) == 0) == (i == 0),
+               "the raw solve's bits hang on the rounding", controls[i].name);
+    expect(raw_solve(&tiny, KAPITSA_CONTROL, found) == KAPITSA_REFUSED_RESIDUAL
+           && raw_solve(&tiny, KAPITSA_CONTROL | FTZ_AND_DAZ, found) == 0,
+           "the raw solve's answer hangs on FTZ and DAZ", "raw");
+}
+
+/* ---- refusals are no verdicts */
+
+static void verdicts(void)
+{
+    static const double multiplier[] = {0.25};
+    const struct job closed = p1(-0.25, from_bits(0x3d00000000000000u)); /* P2: 2^-47 */
+    const struct job open = p1(-0.25, from_bits(0x3cf0000000000000u));   /* P3: 2^-48 */
+    const struct job tiny = p1(from_bits(SMALLEST), 0.0); /* was called closed with FTZ and DAZ */
+    expect(says(check(&closed, multiplier, KAPITSA_CONTROL, exactly), KAPITSA_CLOSED), "P2", "");
+    expect(says(check(&open, multiplier, KAPITSA_CONTROL, exactly), KAPITSA_OPEN), "P3", "");
+    for (size_t i = 0; i < CONTROLS; i++) {
+        const struct checked found = check(&tiny, no_multipliers, controls[i].word, exactly);
+        expect(found.refusal == KAPITSA_REFUSED_RANGE && KEPT(found.verdict) && work_clear(47, 2),
+               "18 for a subnormal error, and no verdict", controls[i].name);
+        if (controls[i].word == 0)
+            continue; /* the raw check would be ended by an exception */
+        uint32_t verdict = 9;
+        expect(raw_check(&tiny, no_multipliers, controls[i].word, &verdict, 1)
+               == KAPITSA_REFUSED_RANGE && verdict == 9, "18 by the raw check", controls[i].name);
+    }
+    uint32_t two[2];
+    memset(two, PATTERN, sizeof two);
+    for (size_t len = 0; len < 3; len += 2)
+        expect(raw_check(&closed, multiplier, KAPITSA_CONTROL, two, len) == KAPITSA_REFUSED_LENGTH
+               && KEPT(two), "a verdict of another length than 1", "raw");
+}
+
+/* ---- work memory */
+
+static void sizes(void)
+{
+    static const struct {
+        uint32_t rows, bodies, mode;
+        size_t doubles, words;
+    } solves[] = {
+        {1, 2, 0, 30, 2}, {1, 2, 1, 30, 5}, {1, 2, 2, 66, 3},
+        {3, 3, 0, 72, 6}, {3, 3, 1, 75, 22}, {3, 3, 2, 180, 9},
+        {181, 1, 1, 19554, 49595}, {182, 1, 1, 19666, 49881},
+        {512, 256, 0, 10752, 1024}, {512, 256, 1, 27136, 51201}, {512, 256, 2, 29184, 1536},
+        {0, 0, 0, 0, 0}, {0, 0, 1, 0, 1}, {0, 0, 2, 0, 0}, {0, 5, 1, 30, 1},
+        {513, 2, 0, 0, 0}, {513, 2, 1, 0, 0}, {1, 257, 1, 0, 0}, {1, 2, 3, 0, 0},
+        {UINT32_MAX, 2, 1, 0, 0}, {1, UINT32_MAX, 2, 0, 0}, {1, 2, UINT32_MAX, 0, 0},
+    };
+    static const struct {
+        uint32_t rows, bodies;
+        size_t doubles, words;
+    } checks[] = {
+        {1, 2, 47, 2}, {3, 3, 93, 6}, {512, 256, 11776, 1024}, {0, 0, 0, 0}, {0, 5, 80, 0},
+        {513, 2, 0, 0}, {1, 257, 0, 0}, {UINT32_MAX, 2, 0, 0}, {1, UINT32_MAX, 0, 0},
+    };
+    for (size_t i = 0; i < sizeof solves / sizeof solves[0]; i++) {
+        const uint32_t n = solves[i].rows, b = solves[i].bodies, mode = solves[i].mode;
+        expect(kapitsa_solve_doubles(n, b, mode) == solves[i].doubles
+               && kapitsa_solve_words(n, b, mode) == solves[i].words, "room", "solve");
+    }
+    for (size_t i = 0; i < sizeof checks / sizeof checks[0]; i++) {
+        const uint32_t n = checks[i].rows, b = checks[i].bodies;
+        expect(kapitsa_check_doubles(n, b) == checks[i].doubles
+               && kapitsa_check_words(n, b) == checks[i].words, "room", "check");
+    }
+}
+
+/* Long enough is accepted. Too short is refused by 3, and nothing at all is written. */
+static void work_memory(void)
+{
+    static const struct lent enough[] = {{0, 0}, {7, 0}, {0, 7}, {7, 7}};
+    static const struct lent too_short[] = {{-1, 0}, {0, -1}, {-1, 7}, {7, -1},
+                                            {NONE, 7}, {7, NONE}, {NONE, NONE}};
+    const struct job rows = chain();
+    const struct solved solved = solve(&rows, 0, KAPITSA_CONTROL, exactly);
+    for (size_t i = 0; i < sizeof enough / sizeof enough[0]; i++) {
+        for (uint32_t mode = 0; mode < 3; mode++)
+            expect(solve(&rows, mode, KAPITSA_CONTROL, enough[i]).refusal == 0
+                   && work_clear(kapitsa_solve_doubles(3, 3, mode),
+                                 kapitsa_solve_words(3, 3, mode)), "long enough", "solve");
+        expect(says(check(&rows, solved.solution, KAPITSA_CONTROL, enough[i]), KAPITSA_CLOSED)
+               && work_clear(93, 6), "long enough", "check");
+    }
+    for (size_t i = 0; i < sizeof too_short / sizeof too_short[0]; i++) {
+        for (uint32_t mode = 0; mode < 3; mode++) {
+            const struct solved found = solve(&rows, mode, KAPITSA_CONTROL, too_short[i]);
+            expect(found.refusal == KAPITSA_REFUSED_LENGTH && work_clear(0, 0)
+                   && !memcmp(found.numbers, rows.numbers, sizeof found.numbers)
+                   && KEPT(found.solution) && KEPT(found.impulses) && KEPT(found.maxima)
+                   && KEPT(found.counts), "too short", "solve");
+        }
+        const struct checked found = check(&rows, solved.solution, KAPITSA_CONTROL, too_short[i]);
+        expect(found.refusal == KAPITSA_REFUSED_LENGTH && work_clear(0, 0) && KEPT(found.verdict),
+               "too short", "check");
+    }
+}
+
+/* ---- empty jobs, the limits and beyond */
+
+/* Nothing but the answer and work memory is lent. True where the answer is refusal, and is written
+   exactly where that is 0: count 0, flag 1, maxima +0.0; closed. */
+static int solve_of_nothing(uint32_t rows, uint32_t bodies, uint32_t mode, double *work,
+                            size_t work_len, uint32_t *more, size_t more_len, uint32_t refusal)
+{
+    uint32_t counts[2];
+    double maxima[2];
+    memset(counts, PATTERN, sizeof counts);
+    memset(maxima, PATTERN, sizeof maxima);
+    const uint32_t found = kapitsa_solve_in(NULL, 0, NULL, 0, NULL, 0, 0.0, 0.0, rows, bodies, 0,
+                                            mode, NULL, 0, NULL, 0, counts, maxima, work, work_len,
+                                            more, more_len);
+    return found == refusal
+        && (found ? KEPT(counts) && KEPT(maxima)
+                  : counts[0] == 0 && counts[1] == 1 && all(0, maxima, sizeof maxima));
+}
+
+static int check_of_nothing(uint32_t rows, uint32_t bodies, double *work, size_t work_len,
+                            uint32_t *more, size_t more_len, uint32_t refusal)
+{
+    uint32_t verdict = 9;
+    const uint32_t found = kapitsa_check_in(NULL, 0, NULL, 0, NULL, 0, 0.0, 0.0, rows, bodies,
+                                            NULL, 0, &verdict, work, work_len, more, more_len);
+    return found == refusal && verdict == (found ? 9 : KAPITSA_CLOSED);
+}
+
+static void empty_jobs(void)
+{
+    uint32_t word = 9;
+    expect(solve_of_nothing(0, 0, 0, NULL, 0, NULL, 0, 0), "nothing at all", "mode 0");
+    expect(solve_of_nothing(0, 0, 2, NULL, 0, NULL, 0, 0), "nothing at all", "mode 2");
+    expect(solve_of_nothing(0, 0, 1, NULL, 0, NULL, 0, 3), "nothing at all", "mode 1");
+    expect(solve_of_nothing(0, 0, 1, NULL, 0, &word, 1, 0) && word == 0, "one word", "mode 1");
+    expect(check_of_nothing(0, 0, NULL, 0, NULL, 0, 0), "nothing at all", "check");
+}
+
+static void beyond_the_limits(void)
+{
+    static const uint32_t counts[][3] = {{513, 0, 0}, {0, 257, 0}, {0, 0, 3}, {UINT32_MAX, 0, 1},
+                                         {0, UINT32_MAX, 2}, {0, 0, UINT32_MAX}, {513, 257, 3}};
+    const size_t d = sizeof doubles / sizeof doubles[0], w = sizeof words / sizeof words[0];
+    fill_work();
+    for (size_t i = 0; i < sizeof counts / sizeof counts[0]; i++) {
+        const uint32_t n = counts[i][0], b = counts[i][1], mode = counts[i][2];
+        expect(solve_of_nothing(n, b, mode, NULL, 0, NULL, 0, KAPITSA_REFUSED_LENGTH)
+               && solve_of_nothing(n, b, mode, doubles, d, words, w, KAPITSA_REFUSED_LENGTH)
+               && work_clear(0, 0), "beyond the limits", "solve");
+        if (n > KAPITSA_MAX_ROWS || b > KAPITSA_MAX_BODIES)
+            expect(check_of_nothing(n, b, NULL, 0, NULL, 0, KAPITSA_REFUSED_LENGTH)
+                   && check_of_nothing(n, b, doubles, d, words, w, KAPITSA_REFUSED_LENGTH)
+                   && work_clear(0, 0), "beyond the limits", "check");
+    }
+}
+
+/* 512 rows on 256 bodies, each row twice, so that mode 1 finds a pivot of 0. */
+static void at_the_limits(void)
+{
+    enum { N = KAPITSA_MAX_ROWS, B = KAPITSA_MAX_BODIES };
+    static double numbers[27 * N], masses[10 * B], solution[N], impulses[6 * B], maxima[2];
+    static uint32_t row_words[8 * N], counts[2];
+    for (uint32_t i = 0; i < N; i++)
+        set_row(numbers + 27 * i, row_words + 8 * i, i / 2, (i / 2 + 1) % B, i);
+    for (uint32_t j = 0; j < B; j++)
+        masses[10 * j] = 0.5;
+    numbers[15] = 0.01; /* the first row's error */
+    for (uint32_t mode = 0; mode < 3; mode++) {
+        const size_t d = kapitsa_solve_doubles(N, B, mode), w = kapitsa_solve_words(N, B, mode);
+        fill_work();
+        const uint32_t refusal = kapitsa_solve_in(
+            numbers, 27 * N, row_words, 8 * N, masses, 10 * B, 1e-9, 1e-9, N, B, 1, mode,
+            solution, N, impulses, 6 * B, counts, maxima, doubles, d, words, w);
+        expect(refusal == (mode == 1 ? KAPITSA_REFUSED_PIVOT : KAPITSA_ACCEPTED)
+               && work_clear(d, w), "512 rows", "solve");
+    }
+    const size_t d = kapitsa_check_doubles(N, B), w = kapitsa_check_words(N, B);
+    uint32_t verdict = 9;
+    fill_work();
+    const uint32_t refusal = kapitsa_check_in(
+        numbers, 27 * N, row_words, 8 * N, masses, 10 * B, 1e-9, 1e-9, N, B, solution, N, &verdict,
+        doubles, d, words, w);
+    expect(refusal == 0 && verdict == KAPITSA_OPEN && work_clear(d, w), "512 rows", "check");
+}
+
+int main(void)
+{
+    const unsigned start = _mm_getcsr();
+#ifdef __FAST_MATH__
+    expect(start == (KAPITSA_CONTROL | FTZ_AND_DAZ), "FTZ and DAZ at the start", "-ffast-math");
+#else
+    expect(start == KAPITSA_CONTROL, "the default mode at the start", "start");
+#endif
+    solves_in_all_modes();
+    checks_in_all_modes();
+    arguments();
+    raw_modes();
+    verdicts();
+    sizes();
+    work_memory();
+    empty_jobs();
+    beyond_the_limits();
+    at_the_limits();
+    expect(_mm_getcsr() == start, "the mode at the start is left as it was", "end");
+    printf("%u passed, %u failed\n", passed, failed);
+    return failed != 0;
+}

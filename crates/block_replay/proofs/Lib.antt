@@ -1,2 +1,0 @@
--- Laws of mode 2's cases.
-pub mod Mode2

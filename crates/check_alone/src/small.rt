@@ -1,0 +1,86 @@
+// The check of a small table, at most 128 rows and 64 bodies, in memory of that size.
+ghost use mathlib.Core.Path.{_≡_};
+ghost use mathlib.Core.Bool.{true};
+ghost use Prim.Native.Nat.{_≤_};
+ghost use Rattle.kapitsa_joint.specs.Table.{tableOf};
+ghost use Rattle.mass_operator.specs.Flat.{coefficients};
+ghost use Rattle.check_refusals.specs.Refusals.{givenFits, tableLengths};
+ghost use Rattle.check_answer.specs.Answer.{CheckMeaning};
+ghost use Rattle.check_alone.specs.Checked.{checkedOf};
+use check_answer::CheckAnswer;
+use check_refusals::TableLengths;
+use check_refusals::given_fits;
+use closing_check::closing_check;
+use kapitsa_joint::JointTolerance;
+
+// With memory for 128 rows and 64 bodies.
+fn with_small_memory(
+    n: u32,
+    b: u32,
+    numbers: &[f64],
+    words: &[u32],
+    masses: &[f64],
+    multipliers: &[f64],
+    tolerance: JointTolerance,
+) -> CheckAnswer
+    requires { ⌜ givenFits n b (tableLengths (now numbers) (now words) (now masses) (now multipliers)) ≡ true ⌝ }
+    requires { ⌜ (n ≤ 128) × (b ≤ 64) ⌝ }
+    ensures { λ r. ⌜ r ≡ checkedOf n b (now (numbers .entry)) (now (words .entry)) (now (masses .entry)) (now (multipliers .entry)) tolerance ⌝ }
+    ensures { λ r. ⌜ CheckMeaning (givenFits n b (tableLengths (now (numbers .entry)) (now (words .entry)) (now (masses .entry)) (now (multipliers .entry)))) (tableOf n b (now (numbers .entry)) (now (words .entry)) (now (masses .entry)) tolerance) (coefficients (now (multipliers .entry))) r ⌝ }
+{
+    let mut jacobians: [f64; 1536] = [0.0; 1536];
+    let mut links: [u32; 256] = [0; 256];
+    let mut mass_sizes: [f64; 640] = [0.0; 640];
+    let mut multiplier_sizes: [f64; 128] = [0.0; 128];
+    let mut impulses: [f64; 384] = [0.0; 384];
+    let mut values: [f64; 128] = [0.0; 128];
+    let mut sizes: [f64; 128] = [0.0; 128];
+    let rows = n as usize;
+    let bodies = b as usize;
+    let row_numbers = 12 * rows;
+    let row_links = 2 * rows;
+    let mass_numbers = 10 * bodies;
+    let body_numbers = 6 * bodies;
+    closing_check(
+        n,
+        b,
+        numbers,
+        words,
+        masses,
+        multipliers,
+        tolerance,
+        &mut jacobians[..row_numbers],
+        &mut links[..row_links],
+        &mut mass_sizes[..mass_numbers],
+        &mut multiplier_sizes[..rows],
+        &mut impulses[..body_numbers],
+        &mut values[..rows],
+        &mut sizes[..rows],
+    )
+}
+
+// Are the joints of a small table closed by these multipliers? It answers as `checked` does.
+pub fn checked_small(
+    n: u32,
+    b: u32,
+    numbers: &[f64],
+    words: &[u32],
+    masses: &[f64],
+    multipliers: &[f64],
+    tolerance: JointTolerance,
+) -> CheckAnswer
+    requires { ⌜ (n ≤ 128) × (b ≤ 64) ⌝ }
+    ensures { λ r. ⌜ r ≡ checkedOf n b (now (numbers .entry)) (now (words .entry)) (now (masses .entry)) (now (multipliers .entry)) tolerance ⌝ }
+    ensures { λ r. ⌜ CheckMeaning (givenFits n b (tableLengths (now (numbers .entry)) (now (words .entry)) (now (masses .entry)) (now (multipliers .entry)))) (tableOf n b (now (numbers .entry)) (now (words .entry)) (now (masses .entry)) tolerance) (coefficients (now (multipliers .entry))) r ⌝ }
+{
+    let table = TableLengths {
+        numbers: numbers.len(),
+        words: words.len(),
+        masses: masses.len(),
+        multipliers: multipliers.len(),
+    };
+    if !given_fits(n, b, table) {
+        return CheckAnswer::Refused(3);
+    }
+    with_small_memory(n, b, numbers, words, masses, multipliers, tolerance)
+}

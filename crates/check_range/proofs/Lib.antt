@@ -1,0 +1,3 @@
+-- Refusal 18 judged on bits.
+pub mod Order
+pub mod Bits

@@ -1,0 +1,76 @@
+-- What refusal 3 tells once it has passed: the counts' limits and the lengths, as facts. Assumes nothing.
+use Prim.Native.Nat.{ℕ, _*_, _≤_}
+use mathlib.Core.Path.{_≡_}
+use mathlib.Core.Bool.{true, _&&_}
+use lib.Dec.{leb, eqb}
+use borrow.Author.Tests.{leb-true, eqb-true}
+use Rattle.loops.proofs.Both.{both}
+use Rattle.check_refusals.specs.Refusals.{tableFits, givenFits, workFits}
+use Rattle.check_refusals.specs.declared.fit.TableLengths.{TableLengths}
+use Rattle.check_refusals.specs.declared.fit.WorkLengths.{WorkLengths}
+
+-- ---- what is given
+pub record Given (n b : ℕ) (t : TableLengths) : Type 0 where
+  pub rows : n ≤ 512
+  pub bodies : b ≤ 256
+  pub numbers : t .numbers ≡ 27 * n
+  pub words : t .words ≡ 8 * n
+  pub masses : t .masses ≡ 10 * b
+  pub multipliers : t .multipliers ≡ n
+
+pub given-of : (n b : ℕ) (t : TableLengths) → givenFits n b t ≡ true → Given n b t
+unfolding givenFits tableFits
+given-of n b t h =
+    let a1 = eqb (t .numbers) (27 * n) in
+    let a2 = eqb (t .words) (8 * n) in
+    let a3 = eqb (t .masses) (10 * b) in
+    let a4 = eqb (t .multipliers) n in
+    let (p, q) = both (leb n 512 && leb b 256) (((a1 && a2) && a3) && a4) h in
+    let (r, s) = both (leb n 512) (leb b 256) p in
+    let (q3, h4) = both ((a1 && a2) && a3) a4 q in
+    let (q2, h3) = both (a1 && a2) a3 q3 in
+    let (h1, h2) = both a1 a2 q2 in
+    record {
+      rows = leb-true n 512 r;
+      bodies = leb-true b 256 s;
+      numbers = eqb-true (t .numbers) (27 * n) h1;
+      words = eqb-true (t .words) (8 * n) h2;
+      masses = eqb-true (t .masses) (10 * b) h3;
+      multipliers = eqb-true (t .multipliers) n h4;
+    }
+
+-- ---- the work memory
+pub record WorkRoom (n b : ℕ) (w : WorkLengths) : Type 0 where
+  pub jacobians : w .jacobians ≡ 12 * n
+  pub links : w .links ≡ 2 * n
+  pub massSizes : w .«mass_sizes» ≡ 10 * b
+  pub multiplierSizes : w .«multiplier_sizes» ≡ n
+  pub impulses : w .impulses ≡ 6 * b
+  pub values : w .values ≡ n
+  pub sizes : w .sizes ≡ n
+
+pub work-of : (n b : ℕ) (w : WorkLengths) → workFits n b w ≡ true → WorkRoom n b w
+unfolding workFits
+work-of n b w h =
+    let b1 = eqb (w .jacobians) (12 * n) in
+    let b2 = eqb (w .links) (2 * n) in
+    let b3 = eqb (w .«mass_sizes») (10 * b) in
+    let b4 = eqb (w .«multiplier_sizes») n in
+    let b5 = eqb (w .impulses) (6 * b) in
+    let b6 = eqb (w .values) n in
+    let b7 = eqb (w .sizes) n in
+    let (q6, k7) = both (((((b1 && b2) && b3) && b4) && b5) && b6) b7 h in
+    let (q5, k6) = both ((((b1 && b2) && b3) && b4) && b5) b6 q6 in
+    let (q4, k5) = both (((b1 && b2) && b3) && b4) b5 q5 in
+    let (q3, k4) = both ((b1 && b2) && b3) b4 q4 in
+    let (q2, k3) = both (b1 && b2) b3 q3 in
+    let (k1, k2) = both b1 b2 q2 in
+    record {
+      jacobians = eqb-true (w .jacobians) (12 * n) k1;
+      links = eqb-true (w .links) (2 * n) k2;
+      massSizes = eqb-true (w .«mass_sizes») (10 * b) k3;
+      multiplierSizes = eqb-true (w .«multiplier_sizes») n k4;
+      impulses = eqb-true (w .impulses) (6 * b) k5;
+      values = eqb-true (w .values) n k6;
+      sizes = eqb-true (w .sizes) n k7;
+    }

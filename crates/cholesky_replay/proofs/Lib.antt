@@ -1,2 +1,0 @@
--- Laws of mode 1's cases.
-pub mod Mode1

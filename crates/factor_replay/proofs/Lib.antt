@@ -1,2 +1,0 @@
--- Laws of the comparison with recorded factors.
-pub mod Compare

@@ -1,2 +1,0 @@
--- Ways through the functions for C.
-pub mod Ways

@@ -1,3 +1,0 @@
-pub mod Fit
-pub mod Apply
-pub mod Gather

@@ -1,5 +1,0 @@
-pub mod Bits
-pub mod Held
-pub mod Seen
-pub mod Checked
-pub mod Applied

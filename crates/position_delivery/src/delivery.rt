@@ -1,0 +1,243 @@
+// What is delivered of the step counted: 17 is judged before anything is written.
+ghost use mathlib.Core.Path.{_≡_};
+ghost use Prim.Native.Nat.{_*_, _≤_};
+ghost use lib.ListN.{length};
+ghost use Rattle.kapitsa_joint.specs.Table.{tableOf};
+ghost use Rattle.compact_table.specs.Compact.{compactOf, Linked};
+ghost use Rattle.mass_operator.specs.Flat.{coefficients, impulsesOf};
+ghost use Rattle.loops.specs.Run.{next};
+ghost use Rattle.work_memory.specs.Work.{tableMemory, clearedTable};
+ghost use Rattle.work_memory.specs.Lengths.{RowsRoom, TableRoom};
+ghost use Rattle.position_iteration.specs.Standing.{iteratedOut};
+ghost use Rattle.position_iteration.specs.Stands.{Counted, Stands};
+ghost use Rattle.position_delivery.specs.Outcome.{proposalOf, outcomeOf};
+ghost use Rattle.position_delivery.specs.Delivery.{Judged, Shown, acceptedOf, committedBy, finishedOf};
+use crate::answer::PositionPcg;
+use crate::answer::PositionPcgResult;
+use kapitsa_joint::JointTolerance;
+use loops::wide;
+use mass_operator::Applied;
+use mass_operator::global_velocity_impulse;
+use position::add_multipliers;
+use position::multipliers_finite;
+use position::residual_maxima;
+use position_iteration::Iterated;
+use work_memory::clear_table;
+
+// 17, of impulses and multipliers: true where it does not apply.
+fn deliverable(
+    numbers: &[f64],
+    jacobians: &[f64],
+    links: &[u32],
+    pending: &[f64],
+    bodies: usize,
+    body_impulses: &mut [f64],
+) -> bool
+    requires { ⌜ (27 * length (now pending) ≤ length (now numbers)) × (12 * length (now pending) ≤ length (now jacobians)) × (2 * length (now pending) ≤ length (now links)) × (length (now «body_impulses») ≡ 6 * bodies) ⌝ }
+    requires { ⌜ Linked (now links) (length (now pending)) bodies ⌝ }
+    ensures { λ r. ⌜ Judged r (now (numbers .entry)) (impulsesOf (compactOf (now (jacobians .entry)) (now (links .entry))) (coefficients (now (pending .entry))) (length (now (pending .entry))) bodies) (now (pending .entry)) (now («body_impulses» .exit)) ⌝ }
+{
+    let Applied::Done = global_velocity_impulse(jacobians, links, pending, bodies, body_impulses)
+    else {
+        return false;
+    };
+    multipliers_finite(numbers, pending)
+}
+
+// Solution and impulses, or nothing.
+fn show(
+    numbers: &[f64],
+    jacobians: &[f64],
+    links: &[u32],
+    pending: &[f64],
+    bodies: usize,
+    body_impulses: &mut [f64],
+    solution: &mut [f64],
+    impulses: &mut [f64],
+) -> bool
+    requires { ⌜ (27 * length (now pending) ≤ length (now numbers)) × (12 * length (now pending) ≤ length (now jacobians)) × (2 * length (now pending) ≤ length (now links)) × (length (now «body_impulses») ≡ 6 * bodies) × (length (now solution) ≡ length (now pending)) × (length (now impulses) ≡ 6 * bodies) ⌝ }
+    requires { ⌜ Linked (now links) (length (now pending)) bodies ⌝ }
+    ensures { λ r. ⌜ Shown r (now (numbers .entry)) (impulsesOf (compactOf (now (jacobians .entry)) (now (links .entry))) (coefficients (now (pending .entry))) (length (now (pending .entry))) bodies) (now (pending .entry)) (now (solution .entry)) (now (impulses .entry)) (now (solution .exit)) (now (impulses .exit)) ⌝ }
+{
+    if !deliverable(numbers, jacobians, links, pending, bodies, body_impulses) {
+        return false;
+    }
+    loops::copy(solution, pending);
+    loops::copy(impulses, body_impulses);
+    true
+}
+
+// The answer of a step that is counted and delivered.
+fn accept(flag: bool, count: u32, words: &[u32], residual: &[f64]) -> PositionPcg
+    requires { ⌜ 8 * length (now residual) ≤ length (now words) ⌝ }
+    ensures { λ r. ⌜ r ≡ acceptedOf flag count (now (words .entry)) (now (residual .entry)) ⌝ }
+{
+    let maxima = residual_maxima(words, residual);
+    PositionPcg::Accepted(PositionPcgResult {
+        converged: flag,
+        iterations: count,
+        linear_residual_m: maxima.linear,
+        angular_residual_rad: maxima.angular,
+    })
+}
+
+// What is proposed of the step counted: with count 0 no impulse, and nothing to refuse.
+fn propose_step(
+    flag: bool,
+    count: u32,
+    numbers: &[f64],
+    words: &[u32],
+    masses: &[f64],
+    rows: u32,
+    bodies: u32,
+    tolerance: JointTolerance,
+    jacobians: &[f64],
+    links: &[u32],
+    pending: &[f64],
+    residual: &[f64],
+    body_impulses: &mut [f64],
+    solution: &mut [f64],
+    impulses: &mut [f64],
+) -> PositionPcg
+    requires { ⌜ (length (now numbers) ≡ 27 * rows) × (length (now words) ≡ 8 * rows) × (10 * bodies ≤ length (now masses)) × (length (now solution) ≡ rows) × (length (now impulses) ≡ 6 * bodies) ⌝ }
+    requires { ⌜ (12 * rows ≤ length (now jacobians)) × (2 * rows ≤ length (now links)) × (length (now pending) ≡ rows) × (length (now residual) ≡ rows) × (length (now «body_impulses») ≡ 6 * bodies) ⌝ }
+    requires { ⌜ Stands (tableOf rows bodies (now numbers) (now words) (now masses) tolerance) (now masses) (now jacobians) (now links) ⌝ }
+    ensures { λ r. ⌜ proposalOf (now (solution .entry)) (now (impulses .entry)) (finishedOf (tableOf rows bodies (now (numbers .entry)) (now (words .entry)) (now (masses .entry)) tolerance) (flag, count, record { solution = now (pending .entry); residual = now (residual .entry) })) ≡ record { answer = r; solution = now (solution .exit); impulses = now (impulses .exit) } ⌝ }
+{
+    if count == 0 {
+        loops::copy(solution, pending);
+        loops::clear(impulses);
+        return accept(flag, count, words, residual);
+    }
+    if !show(
+        numbers,
+        jacobians,
+        links,
+        pending,
+        wide(bodies),
+        body_impulses,
+        solution,
+        impulses,
+    ) {
+        return PositionPcg::Refused(17);
+    }
+    accept(flag, count, words, residual)
+}
+
+// What is proposed of the count: the step that it counts, or the refusal that it met. The rows are only read.
+pub fn propose(
+    counted: Iterated,
+    limit: u32,
+    numbers: &[f64],
+    words: &[u32],
+    masses: &[f64],
+    rows: u32,
+    bodies: u32,
+    tolerance: JointTolerance,
+    jacobians: &[f64],
+    links: &[u32],
+    pending: &[f64],
+    residual: &[f64],
+    body_impulses: &mut [f64],
+    solution: &mut [f64],
+    impulses: &mut [f64],
+) -> PositionPcg
+    requires { ⌜ (length (now numbers) ≡ 27 * rows) × (length (now words) ≡ 8 * rows) × (10 * bodies ≤ length (now masses)) × (length (now solution) ≡ rows) × (length (now impulses) ≡ 6 * bodies) ⌝ }
+    requires { ⌜ (12 * rows ≤ length (now jacobians)) × (2 * rows ≤ length (now links)) × (length (now pending) ≡ rows) × (length (now residual) ≡ rows) × (length (now «body_impulses») ≡ 6 * bodies) ⌝ }
+    requires { ⌜ Counted (tableOf rows bodies (now numbers) (now words) (now masses) tolerance) (now masses) counted (now jacobians) (now links) ⌝ }
+    ensures { λ r. ⌜ proposalOf (now (solution .entry)) (now (impulses .entry)) (next (iteratedOut counted limit (now (pending .entry)) (now (residual .entry))) (finishedOf (tableOf rows bodies (now (numbers .entry)) (now (words .entry)) (now (masses .entry)) tolerance))) ≡ record { answer = r; solution = now (solution .exit); impulses = now (impulses .exit) } ⌝ }
+{
+    let mut flag = true;
+    let mut count = limit;
+    match counted {
+        Iterated::Met(step) => {
+            count = step;
+        }
+        Iterated::Limit => {
+            flag = false;
+        }
+        Iterated::Refused(number) => {
+            return PositionPcg::Refused(number);
+        }
+    }
+    propose_step(
+        flag,
+        count,
+        numbers,
+        words,
+        masses,
+        rows,
+        bodies,
+        tolerance,
+        jacobians,
+        links,
+        pending,
+        residual,
+        body_impulses,
+        solution,
+        impulses,
+    )
+}
+
+// The multipliers of an answer with this solution: with count 0 they keep their bits.
+pub fn commit(answer: PositionPcg, numbers: &mut [f64], solution: &[f64])
+    requires { ⌜ 27 * length (now solution) ≤ length (now numbers) ⌝ }
+    ensures { λ _. ⌜ now (numbers .exit) ≡ committedBy answer (now (numbers .entry)) (now (solution .entry)) ⌝ }
+{
+    match answer {
+        PositionPcg::Accepted(result) => {
+            if result.iterations == 0 {
+                return;
+            }
+            add_multipliers(numbers, solution);
+        }
+        PositionPcg::Refused(number) => {}
+    }
+}
+
+// Both halves: proposed, then committed. What the delivery reads of the work memory is cleared.
+pub fn deliver(
+    counted: Iterated,
+    limit: u32,
+    numbers: &mut [f64],
+    words: &[u32],
+    masses: &[f64],
+    rows: u32,
+    bodies: u32,
+    tolerance: JointTolerance,
+    jacobians: &mut [f64],
+    links: &mut [u32],
+    residual: &mut [f64],
+    pending: &mut [f64],
+    body_impulses: &mut [f64],
+    solution: &mut [f64],
+    impulses: &mut [f64],
+) -> PositionPcg
+    requires { ⌜ RowsRoom rows bodies (now numbers) (now words) (now masses) ⌝ }
+    requires { ⌜ (length (now solution) ≡ rows) × (length (now impulses) ≡ 6 * bodies) ⌝ }
+    requires { ⌜ TableRoom rows bodies (tableMemory (now jacobians) (now links) (now residual) (now pending) (now «body_impulses»)) ⌝ }
+    requires { ⌜ Counted (tableOf rows bodies (now numbers) (now words) (now masses) tolerance) (now masses) counted (now jacobians) (now links) ⌝ }
+    ensures { λ r. ⌜ outcomeOf rows record { numbers = now (numbers .entry); solution = now (solution .entry); impulses = now (impulses .entry) } (next (iteratedOut counted limit (now (pending .entry)) (now (residual .entry))) (finishedOf (tableOf rows bodies (now (numbers .entry)) (now (words .entry)) (now (masses .entry)) tolerance))) ≡ record { answer = r; lent = record { numbers = now (numbers .exit); solution = now (solution .exit); impulses = now (impulses .exit) } } ⌝ }
+    ensures { λ _. ⌜ tableMemory (now (jacobians .exit)) (now (links .exit)) (now (residual .exit)) (now (pending .exit)) (now («body_impulses» .exit)) ≡ clearedTable (tableMemory (now (jacobians .entry)) (now (links .entry)) (now (residual .entry)) (now (pending .entry)) (now («body_impulses» .entry))) ⌝ }
+{
+    let answer = propose(
+        counted,
+        limit,
+        numbers,
+        words,
+        masses,
+        rows,
+        bodies,
+        tolerance,
+        jacobians,
+        links,
+        pending,
+        residual,
+        body_impulses,
+        solution,
+        impulses,
+    );
+    commit(answer, numbers, solution);
+    clear_table(jacobians, links, residual, pending, body_impulses);
+    answer
+}

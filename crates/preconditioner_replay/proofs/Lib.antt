@@ -1,2 +1,0 @@
--- Laws of the table of a case.
-pub mod Case

@@ -1,2 +1,0 @@
--- P1 to P9.
-pub mod Proved

@@ -1,0 +1,41 @@
+-- Document 01's P1 to P9, computed together from the definitions. Assumes nothing.
+use mathlib.Core.Path.{refl}
+use lib.Ieee.{ofInt, neg, ofBits, add, sub, mul, div, le, lt, eq}
+use Rattle.loops.specs.Every.{every}
+use Rattle.loops.specs.Tabulate.{tabulate}
+use Rattle.loops.specs.Run.{check, on, turns}
+use Rattle.loops.specs.Judge.{judge, judged, test}
+use Rattle.binary64.specs.Order.{absolute, larger}
+use Rattle.binary64.specs.Answer.{rootOf}
+use Rattle.binary64.specs.SquareRoot.{squareRoot}
+use Rattle.binary64.specs.Units.{unitsOf}
+use Rattle.kapitsa_math.specs.Vector.{dotOf, addOf, scaleOf, absOf, isFiniteOf}
+use Rattle.kapitsa_math.specs.Matrix.{mulVectorOf, absColumnsOf, finiteColumnsOf}
+use Rattle.kapitsa_joint.specs.Row.{jacobianOf}
+use Rattle.kapitsa_joint.specs.Mass.{crossOf, diagonalOf}
+use Rattle.kapitsa_joint.specs.Tolerance.{dimensionOf}
+use Rattle.joint_refusals.specs.Refusals.{wordsFitOf, passes4, opensOf, rowsOpen, massFiniteOf, passes6, bodiesBelowOf, jacobiansFiniteOf, scalarsFiniteOf, scalarsInRangeOf, isValidOf, passes7}
+use Rattle.mass_operator.specs.Operator.{addImpulseOf, addRowOf, impulseAt, responseOf, responseAt, rowValueOf, valueAt}
+use Rattle.mass_operator.specs.Flat.{productOf, impulsesOf, flatImpulses}
+use Rattle.mass_operator.specs.Applied.{allFiniteOf}
+use Rattle.sparse.specs.Count.{count}
+use Rattle.sparse.specs.Triangle.{put}
+use Rattle.sparse.specs.Cholesky.{less, lessTurn, reducedOf, quotientOf, factored, columnOf, columnTurn, factorsRun, squaresOf, fit, rootValue, pivotOf, rowTurn, factorRun}
+use Rattle.pairs.specs.Pairs.{sharesOf, patternOf, rowPairs, pairCount, armOf, crossAt, sumOf, pairOf, pairsOf, finitePair, finitePairs}
+use Rattle.incomplete_cholesky.specs.Build.{choleskyRun}
+use Rattle.preconditioner.specs.Factor.{factorJudged}
+use Rattle.preconditioner.specs.Apply.{diagonalSolveOf, preconditioned}
+use Rattle.recurrence.specs.Vectors.{dotTo, dotProductOf, plusScaled, lessScaled}
+use Rattle.recurrence.specs.Step.{alphaOf, updatedOf, advanceOf, productFit, firstFrom, betaOf, turnedOf, renewFrom}
+use Rattle.position.specs.Prepare.{rowDiagonal, startOf, passes8, isLow, passes9, rowJudged, preparedDiagonal, preparedResidual, diagonals, residuals}
+use Rattle.position.specs.Residual.{meetsOf, raisedBy, maximaOf}
+use Rattle.check_range.specs.Range.{inRange, vecInRange, matInRange, jacobianInRange, massInRange, rowInRange, tableInRange, passes18}
+use Rattle.check_measure.specs.Verdict.{sizeOfRow, sizeOfMass, measuredOf, weightOf, radiusFactor, radiusOf, reachOf, valueOf, sizeOf, radius, reach, closes}
+use Rattle.check_answer.specs.Answer.{judgements, verdictOf, checkOf}
+use Rattle.steps.specs.Solve.{turn, counting, solve}
+use Rattle.position_iteration.specs.Method.{passes5, openingOf, beginOf, firstOf, gainsOf, maximaIn, finishOf}
+use Rattle.theorems.specs.Sheets.{AllSame, sheets}
+
+pub all-same : AllSame sheets
+unfolding AllSame solve openingOf passes5 judge test check on counting beginOf judged turns rowJudged passes8 passes9 isLow rowDiagonal startOf preparedDiagonal preparedResidual diagonals residuals tabulate every meetsOf firstOf factorJudged preconditioned diagonalSolveOf firstFrom productFit dotProductOf dotTo turn advanceOf alphaOf updatedOf plusScaled lessScaled renewFrom betaOf turnedOf productOf allFiniteOf valueAt responseAt responseOf impulseAt addRowOf addImpulseOf rowValueOf finishOf gainsOf maximaIn maximaOf raisedBy dimensionOf impulsesOf flatImpulses larger absolute dotOf addOf scaleOf mulVectorOf jacobianOf diagonalOf crossOf passes4 wordsFitOf rowsOpen opensOf passes6 massFiniteOf finiteColumnsOf isFiniteOf isValidOf bodiesBelowOf jacobiansFiniteOf scalarsFiniteOf scalarsInRangeOf neg ofBits add sub mul div le lt eq choleskyRun pairCount patternOf pairsOf pairOf finitePairs finitePair factorRun rowTurn factorsRun columnTurn columnOf factored quotientOf reducedOf lessTurn less count put pivotOf squaresOf fit rootValue rootOf sharesOf rowPairs armOf crossAt sumOf squareRoot unitsOf checkOf judgements verdictOf closes reach reachOf radius valueOf sizeOf measuredOf radiusOf weightOf radiusFactor absOf absColumnsOf sizeOfRow sizeOfMass ofInt passes7 passes18 tableInRange rowInRange jacobianInRange vecInRange massInRange matInRange inRange
+all-same = (refl, (refl, (refl, (refl, (refl, (refl, (refl, (refl, (refl, tt)))))))))

@@ -1,0 +1,160 @@
+//! What the recorded jobs meet, counted: `oracle/run record` draws jobs until there are
+//! enough of each item, `oracle/run cover` counts them in the lists as they stand.
+
+mod items;
+mod slip;
+mod worked;
+
+use crate::job::{BLOCK_JACOBI, INCOMPLETE_CHOLESKY, Job, Solved};
+use crate::model::{Begun, Table, at_factor};
+use items::{Item, items};
+use slip::{SLIPS, Slip};
+use std::collections::BTreeSet;
+use worked::{Turned, Work, diagonal_found, runs, shared};
+
+/// A recorded job, taken apart. From `accepted` on it tells of jobs that come to their factor,
+/// and of these alone.
+#[derive(Default)]
+struct Seen {
+    mode: u32,
+    rows: u32,
+    bodies: u32,
+    refusal: u32,
+    accepted: bool,
+    changed: Vec<Slip>,
+    not_finite: &'static str,
+    replaced: bool,
+    pairs: Pairs,
+    blocks: Vec<usize>,
+}
+
+/// Pairs of rows by what they share, in mode 1.
+#[derive(Default)]
+struct Pairs {
+    stored: usize,
+    absent: usize,
+    zero: usize,
+    twice: usize,
+}
+
+impl Seen {
+    fn of(job: &Job, solved: &Solved) -> Result<Self, String> {
+        let refusal = solved.answer.refusal();
+        let Job { mode, rows, bodies, .. } = *job;
+        let mut seen = Seen { mode, rows, bodies, refusal, ..Seen::default() };
+        if let Some((table, begun)) = at_factor(job) {
+            seen.at_factor(job, solved, &table, &begun)?;
+        }
+        Ok(seen)
+    }
+
+    fn at_factor(
+        &mut self,
+        job: &Job,
+        solved: &Solved,
+        table: &Table,
+        begun: &Begun,
+    ) -> Result<(), String> {
+        let work = |slip| Work { table, begun, slip };
+        let plain = work(None).solve(job);
+        if !same(&plain, solved) {
+            return Err(format!("worked once more, a job is not {:?}", solved.answer));
+        }
+        self.accepted = plain.is_ok();
+        self.not_finite = plain.err().map_or("", |turned| turned.what);
+        self.replaced =
+            table.rows.iter().any(|row| diagonal_found(table, row) <= f64::MIN_POSITIVE);
+        for (slip, _, modes) in SLIPS {
+            if modes.contains(&job.mode) && !same(&work(Some(slip)).solve(job), solved) {
+                self.changed.push(slip);
+            }
+        }
+        match job.mode {
+            INCOMPLETE_CHOLESKY => self.pairs = Pairs::of(&work(None)),
+            BLOCK_JACOBI => self.blocks = runs(table).iter().map(|run| run.len()).collect(),
+            _ => {}
+        }
+        Ok(())
+    }
+}
+
+fn same(found: &Result<Solved, Turned>, wanted: &Solved) -> bool {
+    match found {
+        Ok(found) => found.same(wanted),
+        Err(turned) => turned.refusal == wanted.answer.refusal(),
+    }
+}
+
+impl Pairs {
+    fn of(work: &Work) -> Self {
+        let mut pairs = Pairs::default();
+        for (at, high) in work.table.rows.iter().enumerate() {
+            for low in &work.table.rows[..at] {
+                let value = work.pair_value(low, high);
+                pairs.stored += usize::from(value.is_some());
+                pairs.absent += usize::from(value.is_none());
+                pairs.zero += usize::from(value == Some(0.0));
+                pairs.twice += usize::from(shared(low, high).len() == 2);
+            }
+        }
+        pairs
+    }
+}
+
+/// The items, and how many jobs met each.
+pub struct Cover {
+    items: Vec<Item>,
+    counts: Vec<usize>,
+}
+
+impl Cover {
+    pub fn new() -> Self {
+        let items = items();
+        Self { counts: vec![0; items.len()], items }
+    }
+
+    /// The items that a job meets.
+    pub fn met(&self, job: &Job, solved: &Solved) -> Result<Vec<usize>, String> {
+        let seen = Seen::of(job, solved)?;
+        let meets = |item: &Item| item.mode == seen.mode && (item.met)(&seen);
+        Ok((0..self.items.len()).filter(|&at| meets(&self.items[at])).collect())
+    }
+
+    pub fn add(&mut self, met: &[usize]) {
+        met.iter().for_each(|&at| self.counts[at] += 1);
+    }
+
+    fn short(&self, at: usize) -> bool {
+        self.counts[at] < self.items[at].enough
+    }
+
+    /// Whether one of these items is short of jobs.
+    pub fn wants(&self, met: &[usize]) -> bool {
+        met.iter().any(|&at| self.short(at))
+    }
+
+    pub fn full(&self) -> bool {
+        (0..self.items.len()).all(|at| !self.short(at))
+    }
+
+    /// A line for each name, with its count in each mode that is asked for.
+    pub fn print(&self) {
+        println!("mode 0 mode 1 mode 2");
+        let mut printed = BTreeSet::new();
+        for Item { name, .. } in &self.items {
+            if printed.insert(name) {
+                let places = (0..self.items.len()).filter(|&at| self.items[at].name == *name);
+                self.print_line(name, &places.collect::<Vec<usize>>());
+            }
+        }
+    }
+
+    fn print_line(&self, name: &str, places: &[usize]) {
+        let columns = [0, 1, 2].map(|mode| {
+            let place = places.iter().find(|&&at| self.items[at].mode == mode);
+            place.map_or("-".to_string(), |&at| self.counts[at].to_string())
+        });
+        let few = if places.iter().any(|&at| self.short(at)) { " (too few)" } else { "" };
+        println!("{:>6} {:>6} {:>6} {name}{few}", columns[0], columns[1], columns[2]);
+    }
+}

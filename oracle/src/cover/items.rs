@@ -1,0 +1,97 @@
+//! What is counted of the recorded jobs, and how many jobs are enough.
+
+use super::Seen;
+use super::slip::{SLIPS, Slip};
+
+/// Enough jobs of an item, and of one that takes a large table.
+const ENOUGH: usize = 10;
+const ENOUGH_LARGE: usize = 2;
+
+/// The refusals of each mode's factor and of the recurrence.
+const REFUSALS: [(u32, u32); 8] =
+    [(1, 10), (2, 11), (1, 12), (2, 12), (1, 13), (2, 13), (1, 16), (2, 16)];
+
+/// What document 01's 16 can be of, in the order of a step.
+#[rustfmt::skip]
+const NOT_FINITE: [&str; 10] = [
+    "z", "residual · z", "impulses", "product", "direction · product",
+    "alpha", "solution", "residual", "beta", "direction",
+];
+
+pub struct Item {
+    pub mode: u32,
+    pub name: String,
+    pub enough: usize,
+    pub met: Box<dyn Fn(&Seen) -> bool>,
+}
+
+#[derive(Default)]
+struct Items(Vec<Item>);
+
+impl Items {
+    fn add(&mut self, mode: u32, enough: usize, name: &str, met: impl Fn(&Seen) -> bool + 'static) {
+        self.0.push(Item { mode, name: name.to_string(), enough, met: Box::new(met) });
+    }
+}
+
+pub fn items() -> Vec<Item> {
+    let mut items = Items::default();
+    for (slip, name, modes) in SLIPS {
+        let enough = if slip == Slip::CountAfterValues { ENOUGH_LARGE } else { ENOUGH };
+        let name = format!("another answer with {name}");
+        for &mode in modes {
+            items.add(mode, enough, &name, move |seen| seen.changed.contains(&slip));
+        }
+    }
+    factors(&mut items);
+    for mode in 0..3 {
+        for what in NOT_FINITE {
+            let name = format!("16, {what} not finite");
+            items.add(mode, ENOUGH, &name, move |seen| seen.not_finite == what);
+        }
+    }
+    limits(&mut items);
+    items.0
+}
+
+/// Pairs, replaced diagonals, blocks and the refusals.
+fn factors(items: &mut Items) {
+    let beside = |seen: &Seen| seen.pairs.absent > 0 && seen.pairs.zero > 0;
+    items.add(1, ENOUGH, "an absent pair beside a stored zero", beside);
+    items.add(1, ENOUGH, "two rows that share two bodies", |seen| seen.pairs.twice > 0);
+    for mode in 0..3 {
+        items.add(mode, ENOUGH, "a replaced diagonal", |seen| seen.replaced);
+    }
+    // In mode 2 a replaced row is refused by 13 at the latest.
+    for mode in 0..2 {
+        let met = |seen: &Seen| seen.replaced && seen.accepted;
+        items.add(mode, ENOUGH, "a replaced diagonal, accepted", met);
+    }
+    for rows in 1..=6 {
+        let name = format!("a block of {rows} row{}, accepted", if rows == 1 { "" } else { "s" });
+        items.add(2, ENOUGH, &name, move |seen| seen.accepted && seen.blocks.contains(&rows));
+    }
+    for (mode, refusal) in REFUSALS {
+        let enough = if refusal == 10 { ENOUGH_LARGE } else { ENOUGH };
+        let name = format!("refused by {refusal}");
+        items.add(mode, enough, &name, move |seen| seen.refusal == refusal);
+    }
+}
+
+/// The most rows, bodies and pairs.
+fn limits(items: &mut Items) {
+    for mode in 0..3 {
+        let rows = |seen: &Seen| seen.accepted && seen.rows == 512;
+        let bodies = |seen: &Seen| seen.accepted && seen.bodies == 256;
+        items.add(mode, ENOUGH_LARGE, "512 rows, accepted", rows);
+        items.add(mode, ENOUGH_LARGE, "256 bodies, accepted", bodies);
+        let rows = |seen: &Seen| seen.refusal == 3 && seen.rows == 513;
+        let bodies = |seen: &Seen| seen.refusal == 3 && seen.bodies == 257;
+        items.add(mode, 1, "513 rows, refused by 3", rows);
+        items.add(mode, 1, "257 bodies, refused by 3", bodies);
+    }
+    let most = |seen: &Seen| seen.accepted && seen.pairs.stored == 16_384;
+    let over = |seen: &Seen| seen.refusal == 10 && seen.pairs.stored == 16_385;
+    items.add(1, ENOUGH_LARGE, "16,384 pairs, accepted", most);
+    items.add(1, ENOUGH_LARGE, "16,385 pairs, refused by 10", over);
+}
