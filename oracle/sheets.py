@@ -4,10 +4,17 @@
     python3 oracle/sheets.py [RUN]
 
 RUN is the oracle's command, `oracle/run` if none is given. Each file of the list is preceded by its
-length, 32 bits, little end first. The list: document 01's examples, the sample jobs, and the first
-three of 2,000 generated files for each refusal and, where the job is accepted, for each flag and verdict.
+length, 32 bits, little end first. The list: document 01's examples, the sample jobs, the first three
+of 2,000 generated files for each refusal and, where the job is accepted, for each flag and verdict,
+and files at the edges of refusals 1 and 2.
+
+A length of 2^32 - 1 ends the list. A second list follows, of jobs with 8 rows and 4 bodies that go through
+the functions for C in memory for mode 1. Behind it are two files as the job program finds them, with no length:
+it reads 65,537 bytes, which are refused by 1 though they begin with a whole file, and then what is left,
+the longest sheet there is.
 """
 
+import importlib.util
 import pathlib
 import struct
 import subprocess
@@ -37,21 +44,114 @@ def generated(run, folder):
             yield path
 
 
+def samples():
+    """samples/make.py, which has a job to be filled and its file."""
+    made = importlib.util.spec_from_file_location("make", HERE.parent / "samples" / "make.py")
+    module = importlib.util.module_from_spec(made)
+    made.loader.exec_module(module)
+    return module
+
+
+def placed(job, row_offset, mass_offset, length):
+    """The job's file with its sections at these places; the other bytes are 0."""
+    file = bytearray(length)
+    for section, at in ((job.rows, row_offset), (job.masses, mass_offset)):
+        file[at : at + len(section)] = section
+    counts = (len(job.rows) // 248, len(job.masses) // 80, job.limit, job.mode)
+    return bytes(file[: length - 48]) + struct.pack(
+        "<6I2d2I", *counts, row_offset, mass_offset, *job.tolerances, length, 0
+    )
+
+
+def ring(make, rows, bodies):
+    """Bodies in a ring, two rows a joint, of a length and of an angle by turns."""
+    job = make.Job(limit=6, mode=0, linear=2e-3, angular=1e-3)
+    for body in range(bodies):
+        job.body(0.5 + body / 64, (1.0, 0.75, 1.0 + body / 32))
+    for row in range(rows):
+        a, b = row // 2 % bodies, (row // 2 + 1) % bodies
+        job.owner = row // 2
+        one, none = (0.0, 1.0, 0.125), (0.0, 0.0, 0.0)
+        if row % 2 == make.LINEAR:
+            job.row(make.LINEAR, a, b, one, (0.25, 0.0, 0.5), make.negated(one), (0.0, 0.5, 0.25), 0.001 * (row % 11 - 4))
+        else:
+            job.row(make.ANGULAR, a, b, none, one, none, make.negated(one), 0.002 * (row % 7 - 3))
+    return job
+
+
+def edges(make):
+    """Each limit of refusals 1 and 2 and one beyond it; empty sections at the trailer's start and past it."""
+    p1, largest = make.p1(), ring(make, 128, 64)
+    # its rows end where the trailer begins
+    yield placed(largest, 65_536 - 48 - len(largest.rows), 0, 65_536)
+    yield placed(p1, 65_537 - 48 - 248, 0, 65_537)
+    yield ring(make, 129, 2).bytes()
+    yield ring(make, 128, 2).bytes()
+    yield from (ring(make, 1, bodies).bytes() for bodies in (64, 65))
+    bodies, rows, nothing = make.p1(), make.p1(), make.p1()
+    bodies.rows = rows.masses = nothing.rows = nothing.masses = b""
+    # no rows, and a row section that begins inside the masses, at the trailer, one byte further, at the file's end
+    yield from (placed(bodies, at, 0, 208) for at in (40, 160, 161, 208, 2**32 - 1))
+    # the same of no masses: the row then names bodies that there are none of (7)
+    yield from (placed(rows, 0, at, 296) for at in (40, 248, 249, 296, 2**32 - 1))
+    # neither, in a file of 48 bytes
+    yield from (placed(nothing, *at, 48) for at in ((0, 0), (1, 0), (0, 1)))
+    yield placed(nothing, 0, 0, 48)[1:]
+
+
+def lent(make):
+    """The four-bar linkage in memory for mode 1, and what is told of it where the oracle does not say."""
+    for mode, told in ((1, None), (0, b"solve 3 0 0\n"), (2, b"solve 3 0 0\n")):
+        job = make.four_bar()
+        job.mode = mode
+        yield job.bytes(), told
+    job = make.four_bar()
+    # unlike tolerances, and one row in eight of an angle: flag 0, open, and both maxima have numbers of their own
+    job.limit, job.tolerances = 1, (1e-25, 1e-6)
+    job.rows = job.rows[: -248 + 220] + struct.pack("<I", make.ANGULAR) + job.rows[-248 + 224 :]
+    yield job.bytes(), None
+    job.masses = job.masses[:-8] + struct.pack("<d", make.INFINITY)
+    yield job.bytes(), None
+    # within the linear tolerance from the start, and far from the angular one: count 0, closed
+    job = make.four_bar()
+    job.tolerances = (1.0, 1e-12)
+    yield job.bytes(), None
+
+
+def as_found(make):
+    """What the job program reads by itself: one byte too many after a whole file of 65,536; the longest sheet."""
+    largest = ring(make, 128, 64)
+    yield placed(largest, 0, len(largest.rows), 65_536) + b"\0"
+    yield largest.bytes()
+
+
+def listed(files):
+    return b"".join(struct.pack("<I", len(file)) + file for file in files) + b"\xff" * 4
+
+
+def sheet_of(run, file, folder):
+    path = pathlib.Path(folder) / "one.job"
+    path.write_bytes(file)
+    return subprocess.run([run, "job", path], check=True, capture_output=True).stdout
+
+
 def main():
     run = pathlib.Path(sys.argv[1] if len(sys.argv) > 1 else HERE / "run").resolve()
+    make = samples()
     subprocess.run([run, "examples"], check=True, stdout=subprocess.DEVNULL)
     with tempfile.TemporaryDirectory() as folder:
         paths = sorted((run.parent / "target" / "examples").glob("P*.job"))
         paths += sorted((HERE.parent / "samples").glob("*.job"))
         paths += generated(run, folder)
-        files, sheets = b"", b""
-        for path in paths:
-            file = path.read_bytes()
-            files += struct.pack("<I", len(file)) + file
-            sheets += subprocess.run([run, "job", path], check=True, capture_output=True).stdout
-    (CRATE / "stdin").write_bytes(files)
-    (CRATE / "stdout").write_bytes(sheets)
-    print(len(paths), "job files")
+        files = [path.read_bytes() for path in paths] + list(edges(make))
+        through_c, found = list(lent(make)), list(as_found(make))
+        sheets = [sheet_of(run, file, folder) for file in files]
+        sheets += [told or sheet_of(run, file, folder) for file, told in through_c]
+        sheets += [sheet_of(run, file, folder) for file in found]
+    lists = listed(files) + listed([file for file, _ in through_c])
+    (CRATE / "stdin").write_bytes(lists + b"".join(found))
+    (CRATE / "stdout").write_bytes(b"".join(sheets))
+    print(f"{len(files)} job files, {len(through_c)} for C, {len(found)} as the job program finds them")
 
 
 main()

@@ -1,16 +1,21 @@
 #!/usr/bin/env python3
 """Closing checks worked in exact rational arithmetic.
 
-Written from document 01 ("The closing check", refusals 4, 6, 7, 18) alone: every operation is done on
+Written from document 01 ("The closing check", refusals 3, 4, 6, 7, 18) alone: every operation is done on
 fractions, and where the document rounds, the exact result is rounded to the nearest double once. For each
 check the exact gap is formed as well, and what a verdict means is tested on it before the check is listed.
 
-    oracle/closing/record.py > LIST
+    cd crates/closing_recorded && ../../oracle/closing/record.py > stdin 2> stdout
+
+`stdin` is the list and `stdout` what the program must print of it. First come 1,500 drawn checks, then those that
+are not drawn: two refusals at once, the largest counts and one beyond, and tolerances at the reach.
 
 A check is a run of 64-bit words, little end first: its length in bytes, rows n, bodies b, the linear and the
 angular tolerance, the answer (0 open, 1 closed, else the refusal's number), 27n row numbers, 8n row words,
 10b mass numbers, n multipliers. Doubles are given by their bits. The same seed makes the same bytes.
 """
+import copy
+import itertools
 import math
 import random
 import struct
@@ -20,6 +25,7 @@ from fractions import Fraction
 SEED = 1952
 LOW, HIGH = 2.0 ** -150, 2.0 ** 150
 ERROR, MIN_MULTIPLIER = 15, 20
+MOST_ROWS, MOST_BODIES = 512, 256
 
 
 def rounded(exact):
@@ -135,6 +141,8 @@ def passes_18(sheet):
 
 def answer(sheet):
     bodies = len(sheet.masses)
+    if len(sheet.numbers) > MOST_ROWS or bodies > MOST_BODIES:
+        return 3
     if not all(map(passes_4, sheet.words)):
         return 4
     if not all(math.isfinite(x) for mass in sheet.masses for x in mass):
@@ -249,6 +257,145 @@ def one(chance):
     return sheet
 
 
+# ---- checks that are not drawn
+
+
+def plain_sheet(rows, bodies):
+    """P1's row, again and again along a chain of bodies: closed, and no refusal looks twice at it."""
+    numbers, words = [], []
+    for owner in range(rows):
+        row = [0.0] * 27
+        row[0], row[9], row[ERROR] = 1.0, -1.0, -0.25
+        row[MIN_MULTIPLIER:24] = [-math.inf, math.inf, -math.inf, math.inf]
+        a = owner % (bodies - 1)
+        numbers.append(row)
+        words.append([owner % 256, owner % 2, a, a + 1, 0, 1, owner, 0])
+    masses = [[0.5] + [0.0] * 9 for _ in range(bodies)]
+    return Sheet(numbers, words, masses, [0.25] * rows, [1.0, 2.0])
+
+
+def put(listed, value):
+    """A change of a sheet: number or word `at` of its row or body `i` becomes `value`."""
+
+    def change(sheet, i):
+        where, at = listed
+        target = getattr(sheet, where)
+        if where == "multipliers":
+            target[i] = value
+        else:
+            target[i][at] = value
+
+    return change
+
+
+# What each refusal looks at and those before it do not.
+FAULTS = {
+    4: [put(("words", at), value) for at, value in ((0, 256), (1, 2), (4, 2), (5, 2), (7, 1))],
+    6: [put(("masses", 0), math.nan), put(("masses", 4), math.inf), put(("masses", 9), -math.inf)],
+    7: [
+        put(("numbers", 6), math.nan),
+        put(("words", 3), 2),
+        put(("numbers", ERROR), math.inf),
+        put(("numbers", 19), -1.0),
+        put(("numbers", 21), math.nan),
+        put(("numbers", 24), math.inf),
+    ],
+    18: [
+        put(("numbers", 1), math.nextafter(LOW, 0.0)),
+        put(("numbers", 14), 2 * HIGH),
+        put(("numbers", ERROR), 2 * HIGH),
+        put(("masses", 5), math.nextafter(HIGH, math.inf)),
+        put(("multipliers", 0), LOW / 2),
+    ],
+}
+
+
+def two_faults():
+    """Every two refusals at once, the earlier one before the other in the table and behind it."""
+    for first, second in itertools.combinations(FAULTS, 2):
+        for one_fault, other in itertools.product(FAULTS[first], FAULTS[second]):
+            for i in (0, 1):
+                sheet = plain_sheet(2, 2)
+                other(sheet, 1 - i)
+                one_fault(sheet, i)
+                assert answer(sheet) == first
+                yield sheet
+
+
+def all_faults(sheet):
+    """The first of each refusal's faults, in the last row or body, and one more at each step."""
+    for number in sorted(FAULTS, reverse=True):
+        FAULTS[number][0](sheet, -1)
+        assert answer(sheet) in (3, number)
+        yield copy.deepcopy(sheet)
+
+
+def counts():
+    """256 bodies; then one body too many and one row too many, with every other refusal in them."""
+    yield plain_sheet(1, MOST_BODIES)
+    for beyond in (plain_sheet(1, MOST_BODIES + 1), plain_sheet(MOST_ROWS + 1, 2)):
+        *_, last = all_faults(beyond)
+        assert answer(last) == 3
+        yield last
+
+
+def without_rows():
+    """Closed at any tolerance; 3, 6 and 18 look at the masses still."""
+    for tolerances in ([math.nan, -1.0], [0.0, 0.0], [-math.inf, 1.0]):
+        sheet = plain_sheet(0, 2)
+        sheet.tolerances = tolerances
+        yield sheet
+    yield Sheet([], [], [], [], [0.0, 0.0])
+    yield from (plain_sheet(0, MOST_BODIES), plain_sheet(0, MOST_BODIES + 1))
+    for fault in (FAULTS[6][1], FAULTS[18][3]):
+        sheet = plain_sheet(0, 2)
+        fault(sheet, 1)
+        yield sheet
+
+
+def some_sheet(rows, bodies, numbers, chance):
+    """Rows of both kinds from a store of numbers, with errors that the multipliers nearly undo."""
+    sheet = plain_sheet(rows, bodies)
+    for i in range(rows):
+        sheet.numbers[i][:16] = [chance.choice(numbers) for _ in range(16)]
+        sheet.words[i][2:4] = chance.sample(range(bodies), 2)
+    sheet.masses = [[chance.choice(numbers) for _ in range(10)] for _ in range(bodies)]
+    sheet.multipliers = [chance.choice(numbers) for _ in range(rows)]
+    settle(sheet, chance)
+    return sheet
+
+
+def own_reaches(sheet):
+    """The largest |r| + E of the linear rows, and that of the angular ones."""
+    reaches = [0.0, 0.0]
+    for (size, radius, _), word in zip(sheet.measured(), sheet.words):
+        reaches[word[1]] = max(reaches[word[1]], float(size + radius))
+    return reaches
+
+
+def at_own_reach(rows, bodies, numbers, chance):
+    """Both tolerances at their own reach: closed; then the one, then the other a unit less: open."""
+    sheet = some_sheet(rows, bodies, numbers, chance)
+    linear, angular = own_reaches(sheet)
+    assert passes_18(sheet) and 0.0 < linear != angular > 0.0
+    less = lambda x: math.nextafter(x, 0.0)
+    for told, *tolerances in ((1, linear, angular), (0, less(linear), angular), (0, linear, less(angular))):
+        sheet.tolerances = tolerances
+        assert answer(sheet) == told
+        yield sheet
+
+
+def not_drawn(chance):
+    yield from two_faults()
+    yield from all_faults(plain_sheet(3, 3))
+    yield from counts()
+    yield from without_rows()
+    for rows in (5, 6, 7, 8):
+        for bodies in (2, 3, 4, 2):
+            yield from at_own_reach(rows, bodies, [chance.uniform(-2.0, 2.0) for _ in range(40)], chance)
+    yield from at_own_reach(MOST_ROWS, MOST_BODIES, [chance.uniform(-2.0, 2.0) for _ in range(12)], chance)
+
+
 def bits(x):
     return struct.unpack("<Q", struct.pack("<d", x))[0] if x == x else 0x7FF8000000000000
 
@@ -262,15 +409,19 @@ def words_of(sheet, told):
     return [8 * (len(words) + 1), *words]
 
 
+PRINTED = {1: "closed", 0: "open", **{number: f"refused by {number}" for number in (3, 4, 6, 7, 18)}}
+
+
 def main():
-    chance, tally = random.Random(SEED), {}
-    for _ in range(1500):
-        sheet = one(chance)
+    chance, tally = random.Random(SEED), dict.fromkeys(PRINTED, 0)
+    for sheet in itertools.chain((one(chance) for _ in range(1500)), not_drawn(random.Random(SEED))):
         told = answer(sheet)
-        tally[told] = tally.get(told, 0) + 1
+        tally[told] += 1
         words = words_of(sheet, told)
         sys.stdout.buffer.write(struct.pack("<%dQ" % len(words), *words))
-    print("open 0, closed 1, or the refusal:", dict(sorted(tally.items())), file=sys.stderr)
+    for told, name in PRINTED.items():
+        print(tally[told], name, file=sys.stderr)
+    print("0 other\n0 differ", file=sys.stderr)
 
 
 if __name__ == "__main__":

@@ -19,17 +19,17 @@ module _ (case : List ℕ) where
   short-case h = rw (lt-leb 48 (length case) h)
 
   module _ (h : 48 ≤ length case) {n b : ℕ} (p : n ≡ wordAt case 8) (q : b ≡ wordAt case 16) where
-    pub many-rows : 8 < n → false ≡ wellFormed case
+    pub many-rows : 513 < n → false ≡ wellFormed case
     unfolding wellFormed check
-    many-rows l = rw (le-leb 48 (length case) h, ← p, lt-leb n 8 l)
+    many-rows l = rw (le-leb 48 (length case) h, ← p, lt-leb n 513 l)
 
-    pub many-bodies : n ≤ 8 → 4 < b → false ≡ wellFormed case
+    pub many-bodies : n ≤ 513 → 257 < b → false ≡ wellFormed case
     unfolding wellFormed check
-    many-bodies l m = rw (le-leb 48 (length case) h, ← p, le-leb n 8 l, ← q, lt-leb b 4 m)
+    many-bodies l m = rw (le-leb 48 (length case) h, ← p, le-leb n 513 l, ← q, lt-leb b 257 m)
 
-    pub whole-case : n ≤ 8 → b ≤ 4 → eqb (length case) (48 + 288 * n + 80 * b) ≡ wellFormed case
+    pub whole-case : n ≤ 513 → b ≤ 257 → eqb (length case) (48 + 288 * n + 80 * b) ≡ wellFormed case
     unfolding wellFormed check
-    whole-case l m = rw (le-leb 48 (length case) h, ← p, le-leb n 8 l, ← q, le-leb b 4 m)
+    whole-case l m = rw (le-leb 48 (length case) h, ← p, le-leb n 513 l, ← q, le-leb b 257 m)
 
 pub ruleset forming = (short-case, many-rows, many-bodies, whole-case, needs)
 
@@ -43,10 +43,10 @@ pub formed-of : (case : List ℕ) {r : Bool} {n b : ℕ} → r ≡ wellFormed ca
 unfolding wellFormed
 formed-of case {r} {n} {b} e t p q =
     let long = eqb (length case) (48 + 288 * wordAt case 8 + 80 * wordAt case 16) in
-    let (_, x) = both (leb 48 (length case)) (check (leb (wordAt case 8) 8) (check (leb (wordAt case 16) 4) long false) false) (sym e ∙ not-false r t) in
-    let (y, z) = both (leb (wordAt case 8) 8) (check (leb (wordAt case 16) 4) long false) x in
-    let (u, v) = both (leb (wordAt case 16) 4) long z in
-    rw (p, q) (record { rows = leb-true (wordAt case 8) 8 y; bodies = leb-true (wordAt case 16) 4 u; long = eqb-true (length case) (48 + 288 * wordAt case 8 + 80 * wordAt case 16) v })
+    let (_, x) = both (leb 48 (length case)) (check (leb (wordAt case 8) 513) (check (leb (wordAt case 16) 257) long false) false) (sym e ∙ not-false r t) in
+    let (y, z) = both (leb (wordAt case 8) 513) (check (leb (wordAt case 16) 257) long false) x in
+    let (u, v) = both (leb (wordAt case 16) 257) long z in
+    rw (p, q) (record { rows = leb-true (wordAt case 8) 513 y; bodies = leb-true (wordAt case 16) 257 u; long = eqb-true (length case) (48 + 288 * wordAt case 8 + 80 * wordAt case 16) v })
 
 -- at least its first six words
 pub formed-head : (case : List ℕ) {r : Bool} → r ≡ wellFormed case → not r ≡ false → 48 ≤ length case

@@ -14,14 +14,14 @@ use Rattle.check_alone.specs.Checked.{checkedOf}
 use Rattle.closing_recorded.specs.Tally.{malformed}
 use Rattle.closing_recorded.specs.declared.tally.Seen.{Seen}
 
--- at most 8 rows and 4 bodies, and as long as they make it
+-- at most 513 rows and 257 bodies, one more than a check may have, and as long as they make it
 unfoldable pub wellFormed : List ℕ → Bool
-wellFormed case = check (leb 48 (length case)) (check (leb (wordAt case 8) 8) (check (leb (wordAt case 16) 4) (eqb (length case) (48 + 288 * wordAt case 8 + 80 * wordAt case 16)) false) false) false
+wellFormed case = check (leb 48 (length case)) (check (leb (wordAt case 8) 513) (check (leb (wordAt case 16) 257) (eqb (length case) (48 + 288 * wordAt case 8 + 80 * wordAt case 16)) false) false) false
 
 -- the same as facts, of the counts n and b
 pub record Formed (case : List ℕ) (n b : ℕ) : Type 0 where
-  pub rows : n ≤ 8
-  pub bodies : b ≤ 4
+  pub rows : n ≤ 513
+  pub bodies : b ≤ 257
   pub long : length case ≡ 48 + 288 * n + 80 * b
 
 abbrev pub toleranceIn : List ℕ → JointTolerance

@@ -12,10 +12,11 @@ fn line(n: u32, text: &[u8]) {
 }
 
 fn main() {
-    let mut space: [u8; 2672] = [0; 2672];
+    let mut space: [u8; 168352] = [0; 168352];
     let tally = input::tallied(&mut space);
     line(tally.closed, b" closed\n");
     line(tally.open, b" open\n");
+    line(tally.refused_3, b" refused by 3\n");
     line(tally.refused_4, b" refused by 4\n");
     line(tally.refused_6, b" refused by 6\n");
     line(tally.refused_7, b" refused by 7\n");

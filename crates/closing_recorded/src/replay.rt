@@ -12,7 +12,7 @@ use little_endian::read_doubles;
 use little_endian::read_halves;
 use little_endian::word;
 
-// At most 8 rows and 4 bodies, and all of their words.
+// At most one row and one body more than a check may have, and all of their words.
 fn well_formed(case: &[u8]) -> bool
     ensures { λ r. ⌜ r ≡ wellFormed (now (case .entry)) ⌝ }
 {
@@ -21,10 +21,10 @@ fn well_formed(case: &[u8]) -> bool
     }
     let n = word(case, 8);
     let b = word(case, 16);
-    if 8 < n {
+    if 513 < n {
         return false;
     }
-    if 4 < b {
+    if 257 < b {
         return false;
     }
     case.len() as u64 == 48 + 288 * n + 80 * b
@@ -73,10 +73,10 @@ fn read(case: &[u8], n: u32, b: u32) -> Seen
     requires { ⌜ Formed (now case) n b ⌝ }
     ensures { λ r. ⌜ r ≡ seenIn (now (case .entry)) n b ⌝ }
 {
-    let mut numbers: [f64; 216] = [0.0; 216];
-    let mut words: [u32; 64] = [0; 64];
-    let mut masses: [f64; 40] = [0.0; 40];
-    let mut multipliers: [f64; 8] = [0.0; 8];
+    let mut numbers: [f64; 13851] = [0.0; 13851];
+    let mut words: [u32; 4104] = [0; 4104];
+    let mut masses: [f64; 2570] = [0.0; 2570];
+    let mut multipliers: [f64; 513] = [0.0; 513];
     let rows = n as usize;
     let row_numbers = 27 * rows;
     let row_words = 8 * rows;

@@ -23,6 +23,7 @@ impl Seen {
 pub struct Tally {
     pub closed: u32,
     pub open: u32,
+    pub refused_3: u32,
     pub refused_4: u32,
     pub refused_6: u32,
     pub refused_7: u32,
@@ -49,6 +50,7 @@ impl Tally {
         Tally {
             closed: 0,
             open: 0,
+            refused_3: 0,
             refused_4: 0,
             refused_6: 0,
             refused_7: 0,
@@ -63,10 +65,15 @@ impl Tally {
     {
         let answer = seen.answer;
         let verdict = answer <= 1;
-        let refused = (answer == 4) | (answer == 6) | (answer == 7) | (answer == 18);
+        let refused = (answer == 3)
+            | (answer == 4)
+            | (answer == 6)
+            | (answer == 7)
+            | (answer == 18);
         Tally {
             closed: more(self.closed, answer == 1),
             open: more(self.open, answer == 0),
+            refused_3: more(self.refused_3, answer == 3),
             refused_4: more(self.refused_4, answer == 4),
             refused_6: more(self.refused_6, answer == 6),
             refused_7: more(self.refused_7, answer == 7),

@@ -1,6 +1,7 @@
 // The files of standard input, one at a time. No contract can say what is read.
 ghost use Prim.Native.Nat.{_≤_};
 ghost use lib.ListN.{length};
+use crate::lent::print_lent;
 use job_sheet::write_sheet;
 use libc::STDIN_FILENO;
 use libc::STDOUT_FILENO;
@@ -41,6 +42,22 @@ pub fn print_sheets(space: &mut [u8], text: &mut [u8])
             return;
         }
         print_sheet(&space[4..end], text);
+        left -= 1;
+    }
+}
+
+// The same through the functions for C.
+pub fn print_lent_sheets(space: &mut [u8], text: &mut [u8])
+    requires { ⌜ 4 ≤ length (now space) ⌝ }
+    requires { ⌜ 16384 ≤ length (now text) ⌝ }
+{
+    let mut left: u32 = 1000;
+    while 0 < left {
+        let end = next_file(space);
+        if end < 4 {
+            return;
+        }
+        print_lent(&space[4..end], text);
         left -= 1;
     }
 }
