@@ -22,8 +22,8 @@ use Rattle.mass_operator.specs.System.{System, compactSystem}
 use Rattle.compact_table.specs.Compact.{Linked}
 use Rattle.sparse.specs.Count.{count}
 use Rattle.sparse.specs.Cholesky.{fit, rootValue}
-use Rattle.block_factor.specs.Blocks.{blockValue, onePair, lessTurn, lessOf, pivotOf, factorOf, cellOf}
-use Rattle.block_factor.specs.Answers.{cellOut, cellRun, columnTurn}
+use Rattle.block_factor.specs.Blocks.{blockValue, onePair, blockLess, lessOf, blockPivot, blockFactor, cellOf}
+use Rattle.block_factor.specs.Answers.{cellOut, cellRun, blockColumnTurn}
 use Rattle.block_factor.specs.declared.block.Cell.{Cell}
 use Rattle.block_factor.specs.declared.block.Cell.the-variants as cells
 
@@ -44,8 +44,8 @@ module _ {S : Type 0} {f : ℕ → S → S} {s : S} {n : ℕ} where
   pub counts-end : {i : ℕ} {t : S} → Counts f s n i t → n ≤ i → t ≡ count f s n
   counts-end {i} {t} h l = let e : i ≡ n = omega arith in rw e at (h .led)
 
-pub less-turn : (l : List Float) (row column k : ℕ) (v : Float) → sub binary64 v (mul binary64 (getD l (row * 6 + k) nan) (getD l (column * 6 + k) nan)) ≡ lessTurn l row column k v
-unfolding lessTurn
+pub less-turn : (l : List Float) (row column k : ℕ) (v : Float) → sub binary64 v (mul binary64 (getD l (row * 6 + k) nan) (getD l (column * 6 + k) nan)) ≡ blockLess l row column k v
+unfolding blockLess
 less-turn l row column k v = refl
 
 -- ---- `cell`
@@ -61,20 +61,20 @@ module _ (l : List Float) (row column : ℕ) (v : Float) (t : Bool) (et : t ≡ 
     above b e = sym (e ∙ rw (← et, not-false t h))
 
     pub cell-pivot : (b : Bool) (x : Float) → row ≡ column → b ≡ fit v → not b ≡ false → x ≡ rootValue (rootOf v) → cellOf l row column v ≡ going x
-    unfolding cellOf pivotOf
+    unfolding cellOf blockPivot
     cell-pivot b x r e g ex = check-pass _ _ _ et h (rw (eq-eqb row column r, ← ex) (check-pass _ _ _ (sym (above b e)) g refl))
 
     pub cell-low : (b : Bool) → row ≡ column → b ≡ fit v → not b ≡ true → cellOf l row column v ≡ ended 13
-    unfolding cellOf pivotOf
+    unfolding cellOf blockPivot
     cell-low b r e g = check-pass _ _ _ et h (rw (eq-eqb row column r) (check-fail _ _ _ (sym (above b e)) g refl))
 
     pub cell-factor : (b : Bool) → (row ≡ column → ⊥) → b ≡ finite (div binary64 v (getD l (column * 6 + column) nan)) → not b ≡ false
         → cellOf l row column v ≡ going (div binary64 v (getD l (column * 6 + column) nan))
-    unfolding cellOf factorOf
+    unfolding cellOf blockFactor
     cell-factor b r e g = check-pass _ _ _ et h (rw (ne-eqb row column r) (check-pass _ _ _ e g refl))
 
     pub cell-bad : (b : Bool) → (row ≡ column → ⊥) → b ≡ finite (div binary64 v (getD l (column * 6 + column) nan)) → not b ≡ true → cellOf l row column v ≡ ended 13
-    unfolding cellOf factorOf
+    unfolding cellOf blockFactor
     cell-bad b r e g = check-pass _ _ _ et h (rw (ne-eqb row column r) (check-fail _ _ _ e g refl))
 
 -- ---- `cell_at`
@@ -89,12 +89,12 @@ module _ (s : System) (start row column : ℕ) (l : List Float) (p q : RowJacobi
 
 -- ---- a turn of `factor_row`
 module _ (s : System) (start row column : ℕ) (l : List Float) (r : Cell) (called : cellRun s start row column l ≡ cellOut r) where
-  pub column-on : (x : Float) → r ≡ cells.Number x → columnTurn s start row column l ≡ going (set l (row * 6 + column) x)
-  unfolding columnTurn
+  pub column-on : (x : Float) → r ≡ cells.Number x → blockColumnTurn s start row column l ≡ going (set l (row * 6 + column) x)
+  unfolding blockColumnTurn
   column-on x t = on-going _ _ _ (called ∙ rw t)
 
-  pub column-out : (k : ℕ) → r ≡ cells.Refused k → columnTurn s start row column l ≡ ended k
-  unfolding columnTurn
+  pub column-out : (k : ℕ) → r ≡ cells.Refused k → blockColumnTurn s start row column l ≡ ended k
+  unfolding blockColumnTurn
   column-out k t = on-ended _ _ _ (called ∙ rw t)
 
 -- the masses of a row's bodies are there

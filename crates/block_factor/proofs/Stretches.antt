@@ -13,41 +13,41 @@ use Rattle.sparse.specs.Count.{count}
 use Rattle.triangular.specs.Answers.{solveOut}
 use Rattle.triangular.specs.declared.substitution.Solved.{Solved}
 use Rattle.triangular.specs.declared.substitution.Solved.the-variants as solves
-use Rattle.block_factor.specs.Solves.{forwardLess, forwardTurn, backwardLess, backwardOf, backwardTurn, backwardRun, blockSolveRun}
+use Rattle.block_factor.specs.Solves.{blockForwardLess, blockForwardTurn, blockBackwardLess, blockBackwardOf, blockBackwardTurn, blockBackwardRun, blockSolveRun}
 
-pub forward-less : (l y : List Float) (row k : ℕ) (v : Float) → sub binary64 v (mul binary64 (getD l (row * 6 + k) nan) (getD y k nan)) ≡ forwardLess l y row k v
-unfolding forwardLess
+pub forward-less : (l y : List Float) (row k : ℕ) (v : Float) → sub binary64 v (mul binary64 (getD l (row * 6 + k) nan) (getD y k nan)) ≡ blockForwardLess l y row k v
+unfolding blockForwardLess
 forward-less l y row k v = refl
 
-pub forward-turn : (l residual y : List Float) (row : ℕ) (v : Float) → v ≡ count (forwardLess l y row) (getD residual row nan) row
-    → set y row (div binary64 v (getD l (row * 6 + row) nan)) ≡ forwardTurn l residual row y
-unfolding forwardTurn
+pub forward-turn : (l residual y : List Float) (row : ℕ) (v : Float) → v ≡ count (blockForwardLess l y row) (getD residual row nan) row
+    → set y row (div binary64 v (getD l (row * 6 + row) nan)) ≡ blockForwardTurn l residual row y
+unfolding blockForwardTurn
 forward-turn l residual y row v e = rw e
 
-pub backward-less : (l y : List Float) (row k : ℕ) (v : Float) → sub binary64 v (mul binary64 (getD l ((row + 1 + k) * 6 + row) nan) (getD y (row + 1 + k) nan)) ≡ backwardLess l y row k v
-unfolding backwardLess
+pub backward-less : (l y : List Float) (row k : ℕ) (v : Float) → sub binary64 v (mul binary64 (getD l ((row + 1 + k) * 6 + row) nan) (getD y (row + 1 + k) nan)) ≡ blockBackwardLess l y row k v
+unfolding blockBackwardLess
 backward-less l y row k v = refl
 
 -- `backward_at`
-module _ (l y : List Float) (row len : ℕ) (v : Float) (t : Bool) (e : v ≡ count (backwardLess l y row) (getD y row nan) (len - 1 - row)) (et : t ≡ finite (div binary64 v (getD l (row * 6 + row) nan))) where
-  pub back-on : not t ≡ false → backwardOf l len row y ≡ going (set y row (div binary64 v (getD l (row * 6 + row) nan)))
-  unfolding backwardOf
+module _ (l y : List Float) (row len : ℕ) (v : Float) (t : Bool) (e : v ≡ count (blockBackwardLess l y row) (getD y row nan) (len - 1 - row)) (et : t ≡ finite (div binary64 v (getD l (row * 6 + row) nan))) where
+  pub back-on : not t ≡ false → blockBackwardOf l len row y ≡ going (set y row (div binary64 v (getD l (row * 6 + row) nan)))
+  unfolding blockBackwardOf
   back-on h = rw (← e) (check-pass _ _ _ et h refl)
 
-  pub back-out : not t ≡ true → backwardOf l len row y ≡ ended (set y row (div binary64 v (getD l (row * 6 + row) nan)))
-  unfolding backwardOf
+  pub back-out : not t ≡ true → blockBackwardOf l len row y ≡ ended (set y row (div binary64 v (getD l (row * 6 + row) nan)))
+  unfolding blockBackwardOf
   back-out h = rw (← e) (check-fail _ _ _ et h refl)
 
 -- a turn of `backward`
-module _ (l y y′ : List Float) (len m t : ℕ) (r : Solved) (called : backwardOf l m (len - 1 - t) y ≡ solveOut r y′) (e : m ≡ len) where
-  pub backs-on : r ≡ solves.Done → backwardTurn l len t y ≡ going y′
-  unfolding backwardTurn
+module _ (l y y′ : List Float) (len m t : ℕ) (r : Solved) (called : blockBackwardOf l m (len - 1 - t) y ≡ solveOut r y′) (e : m ≡ len) where
+  pub backs-on : r ≡ solves.Done → blockBackwardTurn l len t y ≡ going y′
+  unfolding blockBackwardTurn
   backs-on told = rw (← e) (rw (← e) at called ∙ rw told)
 
-  pub backs-out : r ≡ solves.Overflow → backwardTurn l len t y ≡ ended y′
-  unfolding backwardTurn
+  pub backs-out : r ≡ solves.Overflow → blockBackwardTurn l len t y ≡ ended y′
+  unfolding blockBackwardTurn
   backs-out told = rw (← e) (rw (← e) at called ∙ rw told)
 
-pub block-solved : (l residual y y₁ : List Float) (m : ℕ) {o : Run (List Float) (List Float)} → y₁ ≡ count (forwardTurn l residual) y (length residual) → backwardRun l m y₁ ≡ o → m ≡ length residual → blockSolveRun l residual y ≡ o
+pub block-solved : (l residual y y₁ : List Float) (m : ℕ) {o : Run (List Float) (List Float)} → y₁ ≡ count (blockForwardTurn l residual) y (length residual) → blockBackwardRun l m y₁ ≡ o → m ≡ length residual → blockSolveRun l residual y ≡ o
 unfolding blockSolveRun
 block-solved l residual y y₁ m e h em = rw (← e, ← em) h

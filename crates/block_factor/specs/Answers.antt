@@ -21,15 +21,15 @@ cellRun s start row column l =
     check (onePair (s .jacobian (start + row)) (s .jacobian (start + column)))
     (cellOf l row column (lessOf l row column (blockValue (s .mass) (s .jacobian (start + row)) (s .jacobian (start + column))))) (ended 11)
 
-unfoldable pub columnTurn : System → ℕ → ℕ → ℕ → List Float → Run (List Float) ℕ
-columnTurn s start row column l = next (cellRun s start row column l) (λ x. going (set l (row * 6 + column) x))
+unfoldable pub blockColumnTurn : System → ℕ → ℕ → ℕ → List Float → Run (List Float) ℕ
+blockColumnTurn s start row column l = next (cellRun s start row column l) (λ x. going (set l (row * 6 + column) x))
 
-unfoldable pub rowTurn : System → ℕ → ℕ → List Float → Run (List Float) ℕ
-rowTurn s start row l = turns (columnTurn s start row) l (row + 1)
+unfoldable pub blockRowTurn : System → ℕ → ℕ → List Float → Run (List Float) ℕ
+blockRowTurn s start row l = turns (blockColumnTurn s start row) l (row + 1)
 
 -- the rows 0 .. len - 1 of the block
 unfoldable pub rowsRun : System → ℕ → ℕ → List Float → Run (List Float) ℕ
-rowsRun s start len l = turns (rowTurn s start) l len
+rowsRun s start len l = turns (blockRowTurn s start) l len
 
 abbrev pub noNumbers : List Float
 noNumbers = replicate 36 plusZero

@@ -30,19 +30,19 @@ unfoldable pub onePair : RowJacobian → RowJacobian → Bool
 onePair p q = eqb (p .«body_a») (q .«body_a») && eqb (p .«body_b») (q .«body_b»)
 
 -- the value v less the products over the earlier columns, ascending: the numbers of row r are from 6 r on
-unfoldable pub lessTurn : List Float → ℕ → ℕ → ℕ → Float → Float
-lessTurn l row column k v = sub binary64 v (mul binary64 (getD l (row * 6 + k) nan) (getD l (column * 6 + k) nan))
+unfoldable pub blockLess : List Float → ℕ → ℕ → ℕ → Float → Float
+blockLess l row column k v = sub binary64 v (mul binary64 (getD l (row * 6 + k) nan) (getD l (column * 6 + k) nan))
 
 unfoldable pub lessOf : List Float → ℕ → ℕ → Float → Float
-lessOf l row column v = count (lessTurn l row column) v column
+lessOf l row column v = count (blockLess l row column) v column
 
 -- a number of the factor from its value: "13. A pivot is ... at most MIN, or a factor is not finite."
-unfoldable pub pivotOf : Float → Run Float ℕ
-pivotOf v = check (not (le v minPositive)) (going (rootValue (rootOf v))) (ended 13)
+unfoldable pub blockPivot : Float → Run Float ℕ
+blockPivot v = check (not (le v minPositive)) (going (rootValue (rootOf v))) (ended 13)
 
-unfoldable pub factorOf : Float → Float → Run Float ℕ
-factorOf v d = check (finite (div binary64 v d)) (going (div binary64 v d)) (ended 13)
+unfoldable pub blockFactor : Float → Float → Run Float ℕ
+blockFactor v d = check (finite (div binary64 v d)) (going (div binary64 v d)) (ended 13)
 
 -- "12. ... a block value after its subtractions, is not finite", and then 13
 unfoldable pub cellOf : List Float → ℕ → ℕ → Float → Run Float ℕ
-cellOf l row column v = check (finite v) (cond (eqb row column) (pivotOf v) (factorOf v (getD l (column * 6 + column) nan))) (ended 12)
+cellOf l row column v = check (finite v) (cond (eqb row column) (blockPivot v) (blockFactor v (getD l (column * 6 + column) nan))) (ended 12)

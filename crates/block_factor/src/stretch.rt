@@ -5,13 +5,13 @@ ghost use lib.ListN.{length, getD, set};
 ghost use lib.Ieee.{nan};
 ghost use Rattle.sparse.specs.Count.{count};
 ghost use Rattle.triangular.specs.Answers.{solveOut};
-ghost use Rattle.block_factor.specs.Solves.{forwardLess, forwardTurn, backwardLess, backwardOf, backwardRun, blockSolveRun};
+ghost use Rattle.block_factor.specs.Solves.{blockForwardLess, blockForwardTurn, blockBackwardLess, blockBackwardOf, blockBackwardRun, blockSolveRun};
 use triangular::Solved;
 
 // `value` less the products of row `row` with what the earlier rows have.
 fn less_earlier(value: f64, lower: &[f64; 36], part: &[f64], row: usize) -> f64
     requires { ⌜ (row < 6) × (row < length (now part)) ⌝ }
-    ensures { λ r. ⌜ r ≡ count (forwardLess (now (lower .entry)) (now (part .entry)) row) value row ⌝ }
+    ensures { λ r. ⌜ r ≡ count (blockForwardLess (now (lower .entry)) (now (part .entry)) row) value row ⌝ }
 {
     let mut rest = value;
     let mut k = 0;
@@ -24,7 +24,7 @@ fn less_earlier(value: f64, lower: &[f64; 36], part: &[f64], row: usize) -> f64
 
 fn forward(lower: &[f64; 36], residual: &[f64], part: &mut [f64])
     requires { ⌜ (length (now part) ≤ 6) × (length (now residual) ≡ length (now part)) ⌝ }
-    ensures { λ _. ⌜ now (part .exit) ≡ count (forwardTurn (now (lower .entry)) (now (residual .entry))) (now (part .entry)) (length (now (residual .entry))) ⌝ }
+    ensures { λ _. ⌜ now (part .exit) ≡ count (blockForwardTurn (now (lower .entry)) (now (residual .entry))) (now (part .entry)) (length (now (residual .entry))) ⌝ }
 {
     let mut row = 0;
     while row < residual.len() {
@@ -37,7 +37,7 @@ fn forward(lower: &[f64; 36], residual: &[f64], part: &mut [f64])
 // `value` less the products of column `row` with what the `below` rows below it have.
 fn less_later(value: f64, lower: &[f64; 36], part: &[f64], row: usize, below: usize) -> f64
     requires { ⌜ (length (now part) ≤ 6) × (row + 1 + below ≡ length (now part)) ⌝ }
-    ensures { λ r. ⌜ r ≡ count (backwardLess (now (lower .entry)) (now (part .entry)) row) value below ⌝ }
+    ensures { λ r. ⌜ r ≡ count (blockBackwardLess (now (lower .entry)) (now (part .entry)) row) value below ⌝ }
 {
     let mut rest = value;
     let mut k = 0;
@@ -51,7 +51,7 @@ fn less_later(value: f64, lower: &[f64; 36], part: &[f64], row: usize, below: us
 
 fn backward_at(lower: &[f64; 36], part: &mut [f64], row: usize) -> Solved
     requires { ⌜ (length (now part) ≤ 6) × (row < length (now part)) ⌝ }
-    ensures { λ r. ⌜ backwardOf (now (lower .entry)) (length (now (part .entry))) row (now (part .entry)) ≡ solveOut r (now (part .exit)) ⌝ }
+    ensures { λ r. ⌜ blockBackwardOf (now (lower .entry)) (length (now (part .entry))) row (now (part .entry)) ≡ solveOut r (now (part .exit)) ⌝ }
 {
     let below = part.len() - 1 - row;
     let value = less_later(part[row], lower, part, row, below) / lower[row * 6 + row];
@@ -64,7 +64,7 @@ fn backward_at(lower: &[f64; 36], part: &mut [f64], row: usize) -> Solved
 
 fn backward(lower: &[f64; 36], part: &mut [f64]) -> Solved
     requires { ⌜ length (now part) ≤ 6 ⌝ }
-    ensures { λ r. ⌜ backwardRun (now (lower .entry)) (length (now (part .entry))) (now (part .entry)) ≡ solveOut r (now (part .exit)) ⌝ }
+    ensures { λ r. ⌜ blockBackwardRun (now (lower .entry)) (length (now (part .entry))) (now (part .entry)) ≡ solveOut r (now (part .exit)) ⌝ }
 {
     let len = part.len();
     let mut t = 0;
@@ -78,10 +78,8 @@ fn backward(lower: &[f64; 36], part: &mut [f64]) -> Solved
     Solved::Done
 }
 
-// A block of the rows `start` .. `start + len - 1`: the lower triangle of its factor has row stride 6.
+// The factor of a block: its lower triangle has row stride 6. Where the block begins and how long it is, the stretches that are lent say.
 pub struct VelocityBlockFactor {
-    pub start: usize,
-    pub len: usize,
     pub lower: [f64; 36],
 }
 

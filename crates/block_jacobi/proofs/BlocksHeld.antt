@@ -13,7 +13,7 @@ use lib.Ieee.{Float}
 use borrow.Author.Tests.{leb-true}
 use Rattle.loops.specs.Run.{Run, going, ended, on, turns, check}
 use Rattle.mass_operator.specs.System.{System}
-use Rattle.block_factor.specs.Answers.{cellRun, columnTurn, rowTurn, rowsRun, noNumbers, blockOf}
+use Rattle.block_factor.specs.Answers.{cellRun, blockColumnTurn, blockRowTurn, rowsRun, noNumbers, blockOf}
 use Rattle.block_jacobi.specs.Runs.{begins, runLength, RunsFit}
 use Rattle.block_jacobi.specs.Blocks.{stretch, putStretch, blockIn, putBlock, blockTurn, blocksRun}
 use Rattle.loops.proofs.Turned.{unlike, turned}
@@ -37,21 +37,21 @@ module _ (l z : List Float) (a n : ℕ) where
   put-length h e = rw (length-append (take a l) (z ++ drop n (drop a l)), length-append z (drop n (drop a l)), length-take-le a l (omega arith), e, length-drop n (drop a l), length-drop a l) (omega arith)
 
 -- ---- a block has 36 numbers, and its run at most six rows
-column-long : (s : System) (start row column : ℕ) (t u : List Float) → columnTurn s start row column t ≡ going u → length u ≡ length t
-unfolding columnTurn on
+column-long : (s : System) (start row column : ℕ) (t u : List Float) → blockColumnTurn s start row column t ≡ going u → length u ≡ length t
+unfolding blockColumnTurn on
 column-long s start row column t u e = by (cellRun s start row column t) e
   where
     by : (r : Run Float ℕ) → on r (λ x. going (set t (row * 6 + column) x)) ended ≡ going u → length u ≡ length t
     by (going x) q = let z : set t (row * 6 + column) x ≡ u = cc in rw (← z) (length-set t (row * 6 + column) x)
     by (ended k) q = unlike k u q
 
-row-long : (s : System) (start row : ℕ) (t u : List Float) → rowTurn s start row t ≡ going u → length u ≡ length t
-unfolding rowTurn
-row-long s start row t u e = turned (columnTurn s start row) t (row + 1) (λ _ v. length v ≡ length t) refl (λ i v w _ h q. column-long s start row i v w q ∙ h) (row + 1) (omega arith) u e
+row-long : (s : System) (start row : ℕ) (t u : List Float) → blockRowTurn s start row t ≡ going u → length u ≡ length t
+unfolding blockRowTurn
+row-long s start row t u e = turned (blockColumnTurn s start row) t (row + 1) (λ _ v. length v ≡ length t) refl (λ i v w _ h q. column-long s start row i v w q ∙ h) (row + 1) (omega arith) u e
 
 pub rows-long : (s : System) (start len : ℕ) (u : List Float) → rowsRun s start len noNumbers ≡ going u → length u ≡ 36
 unfolding rowsRun
-rows-long s start len u e = turned (rowTurn s start) noNumbers len (λ _ v. length v ≡ 36) refl (λ i v w _ h q. row-long s start i v w q ∙ h) len (omega arith) u e
+rows-long s start len u e = turned (blockRowTurn s start) noNumbers len (λ _ v. length v ≡ 36) refl (λ i v w _ h q. row-long s start i v w q ∙ h) len (omega arith) u e
 
 module _ (s : System) (start len : ℕ) (b : List Float) (made : blockOf s start len ≡ going b) where
   by-test : (t : Bool) → leb len 6 ≡ t → check t (rowsRun s start len noNumbers) (ended 11) ≡ going b → (len ≤ 6) × (length b ≡ 36)

@@ -13,7 +13,7 @@ use borrow.Author.Tests.{le-leb, lt-leb}
 use Rattle.loops.specs.Run.{Run, going, ended, on, turns, check}
 use Rattle.loops.proofs.Loop.{on-going, on-ended, At, at-more, at-stop, at-end, at-none}
 use Rattle.mass_operator.specs.System.{System}
-use Rattle.block_factor.specs.Answers.{cellRun, columnTurn, rowTurn, rowsRun, noNumbers, blockOf, cellOut}
+use Rattle.block_factor.specs.Answers.{cellRun, blockColumnTurn, blockRowTurn, rowsRun, noNumbers, blockOf, cellOut}
 use Rattle.block_factor.specs.declared.block.Cell.{Cell}
 use Rattle.block_factor.specs.declared.block.Cell.the-variants as cells
 use Rattle.block_jacobi.specs.Runs.{begins, runLength}
@@ -28,8 +28,8 @@ pub record Pairs (s : System) (start len row column : ℕ) (l : List Float) : Ty
   pub triangle : column ≤ row
   pub fresh : len ≤ row → column ≡ 0
   pub above : List Float
-  pub rows : turns (rowTurn s start) noNumbers row ≡ going above
-  pub columns : turns (columnTurn s start row) above column ≡ going l
+  pub rows : turns (blockRowTurn s start) noNumbers row ≡ going above
+  pub columns : turns (blockColumnTurn s start row) above column ≡ going l
 
 module _ (s : System) (start len : ℕ) where
   pub pairs-none : Pairs s start len 0 0 noNumbers
@@ -37,20 +37,20 @@ module _ (s : System) (start len : ℕ) where
   pairs-none = record { within = omega arith; triangle = omega arith; fresh = λ _. refl; above = noNumbers; rows = refl; columns = refl }
 
   module _ {row column : ℕ} {l : List Float} (h : Pairs s start len row column l) (lt : row < len) where
-    pub pairs-column : {m : List Float} → columnTurn s start row column l ≡ going m → column < row → Pairs s start len row (column + 1) m
+    pub pairs-column : {m : List Float} → blockColumnTurn s start row column l ≡ going m → column < row → Pairs s start len row (column + 1) m
     unfolding turns
     pairs-column e g = record { within = h .within; triangle = omega arith; fresh = λ g. absurd (omega arith); above = h .above; rows = h .rows; columns = rw (add-one column) (on-going _ _ _ (h .columns) ∙ e) }
 
-    whole-row : {m : List Float} → columnTurn s start row column l ≡ going m → row ≤ column → rowTurn s start row (h .above) ≡ going m
-    unfolding rowTurn turns
+    whole-row : {m : List Float} → blockColumnTurn s start row column l ≡ going m → row ≤ column → blockRowTurn s start row (h .above) ≡ going m
+    unfolding blockRowTurn turns
     whole-row e g = let q : column ≡ row = omega (arith, h .triangle) in rw (add-one row) (on-going _ _ _ (rw q at (h .columns)) ∙ rw q at e)
 
-    pub pairs-row : {m : List Float} → columnTurn s start row column l ≡ going m → row ≤ column → Pairs s start len (row + 1) 0 m
+    pub pairs-row : {m : List Float} → blockColumnTurn s start row column l ≡ going m → row ≤ column → Pairs s start len (row + 1) 0 m
     unfolding turns
     pairs-row {m} e g = record { within = omega arith; triangle = omega arith; fresh = λ _. refl; above = m; rows = rw (add-one row) (on-going _ _ _ (h .rows) ∙ whole-row e g); columns = refl }
 
-    pub pairs-stop : {k : ℕ} → columnTurn s start row column l ≡ ended k → rowsRun s start len noNumbers ≡ ended k
-    unfolding rowsRun rowTurn
+    pub pairs-stop : {k : ℕ} → blockColumnTurn s start row column l ≡ ended k → rowsRun s start len noNumbers ≡ ended k
+    unfolding rowsRun blockRowTurn
     pairs-stop e = at-stop (record { within = h .within; led = h .rows }) lt (at-stop (record { within = omega (arith, h .triangle); led = h .columns }) (omega (arith, h .triangle)) e)
 
   pub pairs-end : {row column : ℕ} {l : List Float} → Pairs s start len row column l → len ≤ row → rowsRun s start len noNumbers ≡ going l
@@ -59,12 +59,12 @@ module _ (s : System) (start len : ℕ) where
 
 -- ---- what a call of `cell_at` makes of the numbers
 module _ (s : System) (start row column : ℕ) (l : List Float) (r : Cell) (called : cellRun s start row column l ≡ cellOut r) where
-  pub pair-on : (x : Float) → r ≡ cells.Number x → columnTurn s start row column l ≡ going (set l (row * 6 + column) x)
-  unfolding columnTurn
+  pub pair-on : (x : Float) → r ≡ cells.Number x → blockColumnTurn s start row column l ≡ going (set l (row * 6 + column) x)
+  unfolding blockColumnTurn
   pair-on x t = on-going _ _ _ (called ∙ rw t)
 
-  pub pair-out : (k : ℕ) → r ≡ cells.Refused k → columnTurn s start row column l ≡ ended k
-  unfolding columnTurn
+  pub pair-out : (k : ℕ) → r ≡ cells.Refused k → blockColumnTurn s start row column l ≡ ended k
+  unfolding blockColumnTurn
   pair-out k t = on-ended _ _ _ (called ∙ rw t)
 
 -- ---- a turn of the loop over the runs

@@ -24,7 +24,7 @@ part a n = omega arith
 -- the stretches of a call are those from `start` to `start + len`
 module _ (block : ℕ → List Float) (owner : ℕ → ℕ) (residual y z : List Float) (start len n : ℕ) (b : VelocityBlockFactor) (r : Solved)
     (first : begins owner start ≡ true) (e : len ≡ runLength owner start n) (en : n ≡ length residual)
-    (made : b ≡ record { start = start; len = len; lower = block start })
+    (made : b ≡ record { lower = block start })
     (called : blockSolveRun (b .lower) (take (start + len - start) (drop start residual)) (take (start + len - start) (drop start y)) ≡ solveOut r z) where
   solved : blockSolveRun (block start) (stretch residual start len) (stretch y start len) ≡ solveOut r z
   unfolding stretch

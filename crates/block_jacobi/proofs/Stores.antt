@@ -16,11 +16,11 @@ pub block-read : (l x : List Float) (start : ℕ) → x ≡ take (36 * start + 3
 unfolding blockIn stretch
 block-read l x start e = e ∙ rw (part (36 * start) 36)
 
-abbrev factor : ℕ → ℕ → List Float → VelocityBlockFactor
-factor start len lower = record { start = start; len = len; lower = lower }
+abbrev factor : List Float → VelocityBlockFactor
+factor lower = record { lower = lower }
 
-pub block-made : (l x : List Float) (start len : ℕ) → x ≡ take (36 * start + 36 - 36 * start) (drop (36 * start) l) → factor start len x ≡ factor start len (blockIn l start)
-block-made l x start len e = ap (factor start len) (block-read l x start e)
+pub block-made : (l x : List Float) (start : ℕ) → x ≡ take (36 * start + 36 - 36 * start) (drop (36 * start) l) → factor x ≡ factor (blockIn l start)
+block-made l x start e = ap factor (block-read l x start e)
 
 pub block-put : (l x y : List Float) (start : ℕ) → x ≡ y → take (36 * start) l ++ (x ++ drop (36 * start + 36 - 36 * start) (drop (36 * start) l)) ≡ putBlock l start y
 unfolding putBlock putStretch

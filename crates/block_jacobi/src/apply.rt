@@ -25,7 +25,7 @@ pub fn apply_block_jacobi_preconditioner(
     while start < owners.len() {
         let len = run_length(owners, start);
         let end = start + len;
-        let block = block_at(blocks, start, len);
+        let block = block_at(blocks, start);
         let Solved::Done = solve_block(block, &residual[start..end], &mut output[start..end]) else {
             return Solved::Overflow;
         };

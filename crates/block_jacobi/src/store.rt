@@ -13,16 +13,12 @@ pub fn put_block(blocks: &mut [f64], start: usize, lower: &[f64; 36])
     loops::copy(&mut blocks[at..at + 36], lower);
 }
 
-pub fn block_at(blocks: &[f64], start: usize, len: usize) -> VelocityBlockFactor
+pub fn block_at(blocks: &[f64], start: usize) -> VelocityBlockFactor
     requires { ⌜ 36 * start + 36 ≤ length (now blocks) ⌝ }
-    ensures { λ r. ⌜ r ≡ record { start = start; len = len; lower = blockIn (now (blocks .entry)) start } ⌝ }
+    ensures { λ r. ⌜ r ≡ record { lower = blockIn (now (blocks .entry)) start } ⌝ }
 {
     let at = 36 * start;
     let mut lower = [0.0; 36];
     loops::copy(&mut lower, &blocks[at..at + 36]);
-    VelocityBlockFactor {
-        start: start,
-        len: len,
-        lower: lower,
-    }
+    VelocityBlockFactor { lower: lower }
 }

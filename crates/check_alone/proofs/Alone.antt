@@ -10,11 +10,11 @@ use lib.Ieee.{Float}
 use borrow.Author.Tests.{not-true, eq-eqb}
 use Rattle.loops.specs.Run.{on, check}
 use Rattle.loops.specs.Judge.{judge, test}
-use Rattle.kapitsa_joint.specs.Table.{Table}
+use Rattle.check_range.specs.Closing.{Closing}
 use Rattle.check_refusals.specs.Refusals.{givenFits, workFits, passes3}
 use Rattle.check_refusals.specs.declared.fit.TableLengths.{TableLengths}
 use Rattle.check_refusals.proofs.Fitting.{given-of}
-use Rattle.check_answer.specs.Answer.{judgements, checkOf, CheckMeaning}
+use Rattle.check_answer.specs.Answer.{checkOf, CheckMeaning}
 use Rattle.check_answer.specs.declared.CheckAnswer.{CheckAnswer}
 use Rattle.check_answer.specs.declared.CheckAnswer.the-variants.{Refused}
 use Rattle.check_answer.proofs.Meaning.{means-3}
@@ -44,10 +44,10 @@ taken {n} {b} {l} rows bodies _ _ _ _ _ _ _ g r s j k m x i v z = let given = gi
   sizes = length-take-le _ _ (omega (arith, r, z));
 }
 
-pub alone : {n b : ℕ} {l : TableLengths} {before after : CheckMemory} {t : Table} {x : ℕ → Float} {answer : CheckAnswer} → givenFits n b l ≡ true → Room n b l before
-    → Checked (passes3 n b l (workLengths before)) t x answer before after → (answer ≡ checkOf (givenFits n b l) t x) × CheckMeaning (givenFits n b l) t x answer
-alone {n} {b} {l} {before} g room c = let e = fits-too n b l before g room in (rw e at (c .answered), rw e at (c .means))
+pub alone : {n b : ℕ} {l : TableLengths} {before after : CheckMemory} {c : Closing} {answer : CheckAnswer} → givenFits n b l ≡ true → Room n b l before
+    → Checked (passes3 n b l (workLengths before)) c answer before after → (answer ≡ checkOf (givenFits n b l) c) × CheckMeaning (givenFits n b l) c answer
+alone {n} {b} {l} {before} g room h = let e = fits-too n b l before g room in (rw e at (h .answered), rw e at (h .means))
 
-pub alone-3 : {fits r : Bool} (t : Table) (x : ℕ → Float) → r ≡ fits → not r ≡ true → (Refused 3 ≡ checkOf fits t x) × CheckMeaning fits t x (Refused 3)
-unfolding checkOf judgements judge test check on
-alone-3 {fits} {r} t x e h = let f = sym e ∙ not-true r h in (rw f, means-3 t x f)
+pub alone-3 : {fits r : Bool} (c : Closing) → r ≡ fits → not r ≡ true → (Refused 3 ≡ checkOf fits c) × CheckMeaning fits c (Refused 3)
+unfolding checkOf judge test check on
+alone-3 {fits} {r} c e h = let f = sym e ∙ not-true r h in (rw f, means-3 c f)

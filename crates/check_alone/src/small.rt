@@ -4,6 +4,7 @@ ghost use mathlib.Core.Bool.{true};
 ghost use Prim.Native.Nat.{_≤_};
 ghost use Rattle.kapitsa_joint.specs.Table.{tableOf};
 ghost use Rattle.mass_operator.specs.Flat.{coefficients};
+ghost use Rattle.check_range.specs.Closing.{closingOf};
 ghost use Rattle.check_refusals.specs.Refusals.{givenFits, tableLengths};
 ghost use Rattle.check_answer.specs.Answer.{CheckMeaning};
 ghost use Rattle.check_alone.specs.Checked.{checkedOf};
@@ -26,7 +27,7 @@ fn with_small_memory(
     requires { ⌜ givenFits n b (tableLengths (now numbers) (now words) (now masses) (now multipliers)) ≡ true ⌝ }
     requires { ⌜ (n ≤ 128) × (b ≤ 64) ⌝ }
     ensures { λ r. ⌜ r ≡ checkedOf n b (now (numbers .entry)) (now (words .entry)) (now (masses .entry)) (now (multipliers .entry)) tolerance ⌝ }
-    ensures { λ r. ⌜ CheckMeaning (givenFits n b (tableLengths (now (numbers .entry)) (now (words .entry)) (now (masses .entry)) (now (multipliers .entry)))) (tableOf n b (now (numbers .entry)) (now (words .entry)) (now (masses .entry)) tolerance) (coefficients (now (multipliers .entry))) r ⌝ }
+    ensures { λ r. ⌜ CheckMeaning (givenFits n b (tableLengths (now (numbers .entry)) (now (words .entry)) (now (masses .entry)) (now (multipliers .entry)))) (closingOf (tableOf n b (now (numbers .entry)) (now (words .entry)) (now (masses .entry))) (coefficients (now (multipliers .entry))) tolerance) r ⌝ }
 {
     let mut jacobians: [f64; 1536] = [0.0; 1536];
     let mut links: [u32; 256] = [0; 256];
@@ -71,7 +72,7 @@ pub fn checked_small(
 ) -> CheckAnswer
     requires { ⌜ (n ≤ 128) × (b ≤ 64) ⌝ }
     ensures { λ r. ⌜ r ≡ checkedOf n b (now (numbers .entry)) (now (words .entry)) (now (masses .entry)) (now (multipliers .entry)) tolerance ⌝ }
-    ensures { λ r. ⌜ CheckMeaning (givenFits n b (tableLengths (now (numbers .entry)) (now (words .entry)) (now (masses .entry)) (now (multipliers .entry)))) (tableOf n b (now (numbers .entry)) (now (words .entry)) (now (masses .entry)) tolerance) (coefficients (now (multipliers .entry))) r ⌝ }
+    ensures { λ r. ⌜ CheckMeaning (givenFits n b (tableLengths (now (numbers .entry)) (now (words .entry)) (now (masses .entry)) (now (multipliers .entry)))) (closingOf (tableOf n b (now (numbers .entry)) (now (words .entry)) (now (masses .entry))) (coefficients (now (multipliers .entry))) tolerance) r ⌝ }
 {
     let table = TableLengths {
         numbers: numbers.len(),

@@ -1,42 +1,47 @@
 -- What the check's answer means: a verdict exactly where the refusals named pass, and what closed and open say of the exact gaps. Assumes nothing.
 use Prim.Native.Nat.{ℕ, _+_, _*_, _<_, _≤_}
 use mathlib.Core.Path.{_≡_, refl, sym, ap, _∙_}
-use mathlib.Core.Bool.{Bool, true, false, not, _&&_, true≢false}
-use mathlib.Core.List.{[], _∷_}
-use mathlib.Core.Logic.{inl, inr}
+use mathlib.Core.Bool.{Bool, true, false, _&&_, true≢false}
+use mathlib.Core.List.{List, [], _∷_}
+use mathlib.Core.Logic.{_↔_, inl, inr}
 use native.Mathlib.Omega.{arith}
 use lib.Dec.{T, eqb, ltb}
 use lib.IntN.{pos, _+ℤ_, _*ℤ_}
 use lib.Signed.{_≤ℤ_, _<ℤ_}
 use lib.Ieee.{Float, binary64, le, fits}
 use lib.Ieee.Scale.{finite}
-use borrow.Author.Tests.{not-true, ltb-true}
+use borrow.Author.Tests.{ltb-true}
 use Rattle.loops.specs.Run.{Run, going, ended, on, check}
 use Rattle.loops.specs.Every.{every}
-use Rattle.loops.specs.Judge.{judge, test, FirstToFail}
+use Rattle.loops.specs.Judge.{judge, AllPass, FirstToFail}
+use Rattle.loops.specs.Cleared.{plusZero}
 use Rattle.loops.proofs.Both.{both}
 use Rattle.loops.proofs.Every.{every-iff, every-false}
-use Rattle.loops.proofs.Judge.{judge-ended}
+use Rattle.loops.proofs.Judge.{judge-going, judge-ended}
+use Rattle.loops.proofs.Ranges.{among-judge}
+use Rattle.loops.proofs.Ranges as Ranges
 use Rattle.kapitsa_math.specs.Vector.{absOf}
 use Rattle.kapitsa_math.specs.declared.vector.Vec3.{Vec3}
 use Rattle.kapitsa_joint.specs.Row.{jacobianOf}
 use Rattle.kapitsa_joint.specs.Table.{Table}
-use Rattle.joint_refusals.specs.Refusals.{passes4, passes6, passes7, isValidOf, bodiesBelowOf, jacobiansFiniteOf, scalarsFiniteOf, scalarsInRangeOf}
+use Rattle.joint_refusals.specs.Refusals.{passes7, isValidOf}
+use Rattle.joint_refusals.proofs.Valid.{Bodies, valid-bodies}
 use Rattle.kapitsa_joint.specs.declared.row.RowJacobian.{RowJacobian}
-use Rattle.kapitsa_joint.specs.declared.row.RowWords.{RowWords}
-use Rattle.kapitsa_joint.specs.declared.row.ConstraintRow.{ConstraintRow}
 use Rattle.kapitsa_joint.specs.declared.mass.SolverMass.{SolverMass}
 use Rattle.mass_operator.specs.System.{systemOf}
 use Rattle.check_range.specs.Range.{inRange, vecInRange, matInRange, jacobianInRange, massInRange, rowInRange, tableInRange, passes18}
-use Rattle.check_measure.specs.Verdict.{valueOf, sizeOf, radius, reach, closes}
+use Rattle.check_range.specs.Closing.{Closing}
+use Rattle.check_measure.specs.Verdict.{valueOf, sizeOf, radius, reach, within, closes}
 use Rattle.check_measure.specs.Gap.{gap, scaled, valueZ}
-use Rattle.check_answer.specs.Answer.{judgements, verdictOf, checkOf, CheckMeaning}
+use Rattle.check_refusals.specs.Judged.{tableTests, judgements}
+use Rattle.check_refusals.proofs.Judgement.{passed-7, passed-18}
+use Rattle.check_answer.specs.Answer.{verdictOf, checkOf, Exceeds, CheckMeaning}
 use Rattle.check_answer.specs.declared.CheckAnswer.{CheckAnswer}
 use Rattle.check_answer.specs.declared.CheckAnswer.the-variants.{Closed, Open, Refused}
 use Rattle.check_measure.proofs.Term.{Term, four}
 use Rattle.check_measure.proofs.Values.{Listed, ListedVec, ListedRow, ListedMass, value-term}
 use Rattle.check_answer.proofs.Listed.{listed}
-use Rattle.check_measure.proofs.Radius.{row-closed, row-open}
+use Rattle.check_measure.proofs.Radius.{reach-finite, reach-least, row-closed, row-open}
 
 -- ---- the numbers of a table are doubles
 pub record HeldVec (v : Vec3) : Type 0 where
@@ -56,12 +61,12 @@ pub record HeldMass (m : SolverMass) : Type 0 where
   pub y : HeldVec (m .«inverse_inertia» .y)
   pub z : HeldVec (m .«inverse_inertia» .z)
 
-pub record Held (t : Table) (x : ℕ → Float) : Type 0 where
-  pub row : (i : ℕ) → HeldRow (jacobianOf (t .row i))
-  pub error : (i : ℕ) → T (fits binary64 (t .row i .scalars .error))
-  pub mass : (b : ℕ) → HeldMass (t .mass b)
-  pub list : (i : ℕ) → T (fits binary64 (x i))
-  pub tolerance : (i : ℕ) → T (fits binary64 (t .tolerance i))
+pub record Held (c : Closing) : Type 0 where
+  pub row : (i : ℕ) → HeldRow (jacobianOf (c .table .row i))
+  pub error : (i : ℕ) → T (fits binary64 (c .error i))
+  pub mass : (b : ℕ) → HeldMass (c .table .mass b)
+  pub list : (i : ℕ) → T (fits binary64 (c .listed i))
+  pub tolerance : (i : ℕ) → T (fits binary64 (c .tolerance i))
 
 -- ---- tests taken apart
 listed-vec : (v : Vec3) → HeldVec v → vecInRange v ≡ true → ListedVec v
@@ -80,24 +85,6 @@ listed-mass m t h =
     let (x, y) = both (vecInRange (n .x)) (vecInRange (n .y)) p in
     record { mass = listed (m .«inverse_mass») (t .mass) i; x = listed-vec (n .x) (t .x) x; y = listed-vec (n .y) (t .y) y; z = listed-vec (n .z) (t .z) z }
 
--- the bodies of a valid row
-pub record Bodies (bodies : ℕ) (w : RowWords) : Type 0 where
-  pub apart : eqb (w .«body_a») (w .«body_b») ≡ false
-  pub a : w .«body_a» < bodies
-  pub b : w .«body_b» < bodies
-
-pub valid-bodies : (bodies : ℕ) (r : ConstraintRow) → isValidOf bodies r ≡ true → Bodies bodies (r .words)
-unfolding isValidOf bodiesBelowOf
-valid-bodies bodies r h =
-    let w = r .words in
-    let s = ((not (eqb (w .«body_a») (w .«body_b»)) && ltb (w .«body_a») bodies) && ltb (w .«body_b») bodies) in
-    let (p, _) = both ((s && jacobiansFiniteOf r) && scalarsFiniteOf (r .scalars)) (scalarsInRangeOf (r .scalars)) h in
-    let (q, _) = both (s && jacobiansFiniteOf r) (scalarsFiniteOf (r .scalars)) p in
-    let (u, _) = both s (jacobiansFiniteOf r) q in
-    let (v, b) = both (not (eqb (w .«body_a») (w .«body_b»)) && ltb (w .«body_a») bodies) (ltb (w .«body_b») bodies) u in
-    let (n, a) = both (not (eqb (w .«body_a») (w .«body_b»))) (ltb (w .«body_a») bodies) v in
-    record { apart = not-true (eqb (w .«body_a») (w .«body_b»)) n; a = ltb-true (w .«body_a») bodies a; b = ltb-true (w .«body_b») bodies b }
-
 module _ (j : RowJacobian) (error multiplier : Float) (h : rowInRange j error multiplier ≡ true) where
   row-parts : (jacobianInRange j ≡ true) × (inRange error ≡ true) × (inRange multiplier ≡ true)
   unfolding rowInRange
@@ -115,159 +102,192 @@ listed-row j t h e =
     let (a, b) = both la aa q in
     record { linearA = listed-vec (j .«linear_a») (t .linearA) a; angularA = listed-vec (j .«angular_a») (t .angularA) b; linearB = listed-vec (j .«linear_b») (t .linearB) c; angularB = listed-vec (j .«angular_b») (t .angularB) d; apart = e }
 
--- ---- a table that passed 7 and 18
-module _ (t : Table) (x : ℕ → Float) (held : Held t x) (few : t .rows ≤ 512) (seven : passes7 t ≡ true) (eighteen : passes18 t x ≡ true) where
-  ranges : (every (λ i. rowInRange (jacobianOf (t .row i)) (t .row i .scalars .error) (x i)) (t .rows) ≡ true) × (every (λ b. massInRange (t .mass b)) (t .bodies) ≡ true)
-  unfolding passes18 tableInRange
-  ranges = both (every (λ i. rowInRange (jacobianOf (t .row i)) (t .row i .scalars .error) (x i)) (t .rows)) (every (λ b. massInRange (t .mass b)) (t .bodies)) eighteen
+-- ---- a check that passed 7 and 18
+module _ (c : Closing) (held : Held c) (few : c .table .rows ≤ 512) (seven : passes7 (c .table) ≡ true) (eighteen : passes18 c ≡ true) where
+  abbrev t : Table
+  t = c .table
 
-  in-row : (i : ℕ) → i < t .rows → rowInRange (jacobianOf (t .row i)) (t .row i .scalars .error) (x i) ≡ true
-  in-row i h = every-iff (λ i. rowInRange (jacobianOf (t .row i)) (t .row i .scalars .error) (x i)) (t .rows) .0 (ranges .0) i h
+  ranges : (every (λ i. rowInRange (jacobianOf (t .row i)) (c .error i) (c .listed i)) (t .rows) ≡ true) × (every (λ b. massInRange (t .mass b)) (t .bodies) ≡ true)
+  unfolding tableInRange
+  ranges = both (every (λ i. rowInRange (jacobianOf (t .row i)) (c .error i) (c .listed i)) (t .rows)) (every (λ b. massInRange (t .mass b)) (t .bodies)) eighteen
+
+  in-row : (i : ℕ) → i < t .rows → (jacobianInRange (jacobianOf (t .row i)) ≡ true) × (inRange (c .error i) ≡ true) × (inRange (c .listed i) ≡ true)
+  in-row i h = row-parts (jacobianOf (t .row i)) (c .error i) (c .listed i) (every-iff (λ i. rowInRange (jacobianOf (t .row i)) (c .error i) (c .listed i)) (t .rows) .0 (ranges .0) i h)
 
   bodies-of : (i : ℕ) → i < t .rows → Bodies (t .bodies) (t .row i .words)
   unfolding passes7
   bodies-of i h = valid-bodies (t .bodies) (t .row i) (every-iff (λ i. isValidOf (t .bodies) (t .row i)) (t .rows) .0 seven i h)
 
-  error-listed : (i : ℕ) → i < t .rows → Listed (t .row i .scalars .error)
-  error-listed i h = listed (t .row i .scalars .error) (held .error i) (row-parts (jacobianOf (t .row i)) (t .row i .scalars .error) (x i) (in-row i h) .1)
+  error-listed : (i : ℕ) → i < t .rows → Listed (c .error i)
+  error-listed i h = listed (c .error i) (held .error i) (in-row i h .1)
 
-  term-of : (i : ℕ) → i < t .rows → Term four (t .rows + 10) (36 * t .rows) (valueOf t x i) (sizeOf t x i) (valueZ (systemOf t) x i)
+  term-of : (i : ℕ) → i < t .rows → Term four (t .rows + 10) (36 * t .rows) (valueOf c i) (sizeOf c i) (valueZ (systemOf t) (c .listed) i)
   unfolding valueOf sizeOf jacobianOf
   term-of i h =
-      value-term (systemOf t) x
-      (λ k p. listed-row (jacobianOf (t .row k)) (held .row k) (row-parts (jacobianOf (t .row k)) (t .row k .scalars .error) (x k) (in-row k p) .0) (bodies-of k p .apart))
-      (λ k p. listed (x k) (held .list k) (row-parts (jacobianOf (t .row k)) (t .row k .scalars .error) (x k) (in-row k p) .2))
+      value-term (systemOf t) (c .listed)
+      (λ k p. listed-row (jacobianOf (t .row k)) (held .row k) (in-row k p .0) (bodies-of k p .apart))
+      (λ k p. listed (c .listed k) (held .list k) (in-row k p .2))
       (λ b p. listed-mass (t .mass b) (held .mass b) (every-iff (λ b. massInRange (t .mass b)) (t .bodies) .0 (ranges .1) b p))
       few i h (bodies-of i h .a) (bodies-of i h .b)
 
-  closed-row : (i : ℕ) → i < t .rows → T (finite (t .tolerance i)) → le (reach t x i) (t .tolerance i) ≡ true → pos (gap t x i) ≤ℤ scaled (t .tolerance i)
+  reach-row : (i : ℕ) → i < t .rows → T (finite (reach c i)) × (le plusZero (reach c i) ≡ true)
+  unfolding reach
+  reach-row i h = (
+    reach-finite (t .rows) few (c .error i) (valueOf c i) (sizeOf c i) (valueZ (systemOf t) (c .listed) i) (error-listed i h) (term-of i h),
+    reach-least (t .rows) few (c .error i) (valueOf c i) (sizeOf c i) (valueZ (systemOf t) (c .listed) i) (error-listed i h) (term-of i h),
+  )
+
+  closed-row : (i : ℕ) → i < t .rows → within c i ≡ true → T (finite (c .tolerance i)) → pos (gap c i) ≤ℤ scaled (c .tolerance i)
   unfolding reach gap
-  closed-row i h f e = row-closed (t .rows) few (t .row i .scalars .error) (valueOf t x i) (sizeOf t x i) (valueZ (systemOf t) x i) (error-listed i h) (term-of i h) (t .tolerance i) (held .tolerance i) f e
+  closed-row i h e f = row-closed (t .rows) few (c .error i) (valueOf c i) (sizeOf c i) (valueZ (systemOf t) (c .listed) i) (error-listed i h) (term-of i h) (c .tolerance i) (held .tolerance i) f e
 
-  open-row : (i : ℕ) → i < t .rows → T (finite (t .tolerance i)) → le (reach t x i) (t .tolerance i) ≡ false → scaled (t .tolerance i) <ℤ (pos (gap t x i) +ℤ pos 2 *ℤ scaled (radius t x i))
+  open-row : (i : ℕ) → i < t .rows → within c i ≡ false → T (finite (c .tolerance i)) → scaled (c .tolerance i) <ℤ (pos (gap c i) +ℤ pos 2 *ℤ scaled (radius c i))
   unfolding reach gap radius
-  open-row i h f e = row-open (t .rows) few (t .row i .scalars .error) (valueOf t x i) (sizeOf t x i) (valueZ (systemOf t) x i) (error-listed i h) (term-of i h) (t .tolerance i) (held .tolerance i) f e
+  open-row i h e f = row-open (t .rows) few (c .error i) (valueOf c i) (sizeOf c i) (valueZ (systemOf t) (c .listed) i) (error-listed i h) (term-of i h) (c .tolerance i) (held .tolerance i) f e
 
--- ---- five tests in order, then the verdict
-unfoldable answered : Bool → Bool → Bool → Bool → Bool → CheckAnswer → CheckAnswer
-answered a b c d e v = on (judge ((3, a) ∷ (4, b) ∷ (6, c) ∷ (7, d) ∷ (18, e) ∷ [])) (λ _. v) Refused
+-- ---- tests in order, then an answer that is no refusal
+module _ (l : List (ℕ × Bool)) (v : CheckAnswer) where
+  answered : AllPass l → on (judge l) (λ _. v) Refused ≡ v
+  unfolding on
+  answered p = rw (judge-going l .1 p)
 
-abbrev AllPass : Bool → Bool → Bool → Bool → Bool → Type 0
-AllPass a b c d e = (a ≡ true) × (b ≡ true) × (c ≡ true) × (d ≡ true) × (e ≡ true)
-
-all-pass : (a b c d e : Bool) (v : CheckAnswer) → ((n : ℕ) → answered a b c d e v ≡ Refused n → ⊥) → AllPass a b c d e
-unfolding answered judge test check on
-all-pass false b c d e v h = absurd (h 3 refl)
-all-pass true false c d e v h = absurd (h 4 refl)
-all-pass true true false d e v h = absurd (h 6 refl)
-all-pass true true true false e v h = absurd (h 7 refl)
-all-pass true true true true false v h = absurd (h 18 refl)
-all-pass true true true true true v h = (refl, refl, refl, refl, refl)
-
-passed : (a b c d e : Bool) (v : CheckAnswer) → AllPass a b c d e → answered a b c d e v ≡ v
-unfolding answered judge test check on
-passed a b c d e v (p, q, r, s, t) = rw (p, q, r, s, t)
-
-is-answered : (fits : Bool) (t : Table) (x : ℕ → Float) → checkOf fits t x ≡ answered fits (passes4 t) (passes6 t) (passes7 t) (passes18 t x) (verdictOf t x)
-unfolding checkOf answered judgements
-is-answered fits t x = refl
-
--- a verdict is no refusal
-no-refusal : (t : Table) (x : ℕ → Float) (n : ℕ) → verdictOf t x ≡ Refused n → ⊥
-unfolding verdictOf check
-no-refusal t x n = go (closes t x)
-  where
-    go : (b : Bool) → check b Closed Open ≡ Refused n → ⊥
-    go true h = let z : _≡_ {A = ℕ} 0 1 = cc in omega arith
-    go false h = let z : _≡_ {A = ℕ} 0 1 = cc in omega arith
-
-module _ (fits : Bool) (t : Table) (x : ℕ → Float) (held : Held t x) (few : fits ≡ true → t .rows ≤ 512) where
-  abbrev Passes : Type 0
-  Passes = AllPass fits (passes4 t) (passes6 t) (passes7 t) (passes18 t x)
-
-  verdict-of : Passes → checkOf fits t x ≡ verdictOf t x
-  verdict-of p = is-answered fits t x ∙ passed fits (passes4 t) (passes6 t) (passes7 t) (passes18 t x) (verdictOf t x) p
-
-  passes-of : ((n : ℕ) → checkOf fits t x ≡ Refused n → ⊥) → Passes
-  passes-of h = all-pass fits (passes4 t) (passes6 t) (passes7 t) (passes18 t x) (verdictOf t x) (λ n e. h n (is-answered fits t x ∙ e))
-
-  refused-there : (n : ℕ) → checkOf fits t x ≡ Refused n → judge (judgements fits t x) ≡ ended n
-  unfolding checkOf on
-  refused-there n h = go (judge (judgements fits t x)) h
+  passes : ((n : ℕ) → on (judge l) (λ _. v) Refused ≡ Refused n → ⊥) → AllPass l
+  unfolding on
+  passes h = judge-going l .0 (go (judge l) h)
     where
-      go : (r : Run Unit ℕ) → on r (λ _. verdictOf t x) Refused ≡ Refused n → r ≡ ended n
-      go (going u) h = absurd (no-refusal t x n h)
+      go : (r : Run Unit ℕ) → ((n : ℕ) → on r (λ _. v) Refused ≡ Refused n → ⊥) → r ≡ going tt
+      go (going u) h = refl
+      go (ended m) h = absurd (h m refl)
+
+  refusals : ((n : ℕ) → v ≡ Refused n → ⊥) → (n : ℕ) → (on (judge l) (λ _. v) Refused ≡ Refused n) ↔ FirstToFail l n
+  unfolding on
+  refusals none n = (λ h. judge-ended l n .0 (go (judge l) h), λ h. rw (judge-ended l n .1 h))
+    where
+      go : (r : Run Unit ℕ) → on r (λ _. v) Refused ≡ Refused n → r ≡ ended n
+      go (going u) h = absurd (none n h)
       go (ended m) h = cc
 
-  refused-back : (n : ℕ) → judge (judgements fits t x) ≡ ended n → checkOf fits t x ≡ Refused n
-  unfolding checkOf on
-  refused-back n h = rw h
-
-  -- neither Closed nor Open is a refusal
-  closed-passes : checkOf fits t x ≡ Closed → Passes
-  closed-passes h = passes-of (λ n e. let z : _≡_ {A = ℕ} 0 1 = cc in omega arith)
-
-  open-passes : checkOf fits t x ≡ Open → Passes
-  open-passes h = passes-of (λ n e. let z : _≡_ {A = ℕ} 0 1 = cc in omega arith)
-
-  closed-closes : verdictOf t x ≡ Closed → closes t x ≡ true
+-- ---- the verdict: no refusal, and closed exactly where the rows close
+module _ (c : Closing) where
+  no-refusal : (n : ℕ) → verdictOf c ≡ Refused n → ⊥
   unfolding verdictOf check
-  closed-closes = go (closes t x)
+  no-refusal n h = go (closes c) refl
     where
-      go : (b : Bool) → check b Closed Open ≡ Closed → b ≡ true
-      go true h = refl
-      go false h = let z : _≡_ {A = ℕ} 0 1 = cc in absurd (omega arith)
+      go : (b : Bool) → closes c ≡ b → ⊥
+      go true e = let k = rw e at h in let z : _≡_ {A = ℕ} 0 1 = cc in omega arith
+      go false e = let k = rw e at h in let z : _≡_ {A = ℕ} 0 1 = cc in omega arith
 
-  open-misses : verdictOf t x ≡ Open → closes t x ≡ false
+  closed-closes : verdictOf c ≡ Closed → closes c ≡ true
   unfolding verdictOf check
-  open-misses = go (closes t x)
+  closed-closes h = go (closes c) refl
     where
-      go : (b : Bool) → check b Closed Open ≡ Open → b ≡ false
-      go true h = let z : _≡_ {A = ℕ} 0 1 = cc in absurd (omega arith)
-      go false h = refl
+      go : (b : Bool) → closes c ≡ b → closes c ≡ true
+      go true e = e
+      go false e = let k = rw e at h in let z : _≡_ {A = ℕ} 0 1 = cc in absurd (omega arith)
 
-  pub means : CheckMeaning fits t x (checkOf fits t x)
-  means = record {
-    verdict = (passes-of, λ p n h. no-refusal t x n (sym (verdict-of p) ∙ h));
-    refused = λ n. (λ h. judge-ended (judgements fits t x) n .0 (refused-there n h), λ h. refused-back n (judge-ended (judgements fits t x) n .1 h));
-    closed = λ h i l f.
-        let p = closed-passes h in
-        closed-row t x held (few (p .0)) (p .3) (p .4) i l f (every-iff (λ i. le (reach t x i) (t .tolerance i)) (t .rows) .0 (closes-is (closed-closes (sym (verdict-of p) ∙ h))) i l);
-    opened = λ h f.
-        let p = open-passes h in
-        let (i, l, e) = every-false (λ i. le (reach t x i) (t .tolerance i)) (t .rows) (misses-is (open-misses (sym (verdict-of p) ∙ h))) in
-        (i, l, open-row t x held (few (p .0)) (p .3) (p .4) i l (f i l) e);
-  }
+  open-misses : verdictOf c ≡ Open → closes c ≡ false
+  unfolding verdictOf check
+  open-misses h = go (closes c) refl
     where
-      closes-is : closes t x ≡ true → every (λ i. le (reach t x i) (t .tolerance i)) (t .rows) ≡ true
-      closes-is h = unfold closes in h
+      go : (b : Bool) → closes c ≡ b → closes c ≡ false
+      go true e = let k = rw e at h in let z : _≡_ {A = ℕ} 0 1 = cc in absurd (omega arith)
+      go false e = e
 
-      misses-is : closes t x ≡ false → every (λ i. le (reach t x i) (t .tolerance i)) (t .rows) ≡ false
-      misses-is h = unfold closes in h
+-- neither Closed nor Open is a refusal
+closed-apart : {a : CheckAnswer} → a ≡ Closed → (n : ℕ) → a ≡ Refused n → ⊥
+closed-apart h n e = let z : _≡_ {A = ℕ} 0 1 = cc in omega arith
 
-pub means-of : (fits : Bool) (t : Table) (x : ℕ → Float) {r : CheckAnswer} → Held t x → (fits ≡ true → t .rows ≤ 512) → r ≡ checkOf fits t x → CheckMeaning fits t x r
-means-of fits t x held few e = rw e (means fits t x held few)
+open-apart : {a : CheckAnswer} → a ≡ Open → (n : ℕ) → a ≡ Refused n → ⊥
+open-apart h n e = let z : _≡_ {A = ℕ} 0 1 = cc in omega arith
+
+module _ (fits : Bool) (c : Closing) where
+  abbrev Verdict : Type 0
+  Verdict = (n : ℕ) → checkOf fits c ≡ Refused n → ⊥
+
+  pub passes-of : Verdict → AllPass (judgements fits c)
+  unfolding checkOf
+  passes-of h = passes (judgements fits c) (verdictOf c) h
+
+  pub verdict-of : AllPass (judgements fits c) → checkOf fits c ≡ verdictOf c
+  unfolding checkOf
+  verdict-of p = answered (judgements fits c) (verdictOf c) p
+
+  refused-of : (n : ℕ) → (checkOf fits c ≡ Refused n) ↔ FirstToFail (judgements fits c) n
+  unfolding checkOf
+  refused-of = refusals (judgements fits c) (verdictOf c) (no-refusal c)
+
+  -- the rows' part of the verdict
+  closes-every : closes c ≡ every (within c) (c .table .rows)
+  unfolding closes
+  closes-every = refl
+
+  module _ (held : Held c) (few : fits ≡ true → c .table .rows ≤ 512) where
+    module _ (p : AllPass (judgements fits c)) where
+      few-of : c .table .rows ≤ 512
+      unfolding AllPass
+      few-of = few (p .0)
+
+      tests-of : AllPass (tableTests (c .table) (c .error) (c .listed))
+      unfolding AllPass
+      tests-of = p .1
+
+      seven-of : passes7 (c .table) ≡ true
+      seven-of = passed-7 (c .table) (c .error) (c .listed) tests-of
+
+      eighteen-of : passes18 c ≡ true
+      eighteen-of = passed-18 (c .table) (c .error) (c .listed) tests-of
+
+    pub reaches-of : Verdict → (i : ℕ) → i < c .table .rows → T (finite (reach c i)) × (le plusZero (reach c i) ≡ true)
+    reaches-of h = let p = passes-of h in reach-row c held (few-of p) (seven-of p) (eighteen-of p)
+
+    closed-of : checkOf fits c ≡ Closed → (i : ℕ) → i < c .table .rows → T (finite (c .tolerance i)) → pos (gap c i) ≤ℤ scaled (c .tolerance i)
+    closed-of h i l =
+        let p = passes-of (closed-apart h) in
+        closed-row c held (few-of p) (seven-of p) (eighteen-of p) i l (every-iff (within c) (c .table .rows) .0 (sym closes-every ∙ closed-closes c (sym (verdict-of p) ∙ h)) i l)
+
+    opened-of : checkOf fits c ≡ Open → (i : ℕ) × Exceeds c i
+    opened-of h =
+        let p = passes-of (open-apart h) in
+        let (i, l, e) = every-false (within c) (c .table .rows) (sym closes-every ∙ open-misses c (sym (verdict-of p) ∙ h)) in
+        (i, record { row = l; misses = e; exceeds = open-row c held (few-of p) (seven-of p) (eighteen-of p) i l e })
+
+    pub means : CheckMeaning fits c (checkOf fits c)
+    means = record {
+      verdict = (passes-of, λ p n h. no-refusal c n (sym (verdict-of p) ∙ h));
+      refused = refused-of;
+      reaches = reaches-of;
+      closed = closed-of;
+      opened = opened-of;
+    }
+
+pub means-of : (fits : Bool) (c : Closing) {r : CheckAnswer} → Held c → (fits ≡ true → c .table .rows ≤ 512) → r ≡ checkOf fits c → CheckMeaning fits c r
+means-of fits c held few e = rw e (means fits c held few)
 
 -- refusal 3 turns every check back
-pub means-3 : {fits : Bool} (t : Table) (x : ℕ → Float) → fits ≡ false → CheckMeaning fits t x (Refused 3)
-unfolding judgements FirstToFail
-means-3 {fits} t x e = record {
+pub means-3 : {fits : Bool} (c : Closing) → fits ≡ false → CheckMeaning fits c (Refused 3)
+unfolding AllPass FirstToFail
+means-3 {fits} c e = record {
   verdict = (λ h. absurd (h 3 refl), λ p n h. true≢false (sym (p .0) ∙ e));
   refused = λ n. (λ h. inl (e, cc), back n);
-  closed = λ h. let z : _≡_ {A = ℕ} 0 1 = cc in absurd (omega arith);
-  opened = λ h. let z : _≡_ {A = ℕ} 0 1 = cc in absurd (omega arith);
+  reaches = λ h. absurd (h 3 refl);
+  closed = λ h. absurd (closed-apart h 3 refl);
+  opened = λ h. absurd (open-apart h 3 refl);
 }
   where
-    back : (n : ℕ) → FirstToFail (judgements fits t x) n → Refused 3 ≡ Refused n
+    back : (n : ℕ) → FirstToFail (judgements fits c) n → Refused 3 ≡ Refused n
     back n (inl h) = ap Refused (h .1)
     back n (inr h) = absurd (true≢false (sym (h .0) ∙ e))
 
--- the refusals are 3, 4, 6, 7 and 18: none has the number of a verdict
-pub refusal-above : (fits : Bool) (t : Table) (x : ℕ → Float) (n : ℕ) → FirstToFail (judgements fits t x) n → 1 < n
-unfolding judgements FirstToFail
-refusal-above fits t x n (inl (_, e)) = omega arith
-refusal-above fits t x n (inr (_, inl (_, e))) = omega arith
-refusal-above fits t x n (inr (_, inr (_, inl (_, e)))) = omega arith
-refusal-above fits t x n (inr (_, inr (_, inr (_, inl (_, e))))) = omega arith
-refusal-above fits t x n (inr (_, inr (_, inr (_, inr (_, inl (_, e)))))) = omega arith
-refusal-above fits t x n (inr (_, inr (_, inr (_, inr (_, inr (_, none)))))) = absurd none
+-- ---- no refusal has the number of a verdict
+unfoldable numbersAbove : ℕ → List (ℕ × Bool) → Bool
+numbersAbove k [] = true
+numbersAbove k (t ∷ l) = ltb k (t .0) && numbersAbove k l
+
+listed-above : (k : ℕ) (l : List (ℕ × Bool)) → numbersAbove k l ≡ true → Ranges.Listed (λ n. k < n) l
+unfolding numbersAbove Ranges.Listed
+listed-above k [] h = tt
+listed-above k (t ∷ l) h = let (p, q) = both (ltb k (t .0)) (numbersAbove k l) h in (ltb-true k (t .0) p, listed-above k l q)
+
+pub refusal-above : (fits : Bool) (c : Closing) (n : ℕ) → FirstToFail (judgements fits c) n → 1 < n
+unfolding numbersAbove
+refusal-above fits c n h = among-judge (λ n. 1 < n) (judgements fits c) (listed-above 1 (judgements fits c) refl) n (judge-ended (judgements fits c) n .1 h)

@@ -1,4 +1,5 @@
--- What proves the radius: sizes in lent memory, and the running error analysis of the operator up to one row's verdict.
+-- What proves the radius: reaches and sizes in lent memory, and the running error analysis of the operator up to one row's verdict.
+pub mod InPlace
 pub mod SizesOf
 pub mod Term
 pub mod Vectors

@@ -1,4 +1,4 @@
--- One row's verdict: its reach does not overflow, and it is within a tolerance only if the exact gap is, and not within it only if the exact gap with twice the radius is not. Assumes nothing.
+-- One row's verdict: its reach does not overflow and is at least +0.0, and it is within a tolerance only if the exact gap is, and not within it only if the exact gap with twice the radius is not. Assumes nothing.
 use Prim.Native.Nat.{ℕ, zero, suc, _+_, _*_, _^_, _<_, _≤_, zero-le}
 use mathlib.Core.Path.{_≡_, refl, sym, ap, _∙_, subst}
 use mathlib.Core.Bool.{true, false}
@@ -11,10 +11,13 @@ use lib.Pow.{pow-pos}
 use lib.Ieee.{Float, binary64, mul, neg, le, fits, ofInt, ofBits}
 use lib.Ieee.Fits.{mul-fits}
 use lib.Ieee.Scale.{finite}
+use borrow.Author.Tests.{le-leb}
+use Rattle.loops.specs.Cleared.{plusZero}
 use Rattle.binary64.specs.Units.{unitsOf}
 use Rattle.binary64.specs.Order.{absolute}
 use Rattle.rounding.specs.Value.{plus, less}
 use Rattle.rounding.proofs.Parts.{Parts}
+use Rattle.rounding.proofs.Compare.{le-is}
 use Rattle.rounding.proofs.Near.{Near, near-neg, near-scale, near-weaken, near-sub}
 use Rattle.rounding.proofs.Absolute.{absolute-fits, absolute-finite, absolute-parts}
 use Rattle.rounding.proofs.Most.{Most, most-add, most-mul, most-weaken}
@@ -22,7 +25,7 @@ use Rattle.rounding.proofs.Factor.{factor-finite, factor-parts}
 use Rattle.rounding.proofs.Verdict as Verdict
 use Rattle.check_measure.specs.Verdict.{measuredOf, weightOf, tick, radiusFactor, radiusOf, reachOf}
 use Rattle.check_measure.specs.Gap.{exact, scale, scaled}
-use Rattle.check_measure.proofs.Term.{four, Term}
+use Rattle.check_measure.proofs.Term.{four, Term, zero-fits, zero-finite, zero-plus}
 use Rattle.check_measure.proofs.Values.{Listed}
 
 -- ---- (n+16) * 2^-51
@@ -124,9 +127,22 @@ module _ (n : ℕ) (few : n ≤ 512) (error value size : Float) (Z : ℤ) (liste
       most-weaken binary64 9732624 1623 9732624 1674 (mul binary64 w (radiusFactor n)) (lit≤ tt)
       (most-mul binary64 18433 528 1674 1023 1623 w (radiusFactor n) (lit< tt) (lit< tt) refl weight-most (factor-most n few))
 
-  pub reach-finite : T (finite (reachOf n error value size))
+  reach-most : Most binary64 9751057 1674 (reachOf n error value size)
   unfolding reachOf
-  reach-finite = most-add binary64 18433 9732624 1674 (absolute r) (radiusOf n error size) (lit< tt) (lit< tt) measured-most radius-most .isFinite
+  reach-most = most-add binary64 18433 9732624 1674 (absolute r) (radiusOf n error size) (lit< tt) (lit< tt) measured-most radius-most
+
+  pub reach-finite : T (finite (reachOf n error value size))
+  reach-finite = reach-most .isFinite
+
+  -- and it is no negative number
+  pub reach-least : le plusZero (reachOf n error value size) ≡ true
+  reach-least =
+      let z = reachOf n error value size in
+      le-is binary64 plusZero z zero-fits (reach-most .held) zero-finite reach-finite
+      ∙ le-leb (plus binary64 plusZero + less binary64 z) (plus binary64 z + less binary64 plusZero) (none (plus binary64 plusZero) (less binary64 z) (plus binary64 z + less binary64 plusZero) zero-plus (reach-most .noLess))
+    where
+      none : (a b c : ℕ) → a ≡ 0 → b ≡ 0 → a + b ≤ c
+      none a b c p q = omega arith
 
   module _ (tolerance : Float) (held : T (fits binary64 tolerance)) (isFinite : T (finite tolerance)) where
     pub row-closed : le (reachOf n error value size) tolerance ≡ true → pos (natAbs (scaled error +ℤ Z)) ≤ℤ scaled tolerance

@@ -114,19 +114,19 @@ module _ (L M : Level) (u : Up L M) (k A : ℕ) (K : k ≤ 4000) (few : A < 2 ^ 
   }
 
 -- ---- +0.0
-zero-fits : T (fits binary64 plusZero)
+pub zero-fits : T (fits binary64 plusZero)
 unfolding ofBits fits
 zero-fits = tt
 
-zero-finite : T (finite plusZero)
+pub zero-finite : T (finite plusZero)
 unfolding ofBits
 zero-finite = tt
 
-zero-plus : plus binary64 plusZero ≡ 0
+pub zero-plus : plus binary64 plusZero ≡ 0
 unfolding ofBits plus unitsOf
 zero-plus = refl
 
-zero-less : less binary64 plusZero ≡ 0
+pub zero-less : less binary64 plusZero ≡ 0
 unfolding ofBits less unitsOf
 zero-less = refl
 

@@ -8,10 +8,10 @@ use lib.Ieee.{Float, binary64}
 use Rattle.rounding.specs.Value.{val}
 use Rattle.kapitsa_math.specs.declared.vector.Vec3.{Vec3}
 use Rattle.kapitsa_math.specs.declared.matrix.Mat3.{Mat3}
-use Rattle.kapitsa_joint.specs.Table.{Table}
 use Rattle.kapitsa_joint.specs.declared.row.RowJacobian.{RowJacobian}
 use Rattle.kapitsa_joint.specs.declared.mass.SolverMass.{SolverMass}
 use Rattle.mass_operator.specs.System.{System, systemOf}
+use Rattle.check_range.specs.Closing.{Closing}
 
 -- a double as a whole number of units, and a vector of such
 abbrev pub exact : Float → ℤ
@@ -79,5 +79,5 @@ scale = 2 ^ 3222
 abbrev pub scaled : Float → ℤ
 scaled x = exact x *ℤ pos scale
 
-unfoldable pub gap : Table → (ℕ → Float) → ℕ → ℕ
-gap t x i = natAbs (scaled (t .row i .scalars .error) +ℤ valueZ (systemOf t) x i)
+unfoldable pub gap : Closing → ℕ → ℕ
+gap c i = natAbs (scaled (c .error i) +ℤ valueZ (systemOf (c .table)) (c .listed) i)

@@ -1,4 +1,4 @@
--- A row's part of the verdict, from the values and sizes in the work memory.
+-- Every row's reach and the verdict, from what the work memory holds.
 use Prim.Native.Nat.{ℕ, _+_, _*_}
 use mathlib.Core.Bool.{Bool}
 use mathlib.Core.List.{List}
@@ -8,5 +8,10 @@ use Rattle.kapitsa_joint.specs.Tolerance.{dimensionOf, toleranceOf}
 use Rattle.kapitsa_joint.specs.declared.tolerance.JointTolerance.{JointTolerance}
 use Rattle.check_measure.specs.Verdict.{reachOf}
 
-unfoldable pub rowCloses : List Float → List ℕ → List Float → List Float → JointTolerance → ℕ → ℕ → Bool
-rowCloses numbers words values sizes tolerance n i = le (reachOf n (getD numbers (27 * i + 15) nan) (getD values i nan) (getD sizes i nan)) (toleranceOf tolerance (dimensionOf (getD words (8 * i + 1) 0)))
+-- from the rows' numbers, their values and their values on sizes
+unfoldable pub reachIn : List Float → List Float → List Float → ℕ → ℕ → Float
+reachIn numbers values sizes n i = reachOf n (getD numbers (27 * i + 15) nan) (getD values i nan) (getD sizes i nan)
+
+-- a listed reach against its row's tolerance
+unfoldable pub withinIn : List ℕ → List Float → JointTolerance → ℕ → Bool
+withinIn words reaches tolerance i = le (getD reaches i nan) (toleranceOf tolerance (dimensionOf (getD words (8 * i + 1) 0)))

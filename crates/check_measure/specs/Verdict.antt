@@ -1,4 +1,4 @@
--- Document 01, "The closing check", in doubles: the measured gap, its radius and the verdict. `x i` is the listed multiplier of row i.
+-- Document 01, "The closing check", in doubles: the measured gap, its radius and the verdict.
 use Prim.Native.Nat.{ℕ, _+_}
 use mathlib.Core.Bool.{Bool}
 use lib.IntN.{pos}
@@ -7,11 +7,11 @@ use Rattle.loops.specs.Every.{every}
 use Rattle.binary64.specs.Order.{absolute}
 use Rattle.kapitsa_math.specs.Vector.{absOf}
 use Rattle.kapitsa_math.specs.Matrix.{absColumnsOf}
-use Rattle.kapitsa_joint.specs.Table.{Table}
 use Rattle.kapitsa_joint.specs.declared.row.RowJacobian.{RowJacobian}
 use Rattle.kapitsa_joint.specs.declared.mass.SolverMass.{SolverMass}
 use Rattle.mass_operator.specs.System.{System, systemOf}
 use Rattle.mass_operator.specs.Operator.{valueAt}
+use Rattle.check_range.specs.Closing.{Closing}
 
 -- ---- "with every input replaced by its size"
 unfoldable pub sizeOfRow : RowJacobian → RowJacobian
@@ -48,20 +48,24 @@ radiusOf n error size = mul binary64 (weightOf error size) (radiusFactor n)
 unfoldable pub reachOf : ℕ → Float → Float → Float → Float
 reachOf n error value size = add binary64 (absolute (measuredOf error value)) (radiusOf n error size)
 
--- ---- of row i of a table
-module _ (t : Table) (x : ℕ → Float) where
+-- ---- of row i of what a check is given
+module _ (c : Closing) where
   unfoldable pub valueOf : ℕ → Float
-  valueOf i = valueAt (systemOf t) x i
+  valueOf i = valueAt (systemOf (c .table)) (c .listed) i
 
   unfoldable pub sizeOf : ℕ → Float
-  sizeOf i = valueAt (sizesOf (systemOf t)) (λ k. absolute (x k)) i
+  sizeOf i = valueAt (sizesOf (systemOf (c .table))) (λ k. absolute (c .listed k)) i
 
   unfoldable pub radius : ℕ → Float
-  radius i = radiusOf (t .rows) (t .row i .scalars .error) (sizeOf i)
+  radius i = radiusOf (c .table .rows) (c .error i) (sizeOf i)
 
   unfoldable pub reach : ℕ → Float
-  reach i = reachOf (t .rows) (t .row i .scalars .error) (valueOf i) (sizeOf i)
+  reach i = reachOf (c .table .rows) (c .error i) (valueOf i) (sizeOf i)
+
+  -- "rounded |r| + E ≤ tolerance"
+  abbrev pub within : ℕ → Bool
+  within i = le (reach i) (c .tolerance i)
 
   -- "Closed exactly when each rounded |r| + E ≤ tolerance."
   unfoldable pub closes : Bool
-  closes = every (λ i. le (reach i) (t .tolerance i)) (t .rows)
+  closes = every within (c .table .rows)

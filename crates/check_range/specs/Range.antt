@@ -8,9 +8,9 @@ use Rattle.kapitsa_math.specs.declared.vector.Vec3.{Vec3}
 use Rattle.kapitsa_math.specs.declared.matrix.Mat3.{Mat3}
 use Rattle.kapitsa_joint.specs.Row.{jacobianOf}
 use Rattle.kapitsa_joint.specs.Table.{Table}
-use Rattle.kapitsa_joint.specs.declared.row.ConstraintRow.{ConstraintRow}
 use Rattle.kapitsa_joint.specs.declared.row.RowJacobian.{RowJacobian}
 use Rattle.kapitsa_joint.specs.declared.mass.SolverMass.{SolverMass}
+use Rattle.check_range.specs.Closing.{Closing}
 
 abbrev pub least : Float
 least = ofBits binary64 0x3690_0000_0000_0000
@@ -36,9 +36,9 @@ massInRange m = inRange (m .«inverse_mass») && matInRange (m .«inverse_inerti
 unfoldable pub rowInRange : RowJacobian → Float → Float → Bool
 rowInRange j error multiplier = (jacobianInRange j && inRange error) && inRange multiplier
 
--- every row with its listed multiplier, and every mass, also of bodies in no row
-unfoldable pub tableInRange : ℕ → ℕ → (ℕ → ConstraintRow) → (ℕ → SolverMass) → (ℕ → Float) → Bool
-tableInRange rows bodies row mass x = every (λ i. rowInRange (jacobianOf (row i)) (row i .scalars .error) (x i)) rows && every (λ b. massInRange (mass b)) bodies
+-- every row with its error and its listed multiplier, and every mass, also of bodies in no row
+unfoldable pub tableInRange : Table → (ℕ → Float) → (ℕ → Float) → Bool
+tableInRange t error listed = every (λ i. rowInRange (jacobianOf (t .row i)) (error i) (listed i)) (t .rows) && every (λ b. massInRange (t .mass b)) (t .bodies)
 
-unfoldable pub passes18 : Table → (ℕ → Float) → Bool
-passes18 t x = tableInRange (t .rows) (t .bodies) (t .row) (t .mass) x
+abbrev pub passes18 : Closing → Bool
+passes18 c = tableInRange (c .table) (c .error) (c .listed)

@@ -6,6 +6,8 @@ ghost use lib.Ieee.{nan};
 ghost use Rattle.loops.specs.Every.{every};
 ghost use Rattle.kapitsa_joint.specs.Row.{rowOf, jacobianOf};
 ghost use Rattle.kapitsa_joint.specs.Mass.{massOf};
+ghost use Rattle.kapitsa_joint.specs.Table.{tableOf};
+ghost use Rattle.check_range.specs.Closing.{rowError};
 ghost use Rattle.check_range.specs.Range.{massInRange, rowInRange, tableInRange};
 use crate::number::in_range;
 use crate::number::jacobian_in_range;
@@ -67,7 +69,7 @@ pub fn table_in_range(
     bodies: usize,
 ) -> bool
     requires { ⌜ (27 * rows ≤ length (now numbers)) × (8 * rows ≤ length (now words)) × (10 * bodies ≤ length (now masses)) × (rows ≤ length (now multipliers)) ⌝ }
-    ensures { λ r. ⌜ r ≡ tableInRange rows bodies (rowOf (now (numbers .entry)) (now (words .entry))) (massOf (now (masses .entry))) (λ i. getD (now (multipliers .entry)) i nan) ⌝ }
+    ensures { λ r. ⌜ r ≡ tableInRange (tableOf rows bodies (now (numbers .entry)) (now (words .entry)) (now (masses .entry))) (rowError (tableOf rows bodies (now (numbers .entry)) (now (words .entry)) (now (masses .entry)))) (λ i. getD (now (multipliers .entry)) i nan) ⌝ }
 {
     rows_in_range(numbers, words, multipliers, rows) & masses_in_range(masses, bodies)
 }

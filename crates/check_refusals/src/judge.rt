@@ -2,21 +2,21 @@
 ghost use mathlib.Core.Path.{_≡_};
 ghost use Prim.Native.Nat.{_*_, _≤_};
 ghost use lib.ListN.{length};
+ghost use Rattle.loops.specs.Judge.{judge};
 ghost use Rattle.kapitsa_joint.specs.Table.{tableOf};
 ghost use Rattle.mass_operator.specs.Flat.{coefficients};
-ghost use Rattle.check_refusals.specs.Judged.{judgedOf};
+ghost use Rattle.check_range.specs.Closing.{rowError};
+ghost use Rattle.check_refusals.specs.Judged.{tableTests, judgedOut};
 use check_range::table_in_range;
 use joint_refusals::masses_finite;
 use joint_refusals::rows_valid;
 use joint_refusals::words_fit;
-use kapitsa_joint::JointTolerance;
 
 pub enum TableJudged {
     Passed,
     Refused(u32),
 }
 
-// The tolerance is not judged: it is here so that the contract can name the table.
 pub fn judge_table(
     rows: u32,
     bodies: u32,
@@ -24,10 +24,9 @@ pub fn judge_table(
     words: &[u32],
     masses: &[f64],
     multipliers: &[f64],
-    tolerance: JointTolerance,
 ) -> TableJudged
     requires { ⌜ (27 * rows ≤ length (now numbers)) × (8 * rows ≤ length (now words)) × (10 * bodies ≤ length (now masses)) × (rows ≤ length (now multipliers)) ⌝ }
-    ensures { λ r. ⌜ r ≡ judgedOf (tableOf rows bodies (now (numbers .entry)) (now (words .entry)) (now (masses .entry)) tolerance) (coefficients (now (multipliers .entry))) ⌝ }
+    ensures { λ r. ⌜ judge (tableTests (tableOf rows bodies (now (numbers .entry)) (now (words .entry)) (now (masses .entry))) (rowError (tableOf rows bodies (now (numbers .entry)) (now (words .entry)) (now (masses .entry)))) (coefficients (now (multipliers .entry)))) ≡ judgedOut r ⌝ }
 {
     let n = rows as usize;
     let b = bodies as usize;

@@ -2,18 +2,19 @@
 use Prim.Native.Nat.{ℕ, _*_, _<_}
 use mathlib.Core.Path.{_≡_}
 use mathlib.Core.Bool.{Bool, true, false}
-use mathlib.Core.List.{List}
+use mathlib.Core.List.{List, map}
+use lib.Dec.{eqb}
 use lib.ListN.{length}
 use lib.Ieee.{Float}
-use Rattle.loops.specs.Cleared.{cleared, clearedWords}
-use Rattle.loops.specs.Tabulate.{tabulate}
+use Rattle.loops.specs.Cleared.{cleared, clearedWords, Free}
+use Rattle.binary64.specs.Order.{absolute}
 use Rattle.kapitsa_joint.specs.Row.{rowOf}
 use Rattle.kapitsa_joint.specs.Table.{tableOf}
-use Rattle.kapitsa_joint.specs.declared.tolerance.JointTolerance.{JointTolerance}
-use Rattle.mass_operator.specs.Flat.{coefficients}
+use Rattle.mass_operator.specs.System.{systemOf}
+use Rattle.mass_operator.specs.Flat.{coefficients, productOf}
 use Rattle.check_refusals.specs.declared.fit.TableLengths.{TableLengths}
 use Rattle.check_refusals.specs.declared.fit.WorkLengths.{WorkLengths}
-use Rattle.check_measure.specs.Verdict.{valueOf, sizeOf}
+use Rattle.check_measure.specs.Verdict.{sizesOf}
 
 pub record CheckMemory : Type 0 where
   pub jacobians : List Float
@@ -53,15 +54,21 @@ pub record Room (n b : ℕ) (t : TableLengths) (m : CheckMemory) : Type 0 where
   pub values : length (m .values) ≡ n
   pub sizes : length (m .sizes) ≡ n
 
--- every row's bodies are below the body count: what refusal 7 has passed
+-- every row's bodies are below the body count and differ: what refusal 7 has passed
 pub record Valid (rows bodies : ℕ) (numbers : List Float) (words : List ℕ) : Type 0 where
   pub a : (i : ℕ) → i < rows → rowOf numbers words i .words .«body_a» < bodies
   pub b : (i : ℕ) → i < rows → rowOf numbers words i .words .«body_b» < bodies
+  pub apart : (i : ℕ) → i < rows → eqb (rowOf numbers words i .words .«body_a») (rowOf numbers words i .words .«body_b») ≡ false
 
--- every row's value and its value on sizes
-pub record Measured (b : ℕ) (numbers : List Float) (words : List ℕ) (masses multipliers : List Float) (tolerance : JointTolerance) (v s : List Float) : Type 0 where
-  pub values : v ≡ tabulate (valueOf (tableOf (length multipliers) b numbers words masses tolerance) (coefficients multipliers)) (length multipliers)
-  pub sizes : s ≡ tabulate (sizeOf (tableOf (length multipliers) b numbers words masses tolerance) (coefficients multipliers)) (length multipliers)
+-- every row's value and its value on sizes, with the sizes that these are made from; the rest is free
+pub record Measured (b : ℕ) (numbers : List Float) (words : List ℕ) (masses multipliers : List Float) (before after : CheckMemory) : Type 0 where
+  pub values : after .values ≡ productOf (systemOf (tableOf (length multipliers) b numbers words masses)) (coefficients multipliers)
+  pub sizes : after .sizes ≡ productOf (sizesOf (systemOf (tableOf (length multipliers) b numbers words masses))) (λ i. absolute (coefficients multipliers i))
+  pub massSizes : after .massSizes ≡ map absolute masses
+  pub multiplierSizes : after .multiplierSizes ≡ map absolute multipliers
+  pub jacobians : Free (before .jacobians) (after .jacobians)
+  pub links : Free (before .links) (after .links)
+  pub impulses : Free (before .impulses) (after .impulses)
 
 -- cleared, as long as it is
 abbrev pub clearedMemory : CheckMemory → CheckMemory

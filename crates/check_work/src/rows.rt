@@ -4,6 +4,7 @@ ghost use Prim.Native.Nat.{_*_, _≤_};
 ghost use lib.ListN.{length};
 ghost use mathlib.Core.List.{map};
 ghost use Rattle.binary64.specs.Order.{absolute};
+ghost use Rattle.loops.specs.Cleared.{Free};
 ghost use Rattle.kapitsa_joint.specs.Row.{rowOf, jacobianOf};
 ghost use Rattle.compact_table.specs.Compact.{Gathered};
 ghost use Rattle.mass_operator.specs.System.{compactSystem};
@@ -14,7 +15,6 @@ ghost use Rattle.check_work.specs.Work.{memoryOf, Room, Valid, Measured}
 use check_measure::copy_sizes;
 use check_measure::take_sizes;
 use compact_table::gather;
-use kapitsa_joint::JointTolerance;
 use mass_operator::global_velocity_matrix_vector;
 
 // The values, and the compact table that they were made from.
@@ -36,6 +36,7 @@ fn measure_values(
     ensures { λ _. ⌜ Gathered (λ i. jacobianOf (rowOf (now (numbers .entry)) (now (words .entry)) i)) (length (now (multipliers .entry)))
         (now (jacobians .entry)) (now (links .entry)) (now (jacobians .exit)) (now (links .exit)) ⌝ }
     ensures { λ _. ⌜ now (values .exit) ≡ productOf (compactSystem (length (now (multipliers .entry))) b (now (jacobians .exit)) (now (links .exit)) (now (masses .entry))) (coefficients (now (multipliers .entry))) ⌝ }
+    ensures { λ _. ⌜ Free (now (impulses .entry)) (now (impulses .exit)) ⌝ }
 {
     gather(numbers, words, multipliers.len(), jacobians, links);
     global_velocity_matrix_vector(jacobians, links, masses, multipliers, b, impulses, values);
@@ -59,6 +60,8 @@ fn measure_sizes(
     requires { ⌜ Linked (now links) (length (now multipliers)) b ⌝ }
     ensures { λ _. ⌜ now (sizes .exit) ≡ productOf (compactSystem (length (now (multipliers .entry))) b (map absolute (now (jacobians .entry))) (now (links .entry)) (map absolute (now (masses .entry))))
         (coefficients (map absolute (now (multipliers .entry)))) ⌝ }
+    ensures { λ _. ⌜ (now (jacobians .exit) ≡ map absolute (now (jacobians .entry))) × (now («mass_sizes» .exit) ≡ map absolute (now (masses .entry))) × (now («multiplier_sizes» .exit) ≡ map absolute (now (multipliers .entry))) ⌝ }
+    ensures { λ _. ⌜ Free (now (impulses .entry)) (now (impulses .exit)) ⌝ }
 {
     take_sizes(jacobians);
     copy_sizes(mass_sizes, masses);
@@ -81,7 +84,6 @@ pub fn measure_rows(
     words: &[u32],
     masses: &[f64],
     multipliers: &[f64],
-    tolerance: JointTolerance,
     jacobians: &mut [f64],
     links: &mut [u32],
     mass_sizes: &mut [f64],
@@ -92,7 +94,9 @@ pub fn measure_rows(
 )
     requires { ⌜ Room (length (now multipliers)) b (tableLengths (now numbers) (now words) (now masses) (now multipliers)) (memoryOf (now jacobians) (now links) (now «mass_sizes») (now «multiplier_sizes») (now impulses) (now values) (now sizes)) ⌝ }
     requires { ⌜ Valid (length (now multipliers)) b (now numbers) (now words) ⌝ }
-    ensures { λ _. ⌜ Measured b (now (numbers .entry)) (now (words .entry)) (now (masses .entry)) (now (multipliers .entry)) tolerance (now (values .exit)) (now (sizes .exit)) ⌝ }
+    ensures { λ _. ⌜ Measured b (now (numbers .entry)) (now (words .entry)) (now (masses .entry)) (now (multipliers .entry))
+        (memoryOf (now (jacobians .entry)) (now (links .entry)) (now («mass_sizes» .entry)) (now («multiplier_sizes» .entry)) (now (impulses .entry)) (now (values .entry)) (now (sizes .entry)))
+        (memoryOf (now (jacobians .exit)) (now (links .exit)) (now («mass_sizes» .exit)) (now («multiplier_sizes» .exit)) (now (impulses .exit)) (now (values .exit)) (now (sizes .exit))) ⌝ }
 {
     measure_values(
         b,
@@ -112,8 +116,8 @@ pub fn measure_rows(
         jacobians,
         links,
         mass_sizes,
-        multiplier_sizes,
+        multiplier_sizes, // the list's
         impulses,
-        sizes,
+        sizes, // the rows'
     );
 }

@@ -2,17 +2,16 @@
 use Prim.Native.Nat.{ℕ, _≤_}
 use mathlib.Core.Path.{_≡_, refl, sym, ap, _∙_}
 use mathlib.Core.Bool.{Bool, true, false, not, true≢false}
-use lib.Ieee.{Float}
 use borrow.Author.Tests.{not-true, not-false}
 use Rattle.loops.specs.Run.{on, check}
 use Rattle.loops.specs.Judge.{judge, test}
 use Rattle.loops.proofs.Both.{both}
-use Rattle.kapitsa_joint.specs.Table.{Table}
+use Rattle.check_range.specs.Closing.{Closing}
 use Rattle.check_refusals.specs.Refusals.{givenFits, workFits, passes3}
 use Rattle.check_refusals.specs.declared.fit.TableLengths.{TableLengths}
 use Rattle.check_refusals.specs.declared.fit.WorkLengths.{WorkLengths}
 use Rattle.check_refusals.proofs.Fitting.{given-of, work-of}
-use Rattle.check_answer.specs.Answer.{judgements, checkOf}
+use Rattle.check_answer.specs.Answer.{checkOf}
 use Rattle.check_answer.specs.declared.CheckAnswer.{CheckAnswer}
 use Rattle.check_answer.specs.declared.CheckAnswer.the-variants.{Refused}
 use Rattle.check_answer.proofs.Meaning.{Held, means-3, means-of}
@@ -40,15 +39,15 @@ pub room-same : {n m b : ℕ} {t : TableLengths} {w : CheckMemory} → m ≡ n �
 room-same e r = rw e r
 
 -- ---- the promise
-module _ (t : Table) (x : ℕ → Float) (before : CheckMemory) {fits r : Bool} (e : r ≡ fits) where
-  pub checked-3 : not r ≡ true → Checked fits t x (Refused 3) before before
-  unfolding checkOf judgements judge test check on
+module _ (c : Closing) (before : CheckMemory) {fits r : Bool} (e : r ≡ fits) where
+  pub checked-3 : not r ≡ true → Checked fits c (Refused 3) before before
+  unfolding checkOf judge test check on
   checked-3 h =
       let f : fits ≡ false = sym e ∙ not-true r h in
-      record { answered = rw f; means = means-3 t x f; memory = record { emptied = λ p. absurd (true≢false (sym p ∙ f)); untouched = λ _. refl } }
+      record { answered = rw f; means = means-3 c f; memory = record { emptied = λ p. absurd (true≢false (sym p ∙ f)); untouched = λ _. refl } }
 
-  pub checked-on : {after : CheckMemory} {answer : CheckAnswer} → not r ≡ false → Held t x → t .rows ≤ 512 → answer ≡ checkOf true t x → after ≡ clearedMemory before → Checked fits t x answer before after
-  checked-on h held few a c =
+  pub checked-on : {after : CheckMemory} {answer : CheckAnswer} → not r ≡ false → Held c → c .table .rows ≤ 512 → answer ≡ checkOf true c → after ≡ clearedMemory before → Checked fits c answer before after
+  checked-on h held few a p =
       let f : fits ≡ true = passed-3 e h in
-      let answered = a ∙ ap (λ (b : Bool). checkOf b t x) (sym f) in
-      record { answered = answered; means = means-of fits t x held (λ _. few) answered; memory = record { emptied = λ _. c; untouched = λ p. absurd (true≢false (sym f ∙ p)) } }
+      let answered = a ∙ ap (λ (b : Bool). checkOf b c) (sym f) in
+      record { answered = answered; means = means-of fits c held (λ _. few) answered; memory = record { emptied = λ _. p; untouched = λ q. absurd (true≢false (sym f ∙ q)) } }

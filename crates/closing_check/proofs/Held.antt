@@ -13,6 +13,7 @@ use Rattle.kapitsa_joint.specs.declared.tolerance.JointTolerance.{JointToleranc
 use Rattle.kapitsa_joint.specs.declared.tolerance.RowDimension.{RowDimension}
 use Rattle.kapitsa_joint.specs.declared.tolerance.RowDimension.the-variants.{Linear, Angular}
 use Rattle.mass_operator.specs.Flat.{coefficients}
+use Rattle.check_range.specs.Closing.{closingOf}
 use Rattle.check_answer.proofs.Meaning.{HeldVec, Held}
 
 module _ (rows bodies : ℕ) (numbers : List Float) (words : List ℕ) (masses multipliers : List Float) (tolerance : JointTolerance) where
@@ -26,7 +27,7 @@ module _ (rows bodies : ℕ) (numbers : List Float) (words : List ℕ) (masses m
   held-tolerance p q Angular = q
 
   pub held-of : ((k : ℕ) → T (fits binary64 (getD numbers k nan))) → ((k : ℕ) → T (fits binary64 (getD masses k nan))) → ((k : ℕ) → T (fits binary64 (getD multipliers k nan)))
-      → T (fits binary64 (tolerance .«linear_m»)) → T (fits binary64 (tolerance .«angular_rad»)) → Held (tableOf rows bodies numbers words masses tolerance) (coefficients multipliers)
+      → T (fits binary64 (tolerance .«linear_m»)) → T (fits binary64 (tolerance .«angular_rad»)) → Held (closingOf (tableOf rows bodies numbers words masses) (coefficients multipliers) tolerance)
   unfolding rowOf jacobianOf scalarsOf massOf
   held-of n m x p q = record {
     row = λ i. record { linearA = held-vec numbers n (27 * i); angularA = held-vec numbers n (27 * i + 3); linearB = held-vec numbers n (27 * i + 9); angularB = held-vec numbers n (27 * i + 12) };

@@ -1,53 +1,56 @@
 -- The verdict from the measured rows. Assumes nothing.
 use Prim.Native.Nat.{ℕ, _<_}
 use mathlib.Core.Path.{_≡_, sym, ap, _∙_}
-use mathlib.Core.Bool.{Bool, true, false, not}
+use mathlib.Core.Bool.{Bool, true}
 use mathlib.Core.List.{List}
-use lib.ListN.{length}
+use lib.ListN.{length, getD}
 use lib.Ieee.{Float, nan, le}
-use borrow.Author.Tests.{not-true, not-false}
 use Rattle.loops.specs.Run.{check}
 use Rattle.loops.specs.Every.{every}
 use Rattle.loops.specs.Tabulate.{tabulate}
 use Rattle.loops.proofs.Every.{every-same}
 use Rattle.loops.proofs.Tabulate.{getD-tabulate}
+use Rattle.binary64.specs.Order.{absolute}
 use Rattle.kapitsa_joint.specs.Row.{scalarsOf, wordsOf, rowOf}
-use Rattle.kapitsa_joint.specs.Table.{Table, tableOf}
+use Rattle.kapitsa_joint.specs.Table.{tableOf}
 use Rattle.kapitsa_joint.specs.declared.tolerance.JointTolerance.{JointTolerance}
-use Rattle.mass_operator.specs.Flat.{coefficients}
-use Rattle.check_measure.specs.Verdict.{valueOf, sizeOf, reach, closes}
-use Rattle.check_measure.specs.Rows.{rowCloses}
-use Rattle.check_work.specs.Work.{Measured}
+use Rattle.mass_operator.specs.System.{systemOf}
+use Rattle.mass_operator.specs.Operator.{valueAt}
+use Rattle.mass_operator.specs.Flat.{coefficients, productOf}
+use Rattle.check_range.specs.Closing.{Closing, closingOf}
+use Rattle.check_measure.specs.Verdict.{sizesOf, valueOf, sizeOf, reach, within, closes}
+use Rattle.check_measure.specs.Rows.{reachIn, withinIn}
+use Rattle.check_work.specs.Work.{CheckMemory, Measured}
 use Rattle.check_answer.specs.Answer.{verdictOf, checkOf}
+use Rattle.check_answer.specs.declared.CheckAnswer.{CheckAnswer}
 use Rattle.check_answer.specs.declared.CheckAnswer.the-variants.{Closed, Open}
 
-module _ {rows bodies : ℕ} {numbers : List Float} {words : List ℕ} {masses multipliers : List Float} {tolerance : JointTolerance} {values sizes : List Float}
-    (m : Measured bodies numbers words masses multipliers tolerance values sizes) (e : length multipliers ≡ rows) where
-  abbrev t : Table
-  t = tableOf rows bodies numbers words masses tolerance
+module _ (tolerance : JointTolerance) {rows bodies : ℕ} {numbers : List Float} {words : List ℕ} {masses multipliers : List Float} {before after : CheckMemory}
+    (m : Measured bodies numbers words masses multipliers before after) (e : length multipliers ≡ rows) where
+  abbrev c : Closing
+  c = closingOf (tableOf rows bodies numbers words masses) (coefficients multipliers) tolerance
 
-  abbrev x : ℕ → Float
-  x = coefficients multipliers
+  values-is : after .values ≡ tabulate (valueOf c) rows
+  unfolding productOf valueOf
+  values-is = m .values ∙ ap (λ (k : ℕ). tabulate (valueAt (systemOf (tableOf k bodies numbers words masses)) (coefficients multipliers)) k) e
 
-  values-is : values ≡ tabulate (valueOf t x) rows
-  values-is = m .values ∙ ap (λ (k : ℕ). tabulate (valueOf (tableOf k bodies numbers words masses tolerance) x) k) e
+  sizes-is : after .sizes ≡ tabulate (sizeOf c) rows
+  unfolding productOf sizeOf
+  sizes-is = m .sizes ∙ ap (λ (k : ℕ). tabulate (valueAt (sizesOf (systemOf (tableOf k bodies numbers words masses))) (λ i. absolute (coefficients multipliers i))) k) e
 
-  sizes-is : sizes ≡ tabulate (sizeOf t x) rows
-  sizes-is = m .sizes ∙ ap (λ (k : ℕ). tabulate (sizeOf (tableOf k bodies numbers words masses tolerance) x) k) e
+  module _ {reaches : List Float} (made : reaches ≡ tabulate (reachIn numbers (after .values) (after .sizes) rows) rows) where
+    reach-is : (i : ℕ) → i < rows → getD reaches i nan ≡ reach c i
+    unfolding reachIn reach rowOf scalarsOf
+    reach-is i h = rw (made, getD-tabulate (reachIn numbers (after .values) (after .sizes) rows) rows i nan h, values-is, sizes-is, getD-tabulate (valueOf c) rows i nan h, getD-tabulate (sizeOf c) rows i nan h)
 
-  row-is : (i : ℕ) → i < rows → rowCloses numbers words values sizes tolerance rows i ≡ le (reach t x i) (t .tolerance i)
-  unfolding rowCloses reach rowOf scalarsOf wordsOf
-  row-is i h = rw (values-is, sizes-is, getD-tabulate (valueOf t x) rows i nan h, getD-tabulate (sizeOf t x) rows i nan h)
+    row-is : (i : ℕ) → i < rows → withinIn words reaches tolerance i ≡ within c i
+    unfolding withinIn rowOf wordsOf
+    row-is i h = ap (λ (r : Float). le r (c .tolerance i)) (reach-is i h)
 
-  closes-is : every (rowCloses numbers words values sizes tolerance rows) rows ≡ closes t x
-  unfolding closes
-  closes-is = every-same (rowCloses numbers words values sizes tolerance rows) (λ i. le (reach t x i) (t .tolerance i)) rows row-is
+    closes-is : every (withinIn words reaches tolerance) rows ≡ closes c
+    unfolding closes
+    closes-is = every-same (withinIn words reaches tolerance) (within c) rows row-is
 
-  module _ {r : Bool} (p : r ≡ every (rowCloses numbers words values sizes tolerance rows) rows) (passed : checkOf true t x ≡ verdictOf t x) where
-    pub closed-is : not r ≡ false → Closed ≡ checkOf true t x
-    unfolding verdictOf check
-    closed-is h = sym (passed ∙ ap (λ (b : Bool). check b Closed Open) (sym closes-is ∙ sym p ∙ not-false r h))
-
-    pub open-is : not r ≡ true → Open ≡ checkOf true t x
-    unfolding verdictOf check
-    open-is h = sym (passed ∙ ap (λ (b : Bool). check b Closed Open) (sym closes-is ∙ sym p ∙ not-true r h))
+    pub verdict-is : {r : Bool} {answer : CheckAnswer} → r ≡ every (withinIn words reaches tolerance) rows → answer ≡ check r Closed Open → checkOf true c ≡ verdictOf c → answer ≡ checkOf true c
+    unfolding verdictOf
+    verdict-is p a passed = a ∙ ap (λ (b : Bool). check b Closed Open) (p ∙ closes-is) ∙ sym passed

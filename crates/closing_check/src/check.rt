@@ -2,13 +2,17 @@
 ghost use mathlib.Core.Path.{_≡_};
 ghost use Prim.Native.Nat.{_≤_};
 ghost use mathlib.Core.Bool.{true};
+ghost use Rattle.loops.specs.Run.{check};
 ghost use Rattle.kapitsa_joint.specs.Table.{tableOf};
 ghost use Rattle.mass_operator.specs.Flat.{coefficients};
+ghost use Rattle.check_range.specs.Closing.{closingOf};
 ghost use Rattle.check_refusals.specs.Refusals.{passes3, tableLengths};
 ghost use Rattle.check_answer.specs.Answer.{checkOf};
+ghost use Rattle.check_answer.specs.declared.CheckAnswer.the-variants.{Closed, Open};
 ghost use Rattle.check_work.specs.Work.{memoryOf, workLengths, Room};
 ghost use Rattle.closing_check.specs.Checked.{Checked};
 use check_answer::CheckAnswer;
+use check_measure::measure_reaches;
 use check_measure::rows_close;
 use check_refusals::TableJudged;
 use check_refusals::TableLengths;
@@ -18,6 +22,15 @@ use check_refusals::judge_table;
 use check_work::clear_work;
 use check_work::measure_rows;
 use kapitsa_joint::JointTolerance;
+
+fn verdict(closes: bool) -> CheckAnswer
+    ensures { λ r. ⌜ r ≡ check closes Closed Open ⌝ }
+{
+    if closes {
+        return CheckAnswer::Closed;
+    }
+    CheckAnswer::Open
+}
 
 // Once refusal 3 has passed: the other refusals, and the verdict.
 fn judged_check(
@@ -38,9 +51,9 @@ fn judged_check(
 ) -> CheckAnswer
     requires { ⌜ Room rows bodies (tableLengths (now numbers) (now words) (now masses) (now multipliers)) (memoryOf (now jacobians) (now links) (now «mass_sizes») (now «multiplier_sizes») (now impulses) (now values) (now sizes)) ⌝ }
     requires { ⌜ rows ≤ 512 ⌝ }
-    ensures { λ r. ⌜ r ≡ checkOf true (tableOf rows bodies (now (numbers .entry)) (now (words .entry)) (now (masses .entry)) tolerance) (coefficients (now (multipliers .entry))) ⌝ }
+    ensures { λ r. ⌜ r ≡ checkOf true (closingOf (tableOf rows bodies (now (numbers .entry)) (now (words .entry)) (now (masses .entry))) (coefficients (now (multipliers .entry))) tolerance) ⌝ }
 {
-    let judged = judge_table(rows, bodies, numbers, words, masses, multipliers, tolerance);
+    let judged = judge_table(rows, bodies, numbers, words, masses, multipliers);
     match judged {
         TableJudged::Refused(number) => {
             return CheckAnswer::Refused(number);
@@ -53,7 +66,6 @@ fn judged_check(
         words,
         masses,
         multipliers,
-        tolerance,
         jacobians,
         links,
         mass_sizes,
@@ -62,10 +74,8 @@ fn judged_check(
         values,
         sizes,
     );
-    if !rows_close(numbers, words, values, sizes, tolerance, rows as usize) {
-        return CheckAnswer::Open;
-    }
-    CheckAnswer::Closed
+    measure_reaches(rows as usize, numbers, sizes, values);
+    verdict(rows_close(words, values, tolerance, rows as usize))
 }
 
 // Are the joints closed by these multipliers, the gains since the errors were measured? Refusals 3, 4, 6, 7 and 18.
@@ -87,7 +97,7 @@ pub fn closing_check(
     sizes: &mut [f64],
 ) -> CheckAnswer
     ensures { λ r. ⌜ Checked (passes3 rows bodies (tableLengths (now (numbers .entry)) (now (words .entry)) (now (masses .entry)) (now (multipliers .entry))) (workLengths (memoryOf (now (jacobians .entry)) (now (links .entry)) (now («mass_sizes» .entry)) (now («multiplier_sizes» .entry)) (now (impulses .entry)) (now (values .entry)) (now (sizes .entry)))))
-        (tableOf rows bodies (now (numbers .entry)) (now (words .entry)) (now (masses .entry)) tolerance) (coefficients (now (multipliers .entry))) r
+        (closingOf (tableOf rows bodies (now (numbers .entry)) (now (words .entry)) (now (masses .entry))) (coefficients (now (multipliers .entry))) tolerance) r
         (memoryOf (now (jacobians .entry)) (now (links .entry)) (now («mass_sizes» .entry)) (now («multiplier_sizes» .entry)) (now (impulses .entry)) (now (values .entry)) (now (sizes .entry)))
         (memoryOf (now (jacobians .exit)) (now (links .exit)) (now («mass_sizes» .exit)) (now («multiplier_sizes» .exit)) (now (impulses .exit)) (now (values .exit)) (now (sizes .exit))) ⌝ }
 {

@@ -1,22 +1,9 @@
 -- The body numbers of a linked table. Assumes nothing.
-use Prim.Native.Nat.{ℕ, _+_, _*_, _<_}
+use Prim.Native.Nat.{ℕ, _<_}
 use mathlib.Core.Path.{_≡_}
-use mathlib.Core.Bool.{true}
 use mathlib.Core.List.{List}
-use native.Mathlib.Omega.{arith}
-use borrow.Author.Tests.{ltb-true}
-use lib.Dec.{ltb}
-use lib.ListN.{getD}
 use lib.Ieee.{Float}
-use Rattle.loops.proofs.Every.{every-iff}
-use Rattle.compact_table.specs.Compact.{compactOf, linksBelowOf, Linked}
-
-pub ends-below : (links : List ℕ) (ends bodies : ℕ) → linksBelowOf links ends bodies ≡ true → (e : ℕ) → e < ends → getD links e 0 < bodies
-unfolding linksBelowOf
-ends-below links ends bodies h e t = ltb-true (getD links e 0) bodies (every-iff (λ e. ltb (getD links e 0) bodies) ends .0 h e t)
-
-pub below-linked : (links : List ℕ) (rows bodies : ℕ) → linksBelowOf links (2 * rows) bodies ≡ true → Linked links rows bodies
-below-linked links rows bodies h = record { a = λ i t. ends-below links (2 * rows) bodies h (2 * i) (omega arith); b = λ i t. ends-below links (2 * rows) bodies h (2 * i + 1) (omega arith) }
+use Rattle.compact_table.specs.Compact.{compactOf, Linked}
 
 module _ (jacobians : List Float) (links : List ℕ) (i rows bodies : ℕ) (t : Linked links rows bodies) (h : i < rows) where
   pub below-a : compactOf jacobians links i .«body_a» < bodies

@@ -1,12 +1,11 @@
 -- The compact table: of each row linear_a, angular_a, linear_b and angular_b, twelve doubles, and body_a and body_b, two words.
 use Prim.Native.Nat.{ℕ, _+_, _*_, _<_}
 use mathlib.Core.Path.{_≡_}
-use mathlib.Core.Bool.{Bool}
+use mathlib.Core.Bool.{false}
 use mathlib.Core.List.{List}
-use lib.Dec.{ltb}
+use lib.Dec.{eqb}
 use lib.ListN.{length, getD, set}
 use lib.Ieee.{Float}
-use Rattle.loops.specs.Every.{every}
 use Rattle.kapitsa_math.specs.Lent.{vecOf, putVecOf}
 use Rattle.kapitsa_joint.specs.declared.row.RowJacobian.{RowJacobian}
 
@@ -32,11 +31,8 @@ pub record Gathered (g : ℕ → RowJacobian) (n : ℕ) (jacobians₀ : List Flo
   pub longLinks : length links ≡ length links₀
   pub at : (i : ℕ) → i < n → compactOf jacobians links i ≡ g i
 
--- the body number of every end below `ends` is below the body count. End 2i is row i at body_a, end 2i + 1 row i at body_b
-unfoldable pub linksBelowOf : List ℕ → ℕ → ℕ → Bool
-linksBelowOf links ends bodies = every (λ e. ltb (getD links e 0) bodies) ends
-
--- every body number of the compact table is below the body count: what refusal 7 has passed
+-- every body number of the compact table is below the body count, and the two of a row differ: what refusal 7 has passed
 pub record Linked (links : List ℕ) (rows bodies : ℕ) : Type 0 where
   pub a : (i : ℕ) → i < rows → getD links (2 * i) 0 < bodies
   pub b : (i : ℕ) → i < rows → getD links (2 * i + 1) 0 < bodies
+  pub apart : (i : ℕ) → i < rows → eqb (getD links (2 * i) 0) (getD links (2 * i + 1) 0) ≡ false

@@ -6,14 +6,15 @@ use mathlib.Core.List.{List, _++_}
 use native.Mathlib.Decide.{decLe}
 use native.Mathlib.Omega.{arith}
 use lib.Dec.{ltb}
-use lib.ListN.{length, getD, take, drop, getD-replicate, length-replicate, List·getD-eq-default}
+use lib.ListN.{length, getD, take, drop, getD-replicate, length-replicate, length-take, List·getD-eq-default}
 use lib.Seq.{drop-at, length-take-le}
 use lib.Ieee.{Float}
 use Rattle.loops.specs.Run.{Run, going, ended, on, check}
 use Rattle.loops.specs.Cleared.{clearedWords}
 use Rattle.mass_operator.specs.System.{System}
 use Rattle.sparse.specs.Triangle.{Sparse}
-use Rattle.sparse.specs.Cholesky.{Factor, factorRun}
+use Rattle.sparse.specs.Cholesky.{Factor, factorRun, orThirteen}
+use Rattle.sparse.proofs.Left.{free, free-past}
 use Rattle.sparse.specs.Kept.{Kept, numbers}
 use Rattle.sparse.specs.Marks.{AtMost}
 use Rattle.sparse.specs.Answers.{factorOut}
@@ -23,10 +24,11 @@ use Rattle.triangular.specs.Column.{Indexed}
 use Rattle.pairs.specs.Pairs.{patternOf, pairCount, pairLimit, pairsOf, finitePairs}
 use Rattle.pairs.specs.Pattern.{startsIn, columnsIn}
 use Rattle.pairs.specs.Answers.{pairedOf, PairsHeld}
+use Rattle.pairs.proofs.Places.{pairs-free}
 use Rattle.pairs.specs.declared.gathering.Paired.{Paired}
 use Rattle.pairs.specs.declared.gathering.Paired.the-variants as paired
 use Rattle.pairs.proofs.Parted.{restOf, columns-lent-long, starts-lent, columns-lent}
-use Rattle.incomplete_cholesky.specs.Build.{choleskyRun, buildOut, finishOut, Finished, FactorHeld}
+use Rattle.incomplete_cholesky.specs.Build.{choleskyRun, buildOut, finishOut, Finished, FactorHeld, FactorPast}
 use Rattle.incomplete_cholesky.specs.declared.build.Built.{Built}
 use Rattle.incomplete_cholesky.specs.declared.build.Built.the-variants as built
 
@@ -75,7 +77,7 @@ module _ (w rows : ℕ) (ew : w ≡ rows) (pattern : List ℕ) (diagonal₀ valu
 
 -- the two tests of the pairs, and then the factor
 abbrev judged : Bool → Bool → Run Factor Factor → Run Factor ℕ
-judged a b x = cond a (ended 10) (check b (on x going (λ _. ended 13)) (ended 12))
+judged a b x = cond a (ended 10) (check b (orThirteen x) (ended 12))
 
 -- ---- `build_incomplete_cholesky_preconditioner`
 module _ (s : System) (starts columns : List ℕ) (values₀ values : List Float) (r : Paired) (held : PairsHeld s r values₀ starts columns values) where
@@ -91,7 +93,7 @@ module _ (s : System) (starts columns : List ℕ) (values₀ values : List Float
   split false false x e k t = let z : 12 ≡ k = cc in rw z
 
   going-on : (a b : Bool) (x : Run Factor Factor) → cond a (paired.Refused 10) (check b (paired.Done (pairCount (patternOf s) (s .rows))) (paired.Refused 12)) ≡ r
-      → (c : ℕ) → r ≡ paired.Done c → judged a b x ≡ on x going (λ _. ended 13)
+      → (c : ℕ) → r ≡ paired.Done c → judged a b x ≡ orThirteen x
   unfolding check
   going-on true b x e c t = absurd (let z : _≡_ {A = ℕ} 0 1 = cc in omega arith)
   going-on false true x e c t = refl
@@ -125,7 +127,7 @@ module _ (s : System) (starts columns : List ℕ) (values₀ values : List Float
     made-of : factorRun (pairsOf s) diagonal₀ ≡ finishOut b (numbers starts columns values′) diagonal
     made-of = ap (λ (L : Sparse). factorRun L diagonal₀) (sym (held .done count t .pairs)) ∙ h .answered
 
-    told : (q : Built) → ((k : ℕ) → q ≡ built.Refused k → k ≡ 13) → on (finishOut q (numbers starts columns values′) diagonal) going (λ _. ended 13) ≡ buildOut q (numbers starts columns values′) diagonal
+    told : (q : Built) → ((k : ℕ) → q ≡ built.Refused k → k ≡ 13) → orThirteen (finishOut q (numbers starts columns values′) diagonal) ≡ buildOut q (numbers starts columns values′) diagonal
     unfolding on
     told (built.Done c) n = refl
     told (built.Refused k) n = let z : k ≡ 13 = n k refl in rw z
@@ -134,7 +136,7 @@ module _ (s : System) (starts columns : List ℕ) (values₀ values : List Float
     unfolding choleskyRun pairedOf
     build-finished = record {
       answered = going-on (ltb pairLimit (pairCount (patternOf s) (s .rows))) (finitePairs (pairsOf s) (s .rows)) (factorRun (pairsOf s) diagonal₀) (sym (held .answered)) count t
-          ∙ ap (λ (x : Run Factor Factor). on x going (λ _. ended 13)) made-of ∙ told b (λ k e. h .refused k e .0);
+          ∙ ap orThirteen made-of ∙ told b (λ k e. h .refused k e .0);
       pattern = λ _. (held .done count t .kept, held .done count t .places);
       indexed = h .indexed;
       ten = λ e. absurd (let z = h .refused 10 e .0 in omega arith);
@@ -142,3 +144,10 @@ module _ (s : System) (starts columns : List ℕ) (values₀ values : List Float
       twelve = λ e. absurd (let z = h .refused 12 e .0 in omega arith);
       thirteen = λ e. (made-of ∙ rw e, h .refused 13 e .1);
     }
+
+pub factor-past : (rows count : ℕ) (pattern₀ pattern order₀ order : List ℕ) (values₀ values : List Float) → length pattern ≡ length pattern₀ → length order ≡ length order₀ → length values ≡ length values₀ → FactorPast rows count pattern₀ pattern order₀ order values₀ values
+factor-past rows count pattern₀ pattern order₀ order values₀ values p o v = record {
+  pairs = pairs-free rows count pattern₀ pattern values₀ values p v;
+  index = free-past (rows + 2 * count) order₀ order o;
+  marks = free (length-take rows order ∙ rw o (sym (length-take rows order₀)));
+}

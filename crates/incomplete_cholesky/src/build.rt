@@ -7,9 +7,9 @@ ghost use Rattle.compact_table.specs.Compact.{Linked};
 ghost use Rattle.sparse.specs.Cholesky.{factorRun};
 ghost use Rattle.sparse.specs.Kept.{Kept, numbers};
 ghost use Rattle.sparse.specs.Answers.{factorOut};
-ghost use Rattle.pairs.specs.Pairs.{pairRoom};
+ghost use Rattle.pairs.specs.Pairs.{patternOf, pairCount, pairRoom};
 ghost use Rattle.pairs.specs.Pattern.{startsIn, columnsIn};
-ghost use Rattle.incomplete_cholesky.specs.Build.{Finished, FactorHeld};
+ghost use Rattle.incomplete_cholesky.specs.Build.{Finished, FactorHeld, FactorPast};
 use loops::wide;
 use pairs::Paired;
 use pairs::pairs;
@@ -83,6 +83,8 @@ pub fn build_incomplete_cholesky_preconditioner(
         × (length (now values) ≡ pairRoom rows) × (room ≡ pairRoom rows) ⌝ }
     ensures { λ r. ⌜ FactorHeld (compactSystem rows bodies (now (jacobians .entry)) (now (links .entry)) (now (masses .entry))) (now (diagonal .entry)) r
         (startsIn rows (now (pattern .exit))) (columnsIn rows (now (pattern .exit))) (now (order .entry)) (now (order .exit)) (now (values .entry)) (now (values .exit)) (now (diagonal .exit)) ⌝ }
+    ensures { λ _. ⌜ FactorPast rows (pairCount (patternOf (compactSystem rows bodies (now (jacobians .entry)) (now (links .entry)) (now (masses .entry)))) rows)
+        (now (pattern .entry)) (now (pattern .exit)) (now (order .entry)) (now (order .exit)) (now (values .entry)) (now (values .exit)) ⌝ }
 {
     match pairs(
         jacobians,

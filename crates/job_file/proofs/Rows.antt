@@ -43,6 +43,6 @@ module _ (file : List ℕ) (offset : ℕ) where
       rw (first, word-at rows i 1 h (omega arith), word-at rows i 2 h (omega arith), word-at rows i 3 h (omega arith), word-at rows i 4 h (omega arith), word-at rows i 5 h (omega arith), word-at rows i 6 h (omega arith), word-at rows i 7 h (omega arith))
 
 -- the file passes 4 exactly where the table that it is read into does
-pub four-same : (file : List ℕ) → let t = trailerOf file in passes4 file ≡ table.passes4 (tableOf (t .rows) (t .bodies) (fileNumbers file) (fileWords file) (fileMasses file) (t .tolerance))
+pub four-same : (file : List ℕ) → let t = trailerOf file in passes4 file ≡ table.passes4 (tableOf (t .rows) (t .bodies) (fileNumbers file) (fileWords file) (fileMasses file))
 unfolding passes4 keysFit table.passes4 rowOf
 four-same file = every-same _ _ (trailerOf file .rows) (λ i h. ap wordsFitOf (sym (words-at file (trailerOf file .«row_offset») (trailerOf file .rows) i h)))

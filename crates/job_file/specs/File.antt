@@ -1,9 +1,10 @@
--- What stands in the bytes of a job file, at the places of Layout. A double has its 64 bits and, from them, its value.
-use Prim.Native.Nat.{ℕ, _*_, _/_, _%_}
+-- What stands in the bytes of a job file, at the places of Layout.
+use Prim.Native.Nat.{ℕ, zero, suc, _+_, _*_, _/_, _%_}
 use mathlib.Core.List.{List}
+use lib.ListN.{set}
 use lib.Ieee.{Float}
 use Rattle.loops.specs.Tabulate.{tabulate}
-use Rattle.little_endian.specs.Words.{halfAt, wordAt, doubleAt}
+use Rattle.little_endian.specs.Words.{halfAt, doubleAt}
 use Rattle.kapitsa_joint.specs.declared.row.RowWords.{RowWords}
 use Rattle.job_file.specs.Layout.{numberPlace, wordPlace, massPlace, trailerAt, rowCountPlace, bodyCountPlace, limitPlace, modePlace, rowOffsetPlace, massOffsetPlace, linearPlace, angularPlace, fileLengthPlace, sparePlace}
 use Rattle.job_file.specs.declared.trailer.Trailer.{Trailer}
@@ -26,9 +27,6 @@ trailerOf file =
 
 -- ---- one row or mass, in a section that begins at `offset`
 
-unfoldable pub rowBits : List ℕ → ℕ → ℕ → ℕ → ℕ
-rowBits file offset i j = wordAt file (numberPlace offset i j)
-
 unfoldable pub rowNumber : List ℕ → ℕ → ℕ → ℕ → Float
 rowNumber file offset i j = doubleAt file (numberPlace offset i j)
 
@@ -47,9 +45,6 @@ rowWords file offset i = record {
   spare = rowWord file offset i 7;
 }
 
-unfoldable pub massBits : List ℕ → ℕ → ℕ → ℕ → ℕ
-massBits file offset b j = wordAt file (massPlace offset b j)
-
 unfoldable pub massNumber : List ℕ → ℕ → ℕ → ℕ → Float
 massNumber file offset b j = doubleAt file (massPlace offset b j)
 
@@ -63,3 +58,16 @@ sectionWords file offset rows = tabulate (λ k. rowWord file offset (k / 8) (k %
 
 unfoldable pub sectionMasses : List ℕ → ℕ → ℕ → List Float
 sectionMasses file offset bodies = tabulate (λ k. massNumber file offset (k / 10) (k % 10)) (10 * bodies)
+
+-- ---- a list of all rows after one row is read into it
+
+-- f 0 .. f (n - 1) written over l from the place `at` on
+unfoldable pub written : {X : Type 0} → (ℕ → X) → ℕ → ℕ → List X → List X
+written f at zero l = l
+written f at (suc n) l = set (written f at n l) (at + n) (f n)
+
+abbrev pub rowNumbersOver : List ℕ → ℕ → ℕ → List Float → List Float
+rowNumbersOver file offset i l = written (rowNumber file offset i) (27 * i) 27 l
+
+abbrev pub rowWordsOver : List ℕ → ℕ → ℕ → List ℕ → List ℕ
+rowWordsOver file offset i l = written (rowWord file offset i) (8 * i) 8 l

@@ -3,7 +3,7 @@ ghost use mathlib.Core.Path.{_≡_};
 ghost use Prim.Native.Nat.{_+_, _≤_};
 ghost use lib.ListN.{length};
 ghost use Rattle.job_file.specs.Layout.{rowsEnd};
-ghost use Rattle.job_file.specs.Refusals.{sizeFits, sectionsFit, lengthsFit, keysFit};
+ghost use Rattle.job_file.specs.Refusals.{sizeFits, sectionsFit, lengthsFit};
 ghost use Rattle.job_file.specs.File.{rowWords};
 ghost use Rattle.joint_refusals.specs.Refusals.{wordsFitOf};
 use crate::layout::MASS_BYTES;
@@ -46,25 +46,10 @@ pub fn lengths_fit(t: Trailer, numbers: usize, words: usize, masses: usize) -> b
     (numbers == 27 * rows) & (words == 8 * rows) & (masses == 10 * bodies)
 }
 
-// Refusal 4, of one row
-fn row_keys_fit(file: &[u8], offset: usize, i: usize) -> bool
+// Refusal 4, of one row. The reader judges all of them (reader.rt).
+pub fn row_keys_fit(file: &[u8], offset: usize, i: usize) -> bool
     requires { ⌜ rowsEnd offset (i + 1) ≤ length (now file) ⌝ }
     ensures { λ r. ⌜ r ≡ wordsFitOf (rowWords (now (file .entry)) offset i) ⌝ }
 {
     row_words_fit(row_words(file, offset, i))
-}
-
-// and of all.
-pub fn keys_fit(file: &[u8], offset: usize, rows: usize) -> bool
-    requires { ⌜ rowsEnd offset rows ≤ length (now file) ⌝ }
-    ensures { λ r. ⌜ r ≡ keysFit (now (file .entry)) offset rows ⌝ }
-{
-    let mut i = 0;
-    while i < rows {
-        if !row_keys_fit(file, offset, i) {
-            return false;
-        }
-        i += 1;
-    }
-    true
 }

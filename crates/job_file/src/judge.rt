@@ -1,10 +1,10 @@
 // Refusals 1 to 4 of a job file in their order.
 ghost use mathlib.Core.Path.{_≡_};
 ghost use Rattle.job_file.specs.Job.{openedOf, judgedOf};
-use crate::fit::keys_fit;
 use crate::fit::sections_fit;
 use crate::fit::size_fits;
 use crate::layout::TRAILER_BYTES;
+use crate::reader::keys_fit;
 use crate::trailer::Trailer;
 use crate::trailer::read_trailer;
 use joint_refusals::counts_fit;

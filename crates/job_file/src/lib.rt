@@ -1,9 +1,9 @@
 // The job file of document 01: judged by refusals 1 to 4 and read into lent rows and masses.
-pub mod fit; // fit.rt: refusals 1 to 4, each by itself
+pub mod fit; // fit.rt: refusals 1 to 4, each by itself; 4 of one row
 pub mod judge; // judge.rt: refusals 1 to 4 in their order
 pub mod layout; // layout.rt: sizes and limits
 pub mod read; // read.rt: the whole job
-pub mod reader; // reader.rt: the row section through a reader that stands at one row
+pub mod reader; // reader.rt: the rows, judged by 4 and read through a reader that stands at one row
 pub mod sections; // sections.rt: one number of a row or mass, and all of them
 pub mod trailer; // trailer.rt: the 48 bytes at the end
 
@@ -11,19 +11,15 @@ pub use judge::FileJudged;
 pub use judge::judge_file;
 pub use read::read_job;
 pub use reader::Reader;
-pub use reader::at_row;
+pub use reader::keys_fit;
+pub use reader::keys_here;
 pub use reader::next_row;
-pub use reader::number_here;
-pub use reader::read_number;
-pub use reader::read_word;
+pub use reader::read_rows;
 pub use reader::reader_at;
-pub use reader::word_here;
-pub use sections::mass_bits;
+pub use reader::row_here;
 pub use sections::mass_number;
+pub use sections::put_row;
 pub use sections::read_masses;
-pub use sections::read_numbers;
-pub use sections::read_words;
-pub use sections::row_bits;
 pub use sections::row_number;
 pub use sections::row_word;
 pub use sections::row_words;

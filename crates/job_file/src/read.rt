@@ -1,12 +1,11 @@
 // The whole job into lent memory.
 ghost use Rattle.job_file.specs.Job.{Reads};
-use crate::fit::keys_fit;
 use crate::fit::lengths_fit;
 use crate::judge::FileJudged;
 use crate::judge::judge_trailer;
+use crate::reader::keys_fit;
+use crate::reader::read_rows;
 use crate::sections::read_masses;
-use crate::sections::read_numbers;
-use crate::sections::read_words;
 
 // Judges the file as `judge_file` does, refuses by 3 also where a lent slice has not the length that the counts call for,
 // and reads the job. A refused call writes nothing.
@@ -32,8 +31,7 @@ pub fn read_job(
     if !keys_fit(file, row_offset, rows) {
         return FileJudged::Refused(4);
     }
-    read_numbers(file, row_offset, rows, numbers);
-    read_words(file, row_offset, rows, words);
+    read_rows(file, row_offset, rows, numbers, words);
     read_masses(file, mass_offset, bodies, masses);
     FileJudged::Passed(trailer)
 }

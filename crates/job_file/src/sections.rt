@@ -1,29 +1,17 @@
-// The row section and the mass section: the numbers of one row or mass, by its place in the section, and all of them into lent memory.
-// A double is had as its 64 bits too: they keep a NaN's payload, which no double here does.
+// The row section and the mass section: the numbers of one row or mass, by its place in the section, and into lent memory.
 ghost use mathlib.Core.Path.{_≡_};
 ghost use Prim.Native.Nat.{_+_, _*_, _≤_};
 ghost use lib.ListN.{length};
 ghost use Rattle.job_file.specs.Layout.{numberPlace, wordPlace, massPlace, rowsEnd, massesEnd};
-ghost use Rattle.job_file.specs.File.{rowBits, rowNumber, rowWord, rowWords, massBits, massNumber, sectionNumbers, sectionWords, sectionMasses};
+ghost use Rattle.job_file.specs.File.{rowNumber, rowWord, rowWords, massNumber, rowNumbersOver, rowWordsOver, sectionMasses};
 use crate::layout::MASS_BYTES;
 use crate::layout::ROW_BYTES;
 use crate::layout::ROW_DOUBLES;
-use crate::reader::read_number;
-use crate::reader::read_word;
 use kapitsa_joint::RowWords;
 use little_endian::double;
 use little_endian::half;
-use little_endian::word;
 
-// Number j of 27 of row i, where the row section begins at `offset`: its bits,
-pub fn row_bits(file: &[u8], offset: usize, i: usize, j: usize) -> u64
-    requires { ⌜ numberPlace offset i j + 8 ≤ length (now file) ⌝ }
-    ensures { λ r. ⌜ r ≡ rowBits (now (file .entry)) offset i j ⌝ }
-{
-    word(file, offset + ROW_BYTES * i + 8 * j)
-}
-
-// and the double that has them.
+// Number j of 27 of row i, where the row section begins at `offset`.
 pub fn row_number(file: &[u8], offset: usize, i: usize, j: usize) -> f64
     requires { ⌜ numberPlace offset i j + 8 ≤ length (now file) ⌝ }
     ensures { λ r. ⌜ r ≡ rowNumber (now (file .entry)) offset i j ⌝ }
@@ -57,13 +45,6 @@ pub fn row_words(file: &[u8], offset: usize, i: usize) -> RowWords
 }
 
 // Number j of 10 of body b, where the mass section begins at `offset`.
-pub fn mass_bits(file: &[u8], offset: usize, b: usize, j: usize) -> u64
-    requires { ⌜ massPlace offset b j + 8 ≤ length (now file) ⌝ }
-    ensures { λ r. ⌜ r ≡ massBits (now (file .entry)) offset b j ⌝ }
-{
-    word(file, offset + MASS_BYTES * b + 8 * j)
-}
-
 pub fn mass_number(file: &[u8], offset: usize, b: usize, j: usize) -> f64
     requires { ⌜ massPlace offset b j + 8 ≤ length (now file) ⌝ }
     ensures { λ r. ⌜ r ≡ massNumber (now (file .entry)) offset b j ⌝ }
@@ -71,28 +52,37 @@ pub fn mass_number(file: &[u8], offset: usize, b: usize, j: usize) -> f64
     double(file, offset + MASS_BYTES * b + 8 * j)
 }
 
-// The 27 numbers of each row, through a reader,
-pub fn read_numbers(file: &[u8], offset: usize, rows: usize, numbers: &mut [f64])
-    requires { ⌜ (rowsEnd offset rows ≤ length (now file)) × (length (now numbers) ≡ 27 * rows) ⌝ }
-    ensures { λ _. ⌜ now (numbers .exit) ≡ sectionNumbers (now (file .entry)) offset rows ⌝ }
+// The 27 numbers of row i, to their places in a list of all rows,
+fn put_numbers(file: &[u8], offset: usize, i: usize, numbers: &mut [f64])
+    requires { ⌜ (rowsEnd offset (i + 1) ≤ length (now file)) × (27 * (i + 1) ≤ length (now numbers)) ⌝ }
+    ensures { λ _. ⌜ now (numbers .exit) ≡ rowNumbersOver (now (file .entry)) offset i (now (numbers .entry)) ⌝ }
 {
-    let mut k = 0;
-    while k < numbers.len() {
-        numbers[k] = read_number(file, offset, rows, k / 27, k % 27);
-        k += 1;
+    let mut j = 0;
+    while j < 27 {
+        numbers[27 * i + j] = row_number(file, offset, i, j);
+        j += 1;
     }
 }
 
-// and the 8 words.
-pub fn read_words(file: &[u8], offset: usize, rows: usize, words: &mut [u32])
-    requires { ⌜ (rowsEnd offset rows ≤ length (now file)) × (length (now words) ≡ 8 * rows) ⌝ }
-    ensures { λ _. ⌜ now (words .exit) ≡ sectionWords (now (file .entry)) offset rows ⌝ }
+// the 8 words,
+fn put_words(file: &[u8], offset: usize, i: usize, words: &mut [u32])
+    requires { ⌜ (rowsEnd offset (i + 1) ≤ length (now file)) × (8 * (i + 1) ≤ length (now words)) ⌝ }
+    ensures { λ _. ⌜ now (words .exit) ≡ rowWordsOver (now (file .entry)) offset i (now (words .entry)) ⌝ }
 {
-    let mut k = 0;
-    while k < words.len() {
-        words[k] = read_word(file, offset, rows, k / 8, k % 8);
-        k += 1;
+    let mut j = 0;
+    while j < 8 {
+        words[8 * i + j] = row_word(file, offset, i, j);
+        j += 1;
     }
+}
+
+// and both.
+pub fn put_row(file: &[u8], offset: usize, i: usize, numbers: &mut [f64], words: &mut [u32])
+    requires { ⌜ (rowsEnd offset (i + 1) ≤ length (now file)) × (27 * (i + 1) ≤ length (now numbers)) × (8 * (i + 1) ≤ length (now words)) ⌝ }
+    ensures { λ _. ⌜ (now (numbers .exit) ≡ rowNumbersOver (now (file .entry)) offset i (now (numbers .entry))) × (now (words .exit) ≡ rowWordsOver (now (file .entry)) offset i (now (words .entry))) ⌝ }
+{
+    put_numbers(file, offset, i, numbers);
+    put_words(file, offset, i, words)
 }
 
 // The 10 numbers of each body.

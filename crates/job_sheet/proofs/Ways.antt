@@ -16,7 +16,7 @@ use Rattle.position_delivery.specs.Outcome.{Lent, Outcome, Answer, proposalOf, 
 use Rattle.position_delivery.specs.declared.answer.PositionPcgResult.{PositionPcgResult}
 use Rattle.position_delivery.specs.declared.answer.PositionPcg.{PositionPcg}
 use Rattle.position_delivery.specs.declared.answer.PositionPcg.the-variants as answers
-use Rattle.kapitsa_joint.specs.Table.{tableOf}
+use Rattle.position.specs.Problem.{positionOf}
 use Rattle.preconditioner.specs.Mode.{modeOf}
 use Rattle.joint_refusals.specs.Counts.{tableCountsFit, countsFit}
 use Rattle.work_memory.specs.Lengths as lengths
@@ -34,7 +34,7 @@ use Rattle.job_file.specs.declared.judge.FileJudged.the-variants.{Passed, Refus
 use Rattle.job_file.proofs.Judgement.{passed, rows-inside, masses-inside}
 use Rattle.job_file.proofs.Meaning.{passed-job, refused-job}
 use Rattle.listing.specs.Listing.{listingOf, refusedListing}
-use Rattle.job_sheet.specs.Sheet.{answerTo, closingOf, printedOf, answerSheet, jobSheet, sheetOf}
+use Rattle.job_sheet.specs.Sheet.{answerTo, verdictIn, printedOf, answerSheet, jobSheet, sheetOf}
 use Rattle.job_sheet.specs.Room.{JobRoom}
 
 -- ---- the file
@@ -115,8 +115,8 @@ room-after r a b c d e = rw (a, b, c, d, e) r
 -- ---- the check
 
 pub closing-is : (t : Trailer) (numbers : List Float) (words : List ℕ) (masses solution impulses : List Float) {answer : CheckAnswer} {number : ℕ} → JobRoom t (length numbers) (length words) (length masses) (length solution) (length impulses)
-    → answer ≡ checkedOf (t .rows) (t .bodies) numbers words masses solution (t .tolerance) → number ≡ numberOf answer → number ≡ closingOf (jobWith t numbers words masses) numbers solution
-unfolding closingOf
+    → answer ≡ checkedOf (t .rows) (t .bodies) numbers words masses solution (t .tolerance) → number ≡ numberOf answer → number ≡ verdictIn (jobWith t numbers words masses) numbers solution
+unfolding verdictIn
 closing-is t numbers words masses solution impulses r e n = n ∙ rw (e, check-fits r)
 
 pub printed-is : (t : Trailer) (r : PositionPcgResult) (numbers : List Float) (words : List ℕ) (masses solution impulses : List Float) {answer : CheckAnswer} {number : ℕ} → JobRoom t (length numbers) (length words) (length masses) (length solution) (length impulses)
@@ -152,7 +152,7 @@ module _ (j : Job) (solution impulses : List Float) where
   refused-in (ended n) e = ap refusedListing (refused-same (ap (λ (o : Outcome). o .answer) e))
 
 module _ (t : Trailer) (numbers : List Float) (words : List ℕ) (masses solution impulses : List Float) {fits : Bool} (f : fits ≡ true) {answer : PositionPcg} {after : Lent}
-    (s : JobSolved fits (tableOf (t .rows) (t .bodies) numbers words masses (t .tolerance)) (modeOf (t .mode)) (t .limit) (t .rows) (record { numbers = numbers; solution = solution; impulses = impulses }) after answer) where
+    (s : JobSolved fits (positionOf (t .rows) (t .bodies) numbers words masses (t .tolerance)) (modeOf (t .mode)) (t .limit) (t .rows) (record { numbers = numbers; solution = solution; impulses = impulses }) after answer) where
   solved : outcomeOf (t .rows) (record { numbers = numbers; solution = solution; impulses = impulses }) (answerTo (jobWith t numbers words masses)) ≡ record { answer = answer; lent = after }
   unfolding answerTo
   solved = rw (← f) (s .answered)
@@ -163,5 +163,5 @@ module _ (t : Trailer) (numbers : List Float) (words : List ℕ) (masses solutio
 
   -- the job's own numbers do not matter to what is printed
   pub job-accepted : {r : PositionPcgResult} (rows : List Float) → answer ≡ answers.Accepted r → printedOf (jobWith t rows words masses) r (after .numbers) (after .solution) (after .impulses) ≡ jobSheet (jobWith t numbers words masses)
-  unfolding jobSheet printedOf closingOf
+  unfolding jobSheet printedOf verdictIn
   job-accepted {r} rows e = accepted-in (jobWith t numbers words masses) solution impulses (answerTo (jobWith t numbers words masses)) (solved ∙ ap (λ a. record { answer = a; lent = after }) e)

@@ -4,35 +4,33 @@ use mathlib.Core.Bool.{true}
 use mathlib.Core.List.{List}
 use lib.Ieee.{Float}
 use Rattle.loops.specs.Run.{going, ended, on}
-use Rattle.kapitsa_joint.specs.Table.{Table, tableOf}
+use Rattle.kapitsa_joint.specs.Table.{tableOf}
 use Rattle.mass_operator.specs.Flat.{coefficients}
 use Rattle.preconditioner.specs.Mode.{modeOf}
 use Rattle.steps.specs.Solve.{solve}
-use Rattle.position_iteration.specs.Method.{positionMethod}
+use Rattle.position.specs.Problem.{positionOf}
+use Rattle.position_iteration.specs.Method.{methodOf}
 use Rattle.position_delivery.specs.Outcome.{Answer, resultOf, withMultipliers}
 use Rattle.position_delivery.specs.declared.answer.PositionPcgResult.{PositionPcgResult}
+use Rattle.check_range.specs.Closing.{closingOf}
 use Rattle.check_answer.specs.Answer.{numberOf, checkOf}
 use Rattle.job_file.specs.Job.{Job, jobOf}
 use Rattle.listing.specs.Listing.{listingOf, refusedListing}
 
--- the table of a job, with these numbers in its rows
-abbrev pub tableIn : Job → List Float → Table
-tableIn j numbers = tableOf (j .rows) (j .bodies) numbers (j .words) (j .masses) (j .tolerance)
-
 -- Refusal 3 has passed: a file's counts and mode are judged with it, and what is lent is as long as they call for.
 unfoldable pub answerTo : Job → Answer
-answerTo j = solve (positionMethod true (tableIn j (j .numbers)) (modeOf (j .mode))) (j .limit)
+answerTo j = solve (methodOf true (positionOf (j .rows) (j .bodies) (j .numbers) (j .words) (j .masses) (j .tolerance)) (modeOf (j .mode))) (j .limit)
 
 -- "the gains since error was measured; the job program gives it the solution": the verdict, or the check's refusal, on the rows as the solve leaves them
-unfoldable pub closingOf : Job → List Float → List Float → ℕ
-closingOf j numbers solution = numberOf (checkOf true (tableIn j numbers) (coefficients solution))
+unfoldable pub verdictIn : Job → List Float → List Float → ℕ
+verdictIn j numbers solution = numberOf (checkOf true (closingOf (tableOf (j .rows) (j .bodies) numbers (j .words) (j .masses)) (coefficients solution) (j .tolerance)))
 
 -- of an accepted job, from what the solve answers and delivers
 unfoldable pub printedOf : Job → PositionPcgResult → List Float → List Float → List Float → List ℕ
-printedOf j r numbers solution impulses = listingOf (r .iterations) (r .converged) (r .«linear_residual_m») (r .«angular_residual_rad») (closingOf j numbers solution) (j .rows) (j .bodies) numbers impulses
+printedOf j r numbers solution impulses = listingOf (r .iterations) (r .converged) (r .«linear_residual_m») (r .«angular_residual_rad») (verdictIn j numbers solution) (j .rows) (j .bodies) numbers impulses
 
 unfoldable pub answerSheet : Job → Answer → List ℕ
-answerSheet j (going ((flag, count, v), f)) = printedOf j (resultOf flag count f) (withMultipliers (j .numbers) (f .multipliers) (j .rows)) (v .solution) (f .impulses)
+answerSheet j (going ((flag, count, v), f)) = printedOf j (resultOf flag count f) (withMultipliers (j .numbers) (f .accumulated) (j .rows)) (v .solution) (f .impulses)
 answerSheet j (ended number) = refusedListing number
 
 unfoldable pub jobSheet : Job → List ℕ

@@ -12,8 +12,7 @@ use job_file::FileJudged;
 use job_file::Trailer;
 use job_file::judge_file;
 use job_file::read_masses;
-use job_file::read_numbers;
-use job_file::read_words;
+use job_file::read_rows;
 use listing::write_refusal;
 use position_delivery::PositionPcg;
 use position_solve::solve_small_position;
@@ -79,8 +78,7 @@ fn write_file(
     let bodies = trailer.bodies as usize;
     let row_offset = trailer.row_offset as usize;
     let mass_offset = trailer.mass_offset as usize;
-    read_numbers(file, row_offset, rows, numbers);
-    read_words(file, row_offset, rows, words);
+    read_rows(file, row_offset, rows, numbers, words);
     read_masses(file, mass_offset, bodies, masses);
     write_job(trailer, numbers, words, masses, solution, impulses, out)
 }

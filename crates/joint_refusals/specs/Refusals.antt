@@ -2,10 +2,11 @@
 use Prim.Native.Nat.{ℕ}
 use mathlib.Core.Bool.{Bool, not, _&&_}
 use lib.Dec.{leb, ltb, eqb}
-use lib.Ieee.{Float, inf, binary64, eq, le, neg, ofBits}
+use lib.Ieee.{eq, le, neg}
 use lib.Ieee.Scale.{finite}
 use Rattle.loops.specs.Every.{every}
 use Rattle.loops.specs.Cleared.{plusZero}
+use Rattle.binary64.specs.Order.{infinity}
 use Rattle.kapitsa_math.specs.Vector.{isFiniteOf}
 use Rattle.kapitsa_math.specs.Matrix.{finiteColumnsOf}
 use Rattle.kapitsa_joint.specs.Table.{Table}
@@ -22,16 +23,9 @@ unfoldable pub passes4 : Table → Bool
 passes4 t = every (λ i. wordsFitOf (t .row i .words)) (t .rows)
 
 -- ---- 5. "a row fails the Rust's opening test (position off, compliance, damping, force_driven, a multiplier bound other than −infinity below and +infinity above)"
-abbrev pub infinity : Float
-infinity = ofBits binary64 0x7ff0_0000_0000_0000
-
 unfoldable pub opensOf : RowScalars → RowWords → Bool
 opensOf s w =
     ((((eqb (w .«position_enabled») 1 && eq (s .compliance) plusZero) && eq (s .damping) plusZero) && eqb (w .«force_driven») 0) && eq (s .«min_multiplier») (neg infinity)) && eq (s .«max_multiplier») infinity
-
--- "There are rows and the limit is 0, or a row fails ..": the limit is judged apart, where it is given
-unfoldable pub rowsOpen : Table → Bool
-rowsOpen t = every (λ i. opensOf (t .row i .scalars) (t .row i .words)) (t .rows)
 
 -- ---- 6. "A mass number is not finite."
 unfoldable pub massFiniteOf : SolverMass → Bool

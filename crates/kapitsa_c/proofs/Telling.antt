@@ -1,58 +1,74 @@
 -- What a solve tells C, from the promise of the entry. Assumes nothing.
-use Prim.Native.Nat.{ℕ}
+use Prim.Native.Nat.{ℕ, _<_}
 use mathlib.Core.Path.{_≡_, refl, sym, ap, subst, _∙_}
 use mathlib.Core.Bool.{Bool, true, false, not, _&&_, cond}
 use mathlib.Core.List.{List, [], _∷_}
+use mathlib.Core.Logic.{_↔_}
 use native.Mathlib.Omega.{arith}
 use mir.Val.{boolByte}
 use lib.Dec.{eqb}
 use lib.ListN.{length, set}
 use lib.Ieee.{Float}
 use borrow.Author.Tests.{not-true, not-false, eqb-true}
-use Rattle.kapitsa_joint.specs.Table.{Table}
 use Rattle.preconditioner.specs.declared.mode.Mode.{Mode}
 use Rattle.steps.specs.Solve.{solve}
-use Rattle.position_iteration.specs.Method.{positionMethod}
-use Rattle.position_delivery.specs.Outcome.{Lent, Outcome, outcomeOf, SolveMeaning}
+use Rattle.position.specs.Problem.{Problem}
+use Rattle.position_iteration.specs.Method.{methodOf}
+use Rattle.position_iteration.specs.Places.{Apart}
+use Rattle.position_iteration.proofs.InPlace.{problem-in-place, problem-not-zero}
+use Rattle.position_delivery.specs.Outcome.{Answer, Lent, Outcome, proposalOf, outcomeOf, SolveMeaning}
 use Rattle.position_delivery.specs.declared.answer.PositionPcg.{PositionPcg}
 use Rattle.position_delivery.specs.declared.answer.PositionPcg.the-variants as answers
 use Rattle.position_delivery.specs.declared.answer.PositionPcgResult.{PositionPcgResult}
 use Rattle.work_memory.specs.Work.{WorkMemory, After}
-use Rattle.pcg.specs.Solved.{Solved}
+use Rattle.pcg.specs.SolveHeld.{SolveHeld}
 use Rattle.position_delivery.proofs.Answered.{entry-means, entry-refused}
+use Rattle.loops.specs.Run.{Goes, going, ended}
+use Rattle.loops.proofs.Inverse.{apart as apart-runs}
 use Rattle.loops.proofs.Both.{both}
 use Rattle.kapitsa_c.specs.Solving.{Told, toldOf, toldFits, SolveTold}
 
 abbrev outcome : PositionPcg → Lent → Outcome
 outcome r l = record { answer = r; lent = l }
 
-module _ (t : Table) (mode : Mode) (limit n : ℕ) (before : Lent) (counts : List ℕ) (maxima : List Float) (work : WorkMemory) where
-  told-so : (fits : Bool) (after : Lent) (told : Told) (a : PositionPcg) (workAfter : WorkMemory) → outcomeOf n before (solve (positionMethod fits t mode) limit) ≡ outcome a after → told ≡ toldOf a counts maxima → After fits work workAfter → SolveTold fits t mode limit n before after counts maxima told work workAfter
+module _ (p : Problem) (mode : Mode) (limit n : ℕ) (before : Lent) (counts : List ℕ) (maxima : List Float) (work : WorkMemory) (apart : Apart p) where
+  -- 0 is told exactly where the solve is accepted: no refusal has that number
+  told-zero : (fits : Bool) → (toldOf (outcomeOf n before (solve (methodOf fits p mode) limit) .answer) counts maxima .number ≡ 0) ↔ Goes (solve (methodOf fits p mode) limit)
+  unfolding toldOf proposalOf
+  told-zero fits = go (solve (methodOf fits p mode) limit) (problem-not-zero p mode fits limit apart)
+    where
+      go : (r : Answer) → ((k : ℕ) → r ≡ ended k → 0 < k) → (toldOf (outcomeOf n before r .answer) counts maxima .number ≡ 0) ↔ Goes r
+      go (going a) h = (λ _. (a, refl), λ _. refl)
+      go (ended k) h = (λ e. let z = h k refl in absurd (omega arith), λ g. absurd (apart-runs _ (g .1) refl))
+
+  told-so : (fits : Bool) (after : Lent) (told : Told) (a : PositionPcg) (workAfter : WorkMemory) → outcomeOf n before (solve (methodOf fits p mode) limit) ≡ outcome a after → told ≡ toldOf a counts maxima → After fits work workAfter → SolveTold fits p mode limit n before after counts maxima told work workAfter
   told-so fits after told a workAfter e h w =
       record {
         answered = h ∙ ap (λ (o : Outcome). toldOf (o .answer) counts maxima) (sym e);
         delivered = sym (ap (λ (o : Outcome). o .lent) e);
-        means = subst (λ (o : Outcome). SolveMeaning (positionMethod fits t mode) limit n before (o .answer) after) (sym e) (entry-means (positionMethod fits t mode) limit n before after a e);
+        means = subst (λ (o : Outcome). SolveMeaning (methodOf fits p mode) limit n before (o .answer) after) (sym e) (entry-means (methodOf fits p mode) limit n before after a e);
+        in-place = problem-in-place p mode fits limit apart;
+        zero = subst (λ (x : ℕ). (x ≡ 0) ↔ Goes (solve (methodOf fits p mode) limit)) (sym (ap (λ (x : Told). x .number) (h ∙ ap (λ (o : Outcome). toldOf (o .answer) counts maxima) (sym e)))) (told-zero fits);
         memory = w;
       }
 
   -- ---- the slices that take the answer
-  module _ (b told p : Bool) (e : b ≡ told) where
-    unfit : not b ≡ true → (told && p) ≡ false
-    unfit h = ap (λ (x : Bool). x && p) (sym e ∙ not-true b h)
+  module _ (b told rest : Bool) (e : b ≡ told) where
+    unfit : not b ≡ true → (told && rest) ≡ false
+    unfit h = ap (λ (x : Bool). x && rest) (sym e ∙ not-true b h)
 
-    fit : not b ≡ false → p ≡ (told && p)
-    fit h = sym (ap (λ (x : Bool). x && p) (sym e ∙ not-false b h))
+    fit : not b ≡ false → rest ≡ (told && rest)
+    fit h = sym (ap (λ (x : Bool). x && rest) (sym e ∙ not-false b h))
 
-    untouched : not b ≡ true → After (told && p) work work
+    untouched : not b ≡ true → After (told && rest) work work
     untouched h = record { emptied = λ q. absurd (let z : true ≡ false = sym q ∙ unfit h in let y : _≡_ {A = ℕ} 0 1 = cc in omega arith); untouched = λ _. refl }
 
-    pub untold : not b ≡ true → SolveTold (told && p) t mode limit n before before counts maxima (record { number = 3; counts = counts; maxima = maxima }) work work
+    pub untold : not b ≡ true → SolveTold (told && rest) p mode limit n before before counts maxima (record { number = 3; counts = counts; maxima = maxima }) work work
     unfolding toldOf
-    untold h = told-so (told && p) before (record { number = 3; counts = counts; maxima = maxima }) (answers.Refused 3) work (entry-refused t mode n limit before false (told && p) (sym (unfit h)) refl) refl (untouched h)
+    untold h = told-so (told && rest) before (record { number = 3; counts = counts; maxima = maxima }) (answers.Refused 3) work (entry-refused p mode n limit before false (told && rest) (sym (unfit h)) refl) refl (untouched h)
 
-    pub told-on : (after : Lent) (r : Told) (a : PositionPcg) (workAfter : WorkMemory) → not b ≡ false → Solved p t mode limit n before after a work workAfter → r ≡ toldOf a counts maxima → SolveTold (told && p) t mode limit n before after counts maxima r work workAfter
-    told-on after r a workAfter h s w = rw (← fit h) (told-so p after r a workAfter (s .answered) w (s .memory))
+    pub told-on : (after : Lent) (r : Told) (a : PositionPcg) (workAfter : WorkMemory) → not b ≡ false → SolveHeld rest p mode limit n before after a work workAfter → r ≡ toldOf a counts maxima → SolveTold (told && rest) p mode limit n before after counts maxima r work workAfter
+    told-on after r a workAfter h s w = rw (← fit h) (told-so rest after r a workAfter (s .answered) w (s .memory))
 
 -- where the two slices fit, each has two places
 pub told-lengths : (counts : List ℕ) (maxima : List Float) (b : Bool) → b ≡ toldFits counts maxima → not b ≡ false → (length counts ≡ 2) × (length maxima ≡ 2)

@@ -7,8 +7,8 @@ use mathlib.Core.Logic.{_↔_}
 use lib.Dec.{eqb}
 use lib.ListN.{length}
 use lib.Ieee.{Float}
-use Rattle.kapitsa_joint.specs.Table.{Table}
 use Rattle.kapitsa_joint.specs.declared.tolerance.JointTolerance.{JointTolerance}
+use Rattle.check_range.specs.Closing.{Closing}
 use Rattle.check_answer.specs.Answer.{checkOf, CheckMeaning}
 use Rattle.check_answer.specs.declared.CheckAnswer.{CheckAnswer}
 use Rattle.check_answer.specs.declared.CheckAnswer.the-variants.{Closed, Open, Refused}
@@ -32,8 +32,8 @@ unfoldable pub verdictFits : List ℕ → Bool
 verdictFits verdict = eqb (length verdict) 1
 
 -- The answer is the definition's and means what demand 3 says, 0 is told for a verdict alone, and the work memory is cleared. `fits` is whether refusal 3 passes.
-pub record CheckTold (fits : Bool) (t : Table) (x : ℕ → Float) (verdict : List ℕ) (told : VerdictTold) (before after : CheckMemory) : Type 0 where
-  pub answered : told ≡ verdictTold (checkOf fits t x) verdict
-  pub means : CheckMeaning fits t x (checkOf fits t x)
-  pub zero : (told .number ≡ 0) ↔ ((n : ℕ) → checkOf fits t x ≡ Refused n → ⊥)
+pub record CheckTold (fits : Bool) (c : Closing) (verdict : List ℕ) (told : VerdictTold) (before after : CheckMemory) : Type 0 where
+  pub answered : told ≡ verdictTold (checkOf fits c) verdict
+  pub means : CheckMeaning fits c (checkOf fits c)
+  pub zero : (told .number ≡ 0) ↔ ((n : ℕ) → checkOf fits c ≡ Refused n → ⊥)
   pub memory : After fits before after

@@ -3,13 +3,17 @@ use Prim.Native.Nat.{ℕ}
 use mathlib.Core.Path.{_≡_}
 use mathlib.Core.Bool.{Bool, cond, _&&_}
 use mathlib.Core.List.{List, [], _∷_}
+use mathlib.Core.Logic.{_↔_}
 use lib.Dec.{eqb}
 use lib.ListN.{length}
 use lib.Ieee.{Float}
-use Rattle.kapitsa_joint.specs.Table.{Table}
 use Rattle.preconditioner.specs.declared.mode.Mode.{Mode}
 use Rattle.steps.specs.Solve.{solve}
-use Rattle.position_iteration.specs.Method.{positionMethod}
+use Rattle.steps.specs.InPlace.{InPlace}
+use Rattle.loops.specs.Run.{Goes}
+use Rattle.position.specs.Problem.{Problem}
+use Rattle.position_iteration.specs.Method.{methodOf}
+use Rattle.position_iteration.specs.Places.{placesOf}
 use Rattle.position_delivery.specs.Outcome.{Lent, outcomeOf, SolveMeaning}
 use Rattle.position_delivery.specs.declared.answer.PositionPcg.{PositionPcg}
 use Rattle.position_delivery.specs.declared.answer.PositionPcg.the-variants as answers
@@ -28,9 +32,11 @@ toldOf (answers.Refused number) counts maxima = record { number = number; counts
 unfoldable pub toldFits : List ℕ → List Float → Bool
 toldFits counts maxima = eqb (length counts) 2 && eqb (length maxima) 2
 
--- The answer is the definition's, what is lent is as the definition leaves it, the answer means what demand 3 says, and the work memory is cleared. `fits` is whether refusal 3 passes.
-pub record SolveTold (fits : Bool) (t : Table) (mode : Mode) (limit n : ℕ) (before after : Lent) (counts : List ℕ) (maxima : List Float) (told : Told) (work workAfter : WorkMemory) : Type 0 where
-  pub answered : told ≡ toldOf (outcomeOf n before (solve (positionMethod fits t mode) limit) .answer) counts maxima
-  pub delivered : after ≡ outcomeOf n before (solve (positionMethod fits t mode) limit) .lent
-  pub means : SolveMeaning (positionMethod fits t mode) limit n before (outcomeOf n before (solve (positionMethod fits t mode) limit) .answer) after
+-- The answer is the definition's, what is lent is as the definition leaves it, the answer means what demand 3 says, each refusal has its place, 0 is told for an accepted solve alone, and the work memory is cleared. `fits` is whether refusal 3 passes.
+pub record SolveTold (fits : Bool) (p : Problem) (mode : Mode) (limit n : ℕ) (before after : Lent) (counts : List ℕ) (maxima : List Float) (told : Told) (work workAfter : WorkMemory) : Type 0 where
+  pub answered : told ≡ toldOf (outcomeOf n before (solve (methodOf fits p mode) limit) .answer) counts maxima
+  pub delivered : after ≡ outcomeOf n before (solve (methodOf fits p mode) limit) .lent
+  pub means : SolveMeaning (methodOf fits p mode) limit n before (outcomeOf n before (solve (methodOf fits p mode) limit) .answer) after
+  pub in-place : InPlace (methodOf fits p mode) (placesOf p) limit
+  pub zero : (told .number ≡ 0) ↔ Goes (solve (methodOf fits p mode) limit)
   pub memory : After fits work workAfter

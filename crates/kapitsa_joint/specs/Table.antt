@@ -1,4 +1,4 @@
--- What a solve and a check are given, as functions of the row and the body: everything above is defined over a Table. `tableOf` reads one out of the lent lists.
+-- The rows and masses of a job, as functions of the row and the body: everything above is defined over a Table. `tableOf` reads one out of the lent lists.
 use Prim.Native.Nat.{ℕ}
 use mathlib.Core.List.{List}
 use lib.ListN.{getD}
@@ -15,22 +15,13 @@ pub record Table : Type 0 where
   pub bodies : ℕ
   pub row : ℕ → ConstraintRow
   pub mass : ℕ → SolverMass
-  pub tolerance : ℕ → Float
 
--- with any tolerance for each row
-abbrev pub tableWith : ℕ → ℕ → List Float → List ℕ → List Float → (ℕ → Float) → Table
-tableWith rows bodies numbers words masses tolerance = record {
-  rows = rows;
-  bodies = bodies;
-  row = rowOf numbers words;
-  mass = massOf masses;
-  tolerance = tolerance;
-}
+abbrev pub tableOf : ℕ → ℕ → List Float → List ℕ → List Float → Table
+tableOf rows bodies numbers words masses = record { rows = rows; bodies = bodies; row = rowOf numbers words; mass = massOf masses }
 
--- with the tolerance of the row's dimension
-abbrev pub tableOf : ℕ → ℕ → List Float → List ℕ → List Float → JointTolerance → Table
-tableOf rows bodies numbers words masses tolerance = tableWith rows bodies numbers words masses (λ i. toleranceOf tolerance (dimensionOf (rowOf numbers words i .words .dimension)))
+-- ---- the tolerance of each row: that of its dimension, or the one in a lent list
+abbrev pub byDimension : JointTolerance → Table → ℕ → Float
+byDimension tolerance t i = toleranceOf tolerance (dimensionOf (t .row i .words .dimension))
 
--- the tolerances in a lent list
 abbrev pub tolerancesIn : List Float → ℕ → Float
 tolerancesIn l i = getD l i nan

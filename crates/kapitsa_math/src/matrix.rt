@@ -1,7 +1,7 @@
 // Mat3 of matrix.rs: three columns, applied to column vectors.
 ghost use mathlib.Core.Path.{_≡_};
 ghost use Rattle.kapitsa_math.specs.Matrix.{mulVectorOf, absColumnsOf, finiteColumnsOf};
-ghost use Rattle.kapitsa_math.specs.Checked.{checkedMulVectorOf};
+ghost use Rattle.kapitsa_math.specs.Checked.{checkedMulVectorOf, CheckedVectorTells, mulVectorRun};
 use crate::vector::Vec3;
 
 pub struct Mat3 {
@@ -50,6 +50,7 @@ impl Mat3 {
     // The product, where the matrix, the vector and the product are finite.
     pub fn checked_mul_vector(self, rhs: Vec3) -> CheckedVector
         ensures { λ r. ⌜ r ≡ checkedMulVectorOf self rhs ⌝ }
+        ensures { λ r. ⌜ CheckedVectorTells (mulVectorRun self rhs) r ⌝ }
     {
         if !(self.is_finite() & rhs.is_finite()) {
             return CheckedVector::Overflow;

@@ -1,7 +1,7 @@
 // Vec3 of vector.rs.
 ghost use mathlib.Core.Path.{_≡_};
 ghost use Rattle.kapitsa_math.specs.Vector.{dotOf, addOf, scaleOf, negateOf, absOf, isFiniteOf};
-ghost use Rattle.kapitsa_math.specs.Checked.{checkedDotOf};
+ghost use Rattle.kapitsa_math.specs.Checked.{checkedDotOf, CheckedTells, dotRun};
 use crate::scalar::Checked;
 use crate::scalar::checked_value;
 
@@ -67,6 +67,7 @@ impl Vec3 {
     // The dot product, where both vectors and the product are finite.
     pub fn checked_dot(self, rhs: Vec3) -> Checked
         ensures { λ r. ⌜ r ≡ checkedDotOf self rhs ⌝ }
+        ensures { λ r. ⌜ CheckedTells (dotRun self rhs) r ⌝ }
     {
         if !(self.is_finite() & rhs.is_finite()) {
             return Checked::Overflow;

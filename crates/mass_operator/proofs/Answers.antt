@@ -1,18 +1,19 @@
 -- What the functions of the operator come to together. Assumes nothing.
 use Prim.Native.Nat.{ℕ, _<_}
-use mathlib.Core.Path.{_≡_, ap, _∙_}
+use mathlib.Core.Path.{_≡_, refl, ap, _∙_}
 use mathlib.Core.Bool.{Bool, true, false, not}
 use mathlib.Core.List.{List}
 use lib.ListN.{length}
 use lib.Ieee.{Float}
 use borrow.Author.Tests.{not-true, not-false}
 use Rattle.loops.specs.Run.{check}
+use Rattle.loops.specs.Judge.{test}
 use Rattle.loops.specs.Tabulate.{tabulate}
 use Rattle.loops.proofs.Tabulate.{tabulate-same}
 use Rattle.kapitsa_joint.specs.Impulse.{impulseOf}
 use Rattle.kapitsa_joint.specs.Mass.{massOf}
 use Rattle.kapitsa_joint.specs.declared.row.RowJacobian.{RowJacobian}
-use Rattle.mass_operator.specs.Applied.{allFiniteOf, appliedOf}
+use Rattle.mass_operator.specs.Applied.{allFiniteOf, appliedOf, appliedOut}
 use Rattle.mass_operator.specs.declared.finite.Applied.{Applied}
 use Rattle.mass_operator.specs.declared.finite.Applied.the-variants.{Done, Overflow}
 use Rattle.compact_table.specs.Compact.{compactOf, Linked}
@@ -30,9 +31,18 @@ pub test-overflow : (l : List Float) {r : Bool} → r ≡ allFiniteOf l → not 
 unfolding appliedOf check
 test-overflow l {r} p h = rw (← p, not-true r h)
 
+-- the number of an answer, whatever the caller calls an overflow
+told-by : (l : List Float) (b : Bool) → allFiniteOf l ≡ b → (number : ℕ) → test (allFiniteOf l) number ≡ appliedOut number (appliedOf l)
+unfolding appliedOf test check
+told-by l true h number = rw h
+told-by l false h number = rw h
+
+pub applied-told : (l : List Float) {r : Applied} → r ≡ appliedOf l → (number : ℕ) → test (allFiniteOf l) number ≡ appliedOut number r
+applied-told l e number = rw e (told-by l (allFiniteOf l) refl number)
+
 pub summed-is : (j : ℕ → RowJacobian) (x : ℕ → Float) (rows bodies : ℕ) (l : List Float) {r : Applied} → Summing j x bodies rows l → r ≡ appliedOf l → Summed j x rows bodies r l
 unfolding impulsesOf
-summed-is j x rows bodies l h e = let q = impulses-flat (λ b. impulseAt j x b rows) bodies l (record { long = h .long; at = h .at }) in record { summed = q; answered = e ∙ ap appliedOf q }
+summed-is j x rows bodies l h e = let q = impulses-flat (λ b. impulseAt j x b rows) bodies l (record { long = h .long; at = h .at }) in record { summed = q; answered = e ∙ ap appliedOf q; told = applied-told _ (e ∙ ap appliedOf q) }
 
 -- impulses, responses in their place, values: the list of impulses stands between two calls
 module _ (jacobians : List Float) (links : List ℕ) (masses vector : List Float) (bodies : ℕ) (impulses responses product : List Float) where
@@ -68,6 +78,7 @@ module _ (jacobians : List Float) (links : List ℕ) (masses vector : List Float
           responded = impulses-flat (responseAt (compactSystem rows bodies jacobians links masses) x) bodies responses responses-hold;
           multiplied = p;
           answered = a ∙ ap appliedOf p;
+          told = applied-told _ (a ∙ ap appliedOf p) 16;
         }
       where
         same : tabulate (λ i. valueIn (j i) responses) rows ≡ tabulate (valueAt (compactSystem rows bodies jacobians links masses) x) rows

@@ -4,10 +4,11 @@ use mathlib.Core.Path.{_≡_}
 use mathlib.Core.List.{List, [], _∷_, _++_}
 use lib.ListN.{getD}
 use lib.Ieee.{Float, nan}
+use Rattle.loops.specs.Judge.{test}
 use Rattle.loops.specs.Tabulate.{tabulate}
 use Rattle.kapitsa_joint.specs.declared.row.RowJacobian.{RowJacobian}
 use Rattle.kapitsa_joint.specs.declared.impulse.GeneralizedImpulse.{GeneralizedImpulse}
-use Rattle.mass_operator.specs.Applied.{appliedOf}
+use Rattle.mass_operator.specs.Applied.{allFiniteOf, appliedOf, appliedOut}
 use Rattle.mass_operator.specs.declared.finite.Applied.{Applied}
 use Rattle.mass_operator.specs.System.{System}
 use Rattle.mass_operator.specs.Operator.{impulseAt, responseAt, valueAt}
@@ -30,10 +31,11 @@ responsesOf s x = flatImpulses (responseAt s x) (s .bodies)
 unfoldable pub productOf : System → (ℕ → Float) → List Float
 productOf s x = tabulate (valueAt s x) (s .rows)
 
--- document 01, refusal 17, "A final impulse ... is not finite", and 16 in a direction's
+-- document 01, refusal 17, "A final impulse ... is not finite": the number is the caller's
 pub record Summed (j : ℕ → RowJacobian) (x : ℕ → Float) (rows bodies : ℕ) (answer : Applied) (impulses : List Float) : Type 0 where
   pub summed : impulses ≡ impulsesOf j x rows bodies
   pub answered : answer ≡ appliedOf (impulsesOf j x rows bodies)
+  pub told : (number : ℕ) → test (allFiniteOf (impulsesOf j x rows bodies)) number ≡ appliedOut number answer
 
 -- document 01, refusal 16, "A number in the recurrence is not finite": of the operator's numbers, testing the product tests all (proofs/Overflow.antt).
 -- The responses stand where the impulses stood.
@@ -41,3 +43,4 @@ pub record Multiplied (s : System) (x : ℕ → Float) (answer : Applied) (respo
   pub responded : responses ≡ responsesOf s x
   pub multiplied : product ≡ productOf s x
   pub answered : answer ≡ appliedOf (productOf s x)
+  pub told : test (allFiniteOf (productOf s x)) 16 ≡ appliedOut 16 answer

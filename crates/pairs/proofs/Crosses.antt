@@ -1,13 +1,14 @@
 -- The ways through the functions that work out the value of one pair. Assumes nothing.
 use Prim.Native.Nat.{ℕ, _+_, _*_, _<_, _≤_}
-use mathlib.Core.Path.{_≡_}
+use mathlib.Core.Path.{_≡_, refl, ap, _∙_}
 use mathlib.Core.List.{List}
-use mathlib.Core.Option.{none, some}
+use mathlib.Core.Option.{Option, none, some}
 use native.Mathlib.Omega.{arith}
 use lib.ListN.{length}
 use lib.Ieee.{Float, binary64, add}
-use borrow.Author.Tests.{eq-eqb, ne-eqb, lt-ltb, le-ltb}
+use borrow.Author.Tests.{eq-eqb, ne-eqb}
 use Rattle.loops.specs.Cleared.{plusZero}
+use Rattle.binary64.proofs.Commutes.{add-swap}
 use Rattle.kapitsa_math.specs.declared.vector.Vec3.{Vec3}
 use Rattle.kapitsa_joint.specs.Mass.{massOf, crossOf}
 use Rattle.kapitsa_joint.specs.declared.row.RowJacobian.{RowJacobian}
@@ -51,17 +52,25 @@ module _ (p q : Crossed) where
   unfolding numberOf sumOf
   sum-none e f = rw (e, f)
 
--- `pair_value`
+-- "the rounded sum of two" has no order
+pub sum-swap : (x y : Option Float) → sumOf x y ≡ sumOf y x
+unfolding sumOf
+sum-swap (some x) (some y) = ap some (add-swap binary64 x y)
+sum-swap (some x) none = refl
+sum-swap none (some y) = refl
+sum-swap none none = refl
+
+-- `pair_value`: the lower body's cross first, as the Rust has them
 module _ (mass : ℕ → SolverMass) (p q : RowJacobian) (a b : Crossed) (r : Float)
     (ea : crossAt (mass (p .«body_a»)) (p .«linear_a») (p .«angular_a») (armOf q (p .«body_a»)) ≡ crossedOut a)
     (eb : crossAt (mass (p .«body_b»)) (p .«linear_b») (p .«angular_b») (armOf q (p .«body_b»)) ≡ crossedOut b) where
-  pub pair-descending : p .«body_b» < p .«body_a» → r ≡ numberOf (sumOf (crossedOut b) (crossedOut a)) → r ≡ numberOf (pairOf mass p q)
+  pub pair-descending : r ≡ numberOf (sumOf (crossedOut b) (crossedOut a)) → r ≡ numberOf (pairOf mass p q)
   unfolding pairOf
-  pair-descending h e = rw (lt-ltb (p .«body_b») (p .«body_a») h, ea, eb) e
+  pair-descending e = rw (ea, eb) (e ∙ ap numberOf (sum-swap (crossedOut b) (crossedOut a)))
 
-  pub pair-ascending : p .«body_a» ≤ p .«body_b» → r ≡ numberOf (sumOf (crossedOut a) (crossedOut b)) → r ≡ numberOf (pairOf mass p q)
+  pub pair-ascending : r ≡ numberOf (sumOf (crossedOut a) (crossedOut b)) → r ≡ numberOf (pairOf mass p q)
   unfolding pairOf
-  pair-ascending h e = rw (le-ltb (p .«body_b») (p .«body_a») h, ea, eb) e
+  pair-ascending e = rw (ea, eb) e
 
 -- the masses of a row's bodies are there
 module _ (jacobians : List Float) (links : List ℕ) (masses : List Float) (rows bodies i j : ℕ) (p : RowJacobian) (e : p ≡ compactOf jacobians links j)

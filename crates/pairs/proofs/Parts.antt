@@ -14,7 +14,7 @@ use Rattle.loops.specs.Run.{check}
 use Rattle.sparse.specs.Kept.{start, Missing}
 use Rattle.pairs.specs.Pairs.{rowPairs, pairCount}
 use Rattle.pairs.specs.Pattern.{startsIn, columnsIn}
-use Rattle.pairs.specs.Gather.{sharesIn, anyShare, eightApart, shareIn, triedOf, triedColumns, Begin, Part, RowPart, RowDone, Stored, Gathering}
+use Rattle.pairs.specs.Gather.{sharesIn, anyShare, eightApart, shareIn, triedOf, triedColumns, Begin, Part, RowPart, RowDone, Stored, Gathering, gatherRun}
 use Rattle.pairs.proofs.Parted.{restOf, withRest, starts-long, columns-long, starts-set, columns-stay, columns-lent, starts-stay, columns-come}
 use Rattle.pairs.specs.declared.pattern.Gathered.{Gathered}
 use Rattle.pairs.specs.declared.pattern.Gathered.the-variants.{Done, Full}
@@ -303,14 +303,23 @@ module _ {share : ℕ → ℕ → Bool} where
           (stored-more h row (omega (arith, starts-long n pattern (omega arith))))
 
       pub rows-full : (starts′ columns′ : List ℕ) → i < n → r ≡ Full → Gathering Full share starts′ columns′ n room
-      unfolding pairCount
-      rows-full starts′ columns′ l t = record {
-        done = λ k u. absurd (let v : _≡_ {A = ℕ} 0 1 = cc in omega arith);
-        full = λ _. omega (arith, d .full t, h .counted, count-mono share (suc i) n (omega arith));
-      }
+      unfolding pairCount gatherRun
+      rows-full starts′ columns′ l t =
+          let past : room < pairCount share n = omega (arith, d .full t, h .counted, count-mono share (suc i) n (omega arith)) in
+          record {
+            done = λ k u. absurd (let v : _≡_ {A = ℕ} 0 1 = cc in omega arith);
+            full = λ _. past;
+            told = rw (lt-ltb room (pairCount share n) past);
+          }
 
-  pub rows-end : (starts columns : List ℕ) (i n room p : ℕ) → Stored share starts columns i p → i ≤ n → n ≤ i → Gathering (Done p) share starts columns n room
-  rows-end starts columns i n room p h l l′ = let e : i ≡ n = omega arith in record {
-    done = λ k u. let v : p ≡ k = cc in rw (← v) (rw e at h);
-    full = λ u. absurd (let v : _≡_ {A = ℕ} 0 1 = cc in omega arith);
-  }
+  pub rows-end : (starts columns : List ℕ) (i n room p : ℕ) → Stored share starts columns i p → length columns ≡ room → i ≤ n → n ≤ i → Gathering (Done p) share starts columns n room
+  unfolding gatherRun
+  rows-end starts columns i n room p h long l l′ =
+      let e : i ≡ n = omega arith in
+      let all : pairCount share n ≡ p = ap (pairCount share) (sym e) ∙ sym (h .counted) in
+      let fits : pairCount share n ≤ room = omega (arith, h .room, all) in
+      record {
+        done = λ k u. let v : p ≡ k = cc in rw (← v) (rw e at h);
+        full = λ u. absurd (let v : _≡_ {A = ℕ} 0 1 = cc in omega arith);
+        told = rw (le-ltb room (pairCount share n) fits, all);
+      }

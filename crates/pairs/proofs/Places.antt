@@ -26,10 +26,11 @@ use Rattle.mass_operator.specs.System.{System, compactSystem}
 use Rattle.sparse.specs.Triangle.{Sparse}
 use Rattle.sparse.specs.Kept.{start, Kept, Row, seek, pick, numbers}
 use Rattle.sparse.proofs.Rows.{row-of, one-row, seek-found, seek-none, numbers-some}
+use Rattle.sparse.proofs.Left.{free-past}
 use Rattle.pairs.specs.Pairs.{sharesOf, patternOf, rowPairs, pairCount, pairLimit, pairRoom, armOf, crossAt, sumOf, pairOf, pairsOf, finitePair, finitePairs}
 use Rattle.pairs.specs.Pattern.{startsIn, columnsIn}
 use Rattle.pairs.specs.Gather.{numberOf, valueIn, Valued, sharesIn, shareIn, Stored, Gathering}
-use Rattle.pairs.specs.Answers.{pairedOf, Collected, PairsHeld}
+use Rattle.pairs.specs.Answers.{pairedOf, Collected, PairsHeld, PairsFree}
 use Rattle.pairs.proofs.Parted.{restOf, starts-long, columns-long, starts-lent, columns-lent, starts-cleared, columns-cleared}
 use Rattle.pairs.specs.declared.pattern.Gathered.{Gathered}
 use Rattle.pairs.specs.declared.pattern.Gathered.the-variants as gathered
@@ -90,7 +91,7 @@ present-arm m l a q body = go (eqb (q .«body_a») body) (eqb (q .«body_b») bo
 
 present-pair : (mass : ℕ → SolverMass) (p q : RowJacobian) → present (pairOf mass p q) ≡ sharesOf q p
 unfolding pairOf sharesOf
-present-pair mass p q = go (ltb (p .«body_b») (p .«body_a»)) ∙ mix (eqb (q .«body_a») (p .«body_a»)) (eqb (q .«body_b») (p .«body_a»)) (eqb (q .«body_a») (p .«body_b»)) (eqb (q .«body_b») (p .«body_b»))
+present-pair mass p q = present-sum A B ∙ rw (a, b) (mix (eqb (q .«body_a») (p .«body_a»)) (eqb (q .«body_b») (p .«body_a»)) (eqb (q .«body_a») (p .«body_b»)) (eqb (q .«body_b») (p .«body_b»)))
   where
     A : Option Float
     A = crossAt (mass (p .«body_a»)) (p .«linear_a») (p .«angular_a») (armOf q (p .«body_a»))
@@ -103,16 +104,6 @@ present-pair mass p q = go (ltb (p .«body_b») (p .«body_a»)) ∙ mix (eqb (q
 
     b : present B ≡ (eqb (q .«body_a») (p .«body_b») || eqb (q .«body_b») (p .«body_b»))
     b = present-arm (mass (p .«body_b»)) (p .«linear_b») (p .«angular_b») q (p .«body_b»)
-
-    swap : (x y : Bool) → (x || y) ≡ (y || x)
-    swap true true = refl
-    swap true false = refl
-    swap false true = refl
-    swap false false = refl
-
-    go : (w : Bool) → present (cond w (sumOf B A) (sumOf A B)) ≡ ((eqb (q .«body_a») (p .«body_a») || eqb (q .«body_b») (p .«body_a»)) || (eqb (q .«body_a») (p .«body_b») || eqb (q .«body_b») (p .«body_b»)))
-    go true = present-sum B A ∙ swap (present B) (present A) ∙ rw (a, b) refl
-    go false = present-sum A B ∙ rw (a, b) refl
 
     mix : (s t u v : Bool) → ((s || t) || (u || v)) ≡ ((s || u) || (t || v))
     mix true t u v = refl
@@ -263,6 +254,9 @@ pub valued-lent : (w n : ℕ) → w ≡ n → (value : ℕ → ℕ → Float) (p
 valued-lent w n ew value pattern values h = rw (starts-lent w n ew pattern, columns-lent w n ew pattern, ew) at h
 
 -- ---- the ways through `pairs`; pattern₀ is the pattern at entry
+pub pairs-free : (rows count : ℕ) (pattern₀ pattern : List ℕ) (values₀ values : List Float) → length pattern ≡ length pattern₀ → length values ≡ length values₀ → PairsFree rows count pattern₀ pattern values₀ values
+pairs-free rows count pattern₀ pattern values₀ values a b = record { columns-past = free-past (rows + 1 + count) pattern₀ pattern a; values-past = free-past count values₀ values b }
+
 module _ {share : ℕ → ℕ → Bool} (n : ℕ) (pattern : List ℕ) (room : ℕ) (r : Gathered) (g : Gathering r share (startsIn n pattern) (columnsIn n pattern) n room)
     (pattern₀ : List ℕ) (same-long : length pattern ≡ length pattern₀) (long : length pattern₀ ≡ n + 1 + pairRoom n) (c : ℕ) (t : r ≡ gathered.Done c) where
   pub pairs-kept : Kept (startsIn n pattern) (columnsIn n pattern)

@@ -1,9 +1,9 @@
 -- The Rust tests a pair on the way: each cross inside SolverMass::cross and again where it is kept, and the sum of two. Testing the pair's value once, at its end, refuses exactly what those tests refuse. Assumes nothing.
 use Prim.Native.Nat.{ℕ}
 use mathlib.Core.Path.{_≡_, refl, _∙_}
-use mathlib.Core.Bool.{Bool, true, false, _&&_, cond}
+use mathlib.Core.Bool.{Bool, true, false, _&&_}
 use mathlib.Core.Option.{Option, none, some}
-use lib.Dec.{T, ltb}
+use lib.Dec.{T}
 use lib.Ieee.{Float, binary64}
 use lib.Ieee.Scale.{finite}
 use borrow.Author.Tests.{lt-ltb}
@@ -67,17 +67,13 @@ pub pair-final : (mass : ℕ → SolverMass) (p q : RowJacobian) → testedPair 
 unfolding testedPair pairOf
 pair-final mass p q =
     rw (cross-tested (mass (p .«body_a»)) (p .«linear_a») (p .«angular_a») (armOf q (p .«body_a»)), cross-tested (mass (p .«body_b»)) (p .«linear_b») (p .«angular_b») (armOf q (p .«body_b»)))
-    (idle (finitePair x) (finitePair y) (finitePair (cond (ltb (p .«body_b») (p .«body_a»)) (sumOf y x) (sumOf x y))) (parts (ltb (p .«body_b») (p .«body_a»))))
+    (idle (finitePair x) (finitePair y) (finitePair (sumOf x y)) (sum-parts x y))
   where
     x : Option Float
     x = crossAt (mass (p .«body_a»)) (p .«linear_a») (p .«angular_a») (armOf q (p .«body_a»))
 
     y : Option Float
     y = crossAt (mass (p .«body_b»)) (p .«linear_b») (p .«angular_b») (armOf q (p .«body_b»))
-
-    parts : (t : Bool) → T (finitePair (cond t (sumOf y x) (sumOf x y))) → T (finitePair x) × T (finitePair y)
-    parts true t = let s = sum-parts y x t in (s .1, s .0)
-    parts false t = sum-parts x y t
 
 -- refusal 12 of the whole table: where the Rust's tests of every pair pass, and nowhere else
 pub pairs-final : (s : System) → every (λ i. every (λ j. testedPair (s .mass) (s .jacobian j) (s .jacobian i)) i) (s .rows) ≡ finitePairs (pairsOf s) (s .rows)

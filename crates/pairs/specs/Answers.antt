@@ -4,9 +4,10 @@ use mathlib.Core.Path.{_≡_}
 use mathlib.Core.Bool.{cond}
 use mathlib.Core.List.{List}
 use lib.Dec.{ltb}
-use lib.ListN.{replicate}
+use lib.ListN.{drop, replicate}
 use lib.Ieee.{Float}
 use Rattle.loops.specs.Run.{check}
+use Rattle.loops.specs.Cleared.{Free}
 use Rattle.mass_operator.specs.System.{System}
 use Rattle.sparse.specs.Kept.{start, Kept, numbers}
 use Rattle.pairs.specs.Pairs.{patternOf, pairCount, pairLimit, pairRoom, pairsOf, finitePairs}
@@ -32,3 +33,8 @@ pub record PairsHeld (s : System) (answer : Paired) (values₀ : List Float) (st
   pub tenWords : answer ≡ paired.Refused 10 → (starts ≡ replicate (s .rows + 1) 0) × (columns ≡ replicate (pairRoom (s .rows)) 0)
   pub twelve : answer ≡ paired.Refused 12 → Collected s starts columns values
   pub done : (count : ℕ) → answer ≡ paired.Done count → Collected s starts columns values
+
+-- what is left free, of `count` pairs: the columns and the values past their places
+pub record PairsFree (rows count : ℕ) (pattern₀ pattern : List ℕ) (values₀ values : List Float) : Type 0 where
+  pub columns-past : Free (drop (rows + 1 + count) pattern₀) (drop (rows + 1 + count) pattern)
+  pub values-past : Free (drop count values₀) (drop count values)

@@ -7,7 +7,7 @@ use mathlib.Core.Option.{Option, none, some}
 use lib.Dec.{eqb, ltb}
 use lib.ListN.{getD, set, length}
 use lib.Ieee.{Float, nan}
-use Rattle.loops.specs.Run.{check}
+use Rattle.loops.specs.Run.{Run, going, ended, check}
 use Rattle.loops.specs.Cleared.{plusZero}
 use Rattle.kapitsa_joint.specs.Mass.{massOf}
 use Rattle.compact_table.specs.Compact.{compactOf}
@@ -105,6 +105,16 @@ pub record Stored (share : ℕ → ℕ → Bool) (starts columns : List ℕ) (i 
   pub counted : p ≡ pairCount share i
   pub room : p ≤ length columns
 
+-- document 01's number of each answer: "10. Mode 1 has more than 16,384 pairs"
+abbrev pub gatheredOut : Gathered → Run ℕ ℕ
+gatheredOut (gathered.Done p) = going p
+gatheredOut gathered.Full = ended 10
+
+-- how many pairs n rows have, or 10 where there is no room for them
+unfoldable pub gatherRun : (ℕ → ℕ → Bool) → ℕ → ℕ → Run ℕ ℕ
+gatherRun share n room = cond (ltb room (pairCount share n)) (ended 10) (going (pairCount share n))
+
 pub record Gathering (answer : Gathered) (share : ℕ → ℕ → Bool) (starts columns : List ℕ) (i room : ℕ) : Type 0 where
   pub done : (p : ℕ) → answer ≡ gathered.Done p → Stored share starts columns i p
   pub full : answer ≡ gathered.Full → room < pairCount share i
+  pub told : gatherRun share i room ≡ gatheredOut answer

@@ -1,5 +1,5 @@
 -- Document 01, "Factors and roots": "Pattern: pairs row > column that share a body, even if the value is zero. A pair value is one cross, lower row first, or the rounded sum of two."
--- pcg.rs: build_velocity_row_terms_by_body lists the rows of each body; build_incomplete_cholesky_preconditioner_into takes the bodies ascending, and so adds the lower body's cross first.
+-- pcg.rs: build_velocity_row_terms_by_body lists the rows of each body; build_incomplete_cholesky_preconditioner_into takes the bodies ascending.
 use Prim.Native.Nat.{ℕ, zero, suc, _+_, _*_, _-_, _/_}
 use mathlib.Core.Bool.{Bool, true, _&&_, _||_, cond}
 use mathlib.Core.Option.{Option, none, some}
@@ -58,12 +58,12 @@ sumOf (some x) (some y) = some (add binary64 x y)
 sumOf (some x) none = some x
 sumOf none y = y
 
--- the lower row p and the higher row q: the cross at the lower-numbered of p's bodies, then the one at the higher-numbered
+-- the lower row p and the higher row q. The order of the two crosses is open: a rounded sum commutes (binary64, proofs/Commutes.antt)
 unfoldable pub pairOf : (ℕ → SolverMass) → RowJacobian → RowJacobian → Option Float
 pairOf mass p q =
     let a = crossAt (mass (p .«body_a»)) (p .«linear_a») (p .«angular_a») (armOf q (p .«body_a»)) in
     let b = crossAt (mass (p .«body_b»)) (p .«linear_b») (p .«angular_b») (armOf q (p .«body_b»)) in
-    cond (ltb (p .«body_b») (p .«body_a»)) (sumOf b a) (sumOf a b)
+    sumOf a b
 
 -- the triangle of pairs: row i > column j
 unfoldable pub pairsOf : System → Sparse

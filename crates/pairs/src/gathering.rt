@@ -5,10 +5,10 @@ ghost use lib.ListN.{length};
 ghost use Rattle.mass_operator.specs.System.{compactSystem};
 ghost use Rattle.compact_table.specs.Compact.{Linked};
 ghost use Rattle.sparse.specs.Kept.{start, Kept};
-ghost use Rattle.pairs.specs.Pairs.{pairRoom};
+ghost use Rattle.pairs.specs.Pairs.{patternOf, pairCount, pairRoom};
 ghost use Rattle.pairs.specs.Pattern.{startsIn, columnsIn};
 ghost use Rattle.pairs.specs.Gather.{valueIn, Valued};
-ghost use Rattle.pairs.specs.Answers.{PairsHeld};
+ghost use Rattle.pairs.specs.Answers.{PairsHeld, PairsFree};
 use crate::pattern::Gathered;
 use crate::pattern::gather;
 use crate::values::fill_values;
@@ -67,6 +67,8 @@ pub fn pairs(
     requires { ⌜ (length (now pattern) ≡ rows + 1 + pairRoom rows) × (length (now values) ≡ pairRoom rows) × (room ≡ pairRoom rows) ⌝ }
     ensures { λ r. ⌜ PairsHeld (compactSystem rows bodies (now (jacobians .entry)) (now (links .entry)) (now (masses .entry))) r (now (values .entry))
         (startsIn rows (now (pattern .exit))) (columnsIn rows (now (pattern .exit))) (now (values .exit)) ⌝ }
+    ensures { λ _. ⌜ PairsFree rows (pairCount (patternOf (compactSystem rows bodies (now (jacobians .entry)) (now (links .entry)) (now (masses .entry)))) rows)
+        (now (pattern .entry)) (now (pattern .exit)) (now (values .entry)) (now (values .exit)) ⌝ }
 {
     let Gathered::Done(count) = gather(links, pattern, room, rows) else {
         loops::clear_words(pattern);

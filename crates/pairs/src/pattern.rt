@@ -2,6 +2,7 @@
 ghost use mathlib.Core.Path.{_≡_};
 ghost use Prim.Native.Nat.{_+_, _*_, _<_, _≤_};
 ghost use lib.ListN.{length};
+ghost use Rattle.loops.specs.Cleared.{Free};
 ghost use Rattle.pairs.specs.Pattern.{startsIn, columnsIn};
 ghost use Rattle.pairs.specs.Gather.{sharesIn, anyShare, eightApart, shareIn, triedOf, triedColumns, FirstNoted, Firsts, Begin, RowDone, Gathering};
 use loops::wide;
@@ -178,10 +179,11 @@ const BODIES: usize = 256;
 // Above every row: no row that has the body is noted.
 const NO_ROW: u32 = 4294967295;
 
-// The pairs of `n` rows. The answer is their number, or Full where there are more than `room`.
+// The pairs of `n` rows. The answer is their number, or Full where there are more than `room`. Words of the pattern of which `Gathering` tells nothing are free.
 pub fn gather(links: &[u32], pattern: &mut [u32], room: u32, n: u32) -> Gathered
     requires { ⌜ (2 * n ≤ length (now links)) × (length (now pattern) ≡ n + 1 + room) ⌝ }
     ensures { λ r. ⌜ Gathering r (shareIn (now (links .entry))) (startsIn n (now (pattern .exit))) (columnsIn n (now (pattern .exit))) n room ⌝ }
+    ensures { λ _. ⌜ Free (now (pattern .entry)) (now (pattern .exit)) ⌝ }
 {
     if n < FEW_ROWS {
         let mut none: [u32; 0] = [0; 0];

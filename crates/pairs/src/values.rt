@@ -2,6 +2,7 @@
 ghost use mathlib.Core.Path.{_≡_};
 ghost use Prim.Native.Nat.{_+_, _*_, _<_, _≤_};
 ghost use lib.ListN.{length, getD};
+ghost use Rattle.loops.specs.Cleared.{Free};
 ghost use lib.Ieee.{nan};
 ghost use lib.Ieee.Scale.{finite};
 ghost use Rattle.loops.specs.Every.{every};
@@ -49,6 +50,7 @@ fn value_row(
     }
 }
 
+// What `values` has past the last place is left free.
 pub fn fill_values(
     jacobians: &[f64],
     links: &[u32],
@@ -64,6 +66,7 @@ pub fn fill_values(
     requires { ⌜ (length (now starts) ≡ rows + 1) × (length (now values) ≡ length (now columns)) ⌝ }
     requires { ⌜ Kept (now starts) (now columns) ⌝ }
     ensures { λ _. ⌜ Valued (valueIn (now (jacobians .entry)) (now (links .entry)) (now (masses .entry))) (now (starts .entry)) (now (columns .entry)) (now (values .exit)) (start (now (starts .entry)) rows) ⌝ }
+    ensures { λ _. ⌜ Free (now (values .entry)) (now (values .exit)) ⌝ }
 {
     let mut i = 0;
     while i < rows {

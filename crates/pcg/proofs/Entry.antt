@@ -6,9 +6,11 @@ use mathlib.Core.List.{List}
 use lib.Ieee.{Float}
 use borrow.Author.Tests.{not-false}
 use Rattle.loops.specs.Run.{next}
-use Rattle.kapitsa_joint.specs.Table.{Table}
 use Rattle.preconditioner.specs.declared.mode.Mode.{Mode}
-use Rattle.position_iteration.specs.Method.{positionMethod}
+use Rattle.position.specs.Problem.{Problem}
+use Rattle.position_iteration.specs.Method.{methodOf}
+use Rattle.position_iteration.specs.Places.{Apart}
+use Rattle.position_iteration.proofs.InPlace.{problem-in-place}
 use Rattle.position_iteration.specs.Counting.{countedOf}
 use Rattle.position_iteration.specs.Standing.{iteratedOut}
 use Rattle.position_iteration.specs.declared.iteration.Iterated.{Iterated}
@@ -20,25 +22,25 @@ use Rattle.position_delivery.specs.declared.answer.PositionPcg.the-variants as 
 use Rattle.position_delivery.proofs.Answered.{delivered-of, entry-refused, entry-on, entry-means}
 use Rattle.work_memory.specs.Work.{WorkMemory, clearedTable}
 use Rattle.work_memory.proofs.Cleared.{work-cleared, after-three, after-cleared}
-use Rattle.pcg.specs.Solved.{Solved}
+use Rattle.pcg.specs.SolveHeld.{SolveHeld}
 
 -- what has passed 3
 pub fits-true : (b fits : Bool) → b ≡ fits → not b ≡ false → fits ≡ true
 fits-true b fits e h = sym e ∙ not-false b h
 
 -- the entry; b is what the test of refusal 3 answered
-module _ (fits : Bool) (t : Table) (mode : Mode) (limit n : ℕ) (before : Lent) (work : WorkMemory) (b : Bool) (e : b ≡ fits) where
-  pub solved-three : not b ≡ true → Solved fits t mode limit n before before (answers.Refused 3) work work
+module _ (fits : Bool) (p : Problem) (mode : Mode) (limit n : ℕ) (before : Lent) (work : WorkMemory) (b : Bool) (apart : Apart p) (e : b ≡ fits) where
+  pub solved-three : not b ≡ true → SolveHeld fits p mode limit n before before (answers.Refused 3) work work
   solved-three h =
-      let q = entry-refused t mode n limit before b fits e h in
-      record { answered = q; means = entry-means (positionMethod fits t mode) limit n before before (answers.Refused 3) q; memory = after-three b fits e work h }
+      let q = entry-refused p mode n limit before b fits e h in
+      record { answered = q; means = entry-means (methodOf fits p mode) limit n before before (answers.Refused 3) q; in-place = problem-in-place p mode fits limit apart; memory = after-three b fits e work h }
 
   pub solved-on : (m : Mode) (em : m ≡ mode) (masses jacobians : List Float) (links : List ℕ) (pending residual : List Float) (c : Iterated) (after : Lent) (answer : PositionPcg) (workAfter : WorkMemory) → not b ≡ false
-      → CountHeld m t limit masses c jacobians links pending residual (work .steps) (workAfter .steps)
-      → outcomeOf n before (next (iteratedOut c limit pending residual) (finishedOf t)) ≡ record { answer = answer; lent = after } → workAfter .table ≡ clearedTable (work .table)
-      → Solved fits t mode limit n before after answer work workAfter
+      → CountHeld m p limit masses c jacobians links pending residual (work .steps) (workAfter .steps)
+      → outcomeOf n before (next (iteratedOut c limit pending residual) (finishedOf (p .table) (p .accumulated))) ≡ record { answer = answer; lent = after } → workAfter .table ≡ clearedTable (work .table)
+      → SolveHeld fits p mode limit n before after answer work workAfter
   solved-on m em masses jacobians links pending residual c after answer workAfter h held d et =
       let o : Outcome = record { answer = answer; lent = after } in
-      let counted : countedOf mode t limit ≡ iteratedOut c limit pending residual = ap (λ (k : Mode). countedOf k t limit) (sym em) ∙ held .answered in
-      let q = entry-on t mode n limit before b fits e o h (delivered-of t mode n limit before (iteratedOut c limit pending residual) o counted d) in
-      record { answered = q; means = entry-means (positionMethod fits t mode) limit n before after answer q; memory = after-cleared b fits e work workAfter h (work-cleared work workAfter (held .memory) et) }
+      let counted : countedOf mode p limit ≡ iteratedOut c limit pending residual = ap (λ (k : Mode). countedOf k p limit) (sym em) ∙ held .answered in
+      let q = entry-on p mode n limit before b fits e o h (delivered-of p mode n limit before (iteratedOut c limit pending residual) o counted d) in
+      record { answered = q; means = entry-means (methodOf fits p mode) limit n before after answer q; in-place = problem-in-place p mode fits limit apart; memory = after-cleared b fits e work workAfter h (work-cleared work workAfter (held .memory) et) }

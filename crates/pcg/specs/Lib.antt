@@ -1,1 +1,1 @@
-pub mod Solved
+pub mod SolveHeld

@@ -1,9 +1,9 @@
 // The position solve over lent tables: solve_position_pcg_prepared of pcg.rs, with every refusal of document 01.
-ghost use Rattle.kapitsa_joint.specs.Table.{tableOf};
 ghost use Rattle.preconditioner.specs.Mode.{modeOf};
+ghost use Rattle.position.specs.Problem.{positionOf};
 ghost use Rattle.work_memory.specs.Work.{workMemory};
 ghost use Rattle.work_memory.specs.Lengths.{passes3};
-ghost use Rattle.pcg.specs.Solved.{Solved};
+ghost use Rattle.pcg.specs.SolveHeld.{SolveHeld};
 use joint_refusals::counts_fit;
 use kapitsa_joint::JointTolerance;
 use position_delivery::PositionPcg;
@@ -39,8 +39,8 @@ pub fn solve_position_pcg_prepared(
     order: &mut [u32],
     values: &mut [f64],
 ) -> PositionPcg
-    ensures { λ r. ⌜ Solved (passes3 rows bodies mode (now (numbers .entry)) (now (words .entry)) (now (masses .entry)) (now (solution .entry)) (now (impulses .entry)) (workMemory (now (jacobians .entry)) (now (links .entry)) (now (tolerances .entry)) (now (diagonal .entry)) (now (residual .entry)) (now (pending .entry)) (now (direction .entry)) (now (product .entry)) (now («body_impulses» .entry)) (now (pattern .entry)) (now (order .entry)) (now (values .entry))))
-        (tableOf rows bodies (now (numbers .entry)) (now (words .entry)) (now (masses .entry)) tolerance) (modeOf mode) limit rows
+    ensures { λ r. ⌜ SolveHeld (passes3 rows bodies mode (now (numbers .entry)) (now (words .entry)) (now (masses .entry)) (now (solution .entry)) (now (impulses .entry)) (workMemory (now (jacobians .entry)) (now (links .entry)) (now (tolerances .entry)) (now (diagonal .entry)) (now (residual .entry)) (now (pending .entry)) (now (direction .entry)) (now (product .entry)) (now («body_impulses» .entry)) (now (pattern .entry)) (now (order .entry)) (now (values .entry))))
+        (positionOf rows bodies (now (numbers .entry)) (now (words .entry)) (now (masses .entry)) tolerance) (modeOf mode) limit rows
         record { numbers = now (numbers .entry); solution = now (solution .entry); impulses = now (impulses .entry) } record { numbers = now (numbers .exit); solution = now (solution .exit); impulses = now (impulses .exit) } r
         (workMemory (now (jacobians .entry)) (now (links .entry)) (now (tolerances .entry)) (now (diagonal .entry)) (now (residual .entry)) (now (pending .entry)) (now (direction .entry)) (now (product .entry)) (now («body_impulses» .entry)) (now (pattern .entry)) (now (order .entry)) (now (values .entry)))
         (workMemory (now (jacobians .exit)) (now (links .exit)) (now (tolerances .exit)) (now (diagonal .exit)) (now (residual .exit)) (now (pending .exit)) (now (direction .exit)) (now (product .exit)) (now («body_impulses» .exit)) (now (pattern .exit)) (now (order .exit)) (now (values .exit))) ⌝ }
@@ -108,7 +108,6 @@ pub fn solve_position_pcg_prepared(
         masses,
         rows,
         bodies,
-        tolerance,
         jacobians,
         links,
         residual,

@@ -3,14 +3,14 @@ use Prim.Native.Nat.{ℕ}
 use mathlib.Core.Path.{_≡_, refl}
 use mathlib.Core.Bool.{Bool, true, false, _&&_}
 use lib.Dec.{T}
-use lib.Ieee.{Float, binary64}
+use lib.Ieee.{Float, binary64, neg}
 use lib.Ieee.Scale.{finite}
 use Rattle.rounding.proofs.Rounded.{add-finite}
 use Rattle.kapitsa_joint.specs.Mass.{diagonalOf}
 use Rattle.kapitsa_joint.specs.declared.row.ConstraintRow.{ConstraintRow}
 use Rattle.kapitsa_joint.specs.declared.mass.SolverMass.{SolverMass}
 use Rattle.joint_refusals.specs.Refusals.{isValidOf}
-use Rattle.position.specs.Prepare.{rowDiagonal, startOf, passes8}
+use Rattle.position.specs.Prepare.{rowDiagonal, passes8}
 use Rattle.position.proofs.Valid.{start-finite}
 
 module _ (mass : ℕ → SolverMass) (r : ConstraintRow) where
@@ -25,9 +25,9 @@ module _ (mass : ℕ → SolverMass) (r : ConstraintRow) where
   both-finite t = add-finite binary64 diagonalA diagonalB t
 
   -- pcg.rs, solve_position_pcg_prepared: mass_a.diagonal(..)?, mass_b.diagonal(..)?, then the residual and the sum
-  pub diagonal-final : (bodies : ℕ) → isValidOf bodies r ≡ true → ((finite diagonalA && finite diagonalB) && finite (startOf r)) && finite (rowDiagonal mass r) ≡ passes8 (rowDiagonal mass r)
+  pub diagonal-final : (bodies : ℕ) → isValidOf bodies r ≡ true → ((finite diagonalA && finite diagonalB) && finite (neg (r .scalars .error))) && finite (rowDiagonal mass r) ≡ passes8 (rowDiagonal mass r)
   unfolding passes8
-  diagonal-final bodies h = go (finite diagonalA) (finite diagonalB) (finite (startOf r)) (finite (rowDiagonal mass r)) both-finite (start-finite bodies r h)
+  diagonal-final bodies h = go (finite diagonalA) (finite diagonalB) (finite (neg (r .scalars .error))) (finite (rowDiagonal mass r)) both-finite (start-finite bodies r h)
     where
       go : (a b s c : Bool) → (T c → T a × T b) → T s → ((a && b) && s) && c ≡ c
       go a b s true h e = rw (is a (h tt .0), is b (h tt .1), is s e)

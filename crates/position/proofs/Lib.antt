@@ -1,5 +1,6 @@
 -- Laws of step 0 and of what is delivered.
 pub mod Valid
+pub mod Rows
 pub mod Ways
 pub mod Started
 pub mod Gains

@@ -12,11 +12,12 @@ use Rattle.loops.specs.Cleared.{plusZero}
 use Rattle.binary64.specs.Order.{absolute, minPositive}
 use Rattle.kapitsa_joint.specs.Row.{rowOf}
 use Rattle.kapitsa_joint.specs.Mass.{massOf, crossOf, diagonalOf}
-use Rattle.kapitsa_joint.specs.Table.{Table, tableWith, tolerancesIn}
+use Rattle.kapitsa_joint.specs.Table.{Table, tableOf, tolerancesIn}
 use Rattle.kapitsa_joint.specs.declared.row.ConstraintRow.{ConstraintRow}
 use Rattle.kapitsa_joint.specs.declared.mass.SolverMass.{SolverMass}
 use Rattle.joint_refusals.specs.Refusals.{isValidOf}
-use Rattle.position.specs.Prepare.{one, rowDiagonal, startOf, passes8, isLow, passes9, rowJudged, preparedDiagonal, preparedResidual}
+use Rattle.position.specs.Problem.{errorStart, positionProblem}
+use Rattle.position.specs.Prepare.{one, rowDiagonal, passes8, isLow, passes9, rowJudged, preparedDiagonal, preparedResidual}
 
 -- ---- `row_diagonal`
 pub diagonal-is : (masses : List Float) (r : ConstraintRow) (v w : ℕ) (m n : SolverMass) (a b : Float) → m ≡ massOf masses v → v ≡ r .words .«body_a» → n ≡ massOf masses w → w ≡ r .words .«body_b»
@@ -51,10 +52,10 @@ module _ (d residual tolerance : Float) (t : Bool) (et : t ≡ finite d) where
 -- ---- `prepare_row`
 module _ (rows bodies : ℕ) (numbers : List Float) (words : List ℕ) (masses tolerances : List Float) (i : ℕ) where
   abbrev t : Table
-  t = tableWith rows bodies numbers words masses (tolerancesIn tolerances)
+  t = tableOf rows bodies numbers words masses
 
   abbrev rowPrepared : Run (Float × Float) ℕ
-  rowPrepared = next (rowJudged t i) (λ _. going (preparedDiagonal t i, preparedResidual t i))
+  rowPrepared = next (rowJudged (positionProblem t (tolerancesIn tolerances)) i) (λ _. going (preparedDiagonal t i, preparedResidual t (errorStart t) i))
 
   module _ (v : Bool) (ev : v ≡ isValidOf bodies (rowOf numbers words i)) where
     pub row-seven : not v ≡ true → rowPrepared ≡ ended 7
@@ -63,5 +64,5 @@ module _ (rows bodies : ℕ) (numbers : List Float) (words : List ℕ) (masses t
 
     pub row-on : (r : ConstraintRow) (d : Float) {o : Run (Float × Float) ℕ} → not v ≡ false → r ≡ rowOf numbers words i → d ≡ rowDiagonal (massOf masses) r
         → diagonalJudged d (neg (r .scalars .error)) (tolerancesIn tolerances i) ≡ o → rowPrepared ≡ o
-    unfolding rowJudged preparedDiagonal preparedResidual startOf judge test check on
+    unfolding rowJudged preparedDiagonal preparedResidual judge test check on
     row-on r d h er ed e = rw (← ev, not-false v h, ← er, ← ed) e

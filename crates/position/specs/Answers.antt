@@ -4,9 +4,8 @@ use mathlib.Core.Path.{_≡_}
 use mathlib.Core.List.{List}
 use lib.Ieee.{Float}
 use Rattle.loops.specs.Run.{Run, going, ended}
-use Rattle.loops.specs.Judge.{judged}
-use Rattle.kapitsa_joint.specs.Table.{Table}
-use Rattle.position.specs.Prepare.{rowJudged, diagonals, residuals}
+use Rattle.position.specs.Problem.{Problem}
+use Rattle.position.specs.Prepare.{rowsJudged, diagonals, residuals}
 use Rattle.position.specs.declared.prepare.RowAnswer.{RowAnswer}
 use Rattle.position.specs.declared.prepare.RowAnswer.the-variants as rows
 use Rattle.position.specs.declared.prepare.Begun.{Begun}
@@ -21,7 +20,7 @@ begunOut begun.Done = going tt
 begunOut (begun.Refused number) = ended number
 
 -- after a refusal diagonal and residual are left free: the solve clears them
-pub record BegunHeld (t : Table) (answer : Begun) (diagonal residual : List Float) : Type 0 where
-  pub judgement : judged (rowJudged t) (t .rows) ≡ begunOut answer
-  pub diagonal-is : answer ≡ begun.Done → diagonal ≡ diagonals t
-  pub residual-is : answer ≡ begun.Done → residual ≡ residuals t
+pub record BegunHeld (p : Problem) (answer : Begun) (diagonal residual : List Float) : Type 0 where
+  pub judgement : rowsJudged p ≡ begunOut answer
+  pub diagonal-is : answer ≡ begun.Done → diagonal ≡ diagonals (p .table)
+  pub residual-is : answer ≡ begun.Done → residual ≡ residuals (p .table) (p .start)

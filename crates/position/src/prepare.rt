@@ -6,9 +6,10 @@ ghost use Prim.Native.Nat.{_+_, _*_, _<_, _≤_};
 ghost use lib.ListN.{length};
 ghost use Rattle.loops.specs.Run.{going, next};
 ghost use Rattle.loops.specs.Judge.{judge};
-ghost use Rattle.loops.specs.Cleared.{plusZero};
+ghost use Rattle.loops.specs.Cleared.{plusZero, Free};
 ghost use Rattle.kapitsa_joint.specs.Mass.{massOf};
-ghost use Rattle.kapitsa_joint.specs.Table.{tableWith, tolerancesIn};
+ghost use Rattle.kapitsa_joint.specs.Table.{tableOf, tolerancesIn};
+ghost use Rattle.position.specs.Problem.{errorStart, positionProblem};
 ghost use Rattle.position.specs.Prepare.{one, rowDiagonal, passes8, isLow, passes9, rowJudged, preparedDiagonal, preparedResidual};
 ghost use Rattle.position.specs.Answers.{rowOut, BegunHeld};
 use joint_refusals::is_valid_at;
@@ -81,8 +82,8 @@ fn prepare_row(
     i: usize,
 ) -> RowAnswer
     requires { ⌜ (27 * rows ≤ length (now numbers)) × (8 * rows ≤ length (now words)) × (10 * bodies ≤ length (now masses)) × (rows ≤ length (now tolerances)) × (i < rows) ⌝ }
-    ensures { λ r. ⌜ next (rowJudged (tableWith rows bodies (now (numbers .entry)) (now (words .entry)) (now (masses .entry)) (tolerancesIn (now (tolerances .entry)))) i)
-        (λ _. going (preparedDiagonal (tableWith rows bodies (now (numbers .entry)) (now (words .entry)) (now (masses .entry)) (tolerancesIn (now (tolerances .entry)))) i, preparedResidual (tableWith rows bodies (now (numbers .entry)) (now (words .entry)) (now (masses .entry)) (tolerancesIn (now (tolerances .entry)))) i)) ≡ rowOut r ⌝ }
+    ensures { λ r. ⌜ next (rowJudged (positionProblem (tableOf rows bodies (now (numbers .entry)) (now (words .entry)) (now (masses .entry))) (tolerancesIn (now (tolerances .entry)))) i)
+        (λ _. going (preparedDiagonal (tableOf rows bodies (now (numbers .entry)) (now (words .entry)) (now (masses .entry))) i, preparedResidual (tableOf rows bodies (now (numbers .entry)) (now (words .entry)) (now (masses .entry))) (errorStart (tableOf rows bodies (now (numbers .entry)) (now (words .entry)) (now (masses .entry)))) i)) ≡ rowOut r ⌝ }
 {
     if !is_valid_at(numbers, words, i, bodies) {
         return RowAnswer::Refused(7);
@@ -103,7 +104,8 @@ pub fn begin(
     residual: &mut [f64],
 ) -> Begun
     requires { ⌜ (27 * length (now diagonal) ≤ length (now numbers)) × (8 * length (now diagonal) ≤ length (now words)) × (10 * bodies ≤ length (now masses)) × (length (now tolerances) ≡ length (now diagonal)) × (length (now residual) ≡ length (now diagonal)) ⌝ }
-    ensures { λ r. ⌜ BegunHeld (tableWith (length (now (diagonal .entry))) bodies (now (numbers .entry)) (now (words .entry)) (now (masses .entry)) (tolerancesIn (now (tolerances .entry)))) r (now (diagonal .exit)) (now (residual .exit)) ⌝ }
+    ensures { λ r. ⌜ BegunHeld (positionProblem (tableOf (length (now (diagonal .entry))) bodies (now (numbers .entry)) (now (words .entry)) (now (masses .entry))) (tolerancesIn (now (tolerances .entry)))) r (now (diagonal .exit)) (now (residual .exit)) ⌝ }
+    ensures { λ _. ⌜ Free (now (diagonal .entry)) (now (diagonal .exit)) × Free (now (residual .entry)) (now (residual .exit)) ⌝ }
 {
     let rows = diagonal.len();
     let mut i = 0;

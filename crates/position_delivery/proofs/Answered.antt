@@ -6,14 +6,14 @@ use borrow.Author.Tests.{not-false}
 use Rattle.loops.specs.Run.{Run, going, ended, next, on}
 use Rattle.loops.specs.Judge.{judge}
 use Rattle.loops.proofs.Loop.{on-ended}
-use Rattle.kapitsa_joint.specs.Table.{Table}
 use Rattle.preconditioner.specs.declared.mode.Mode.{Mode}
 use Rattle.recurrence.specs.Step.{Iterate, Carried}
 use Rattle.loops.proofs.Judge.{test-fail}
 use Rattle.steps.specs.Method.{Method}
 use Rattle.steps.specs.Solve.{counting, deliver, solve}
 use Rattle.steps.proofs.Answer.{means}
-use Rattle.position_iteration.specs.Method.{openingOf, positionMethod, Delivered}
+use Rattle.position.specs.Problem.{Problem}
+use Rattle.position_iteration.specs.Method.{openingOf, methodOf, Delivered}
 use Rattle.position_delivery.specs.Delivery.{finishedOf}
 use Rattle.position_delivery.specs.Outcome.{Lent, Outcome, Answer, proposalOf, committedOf, outcomeOf, SolveMeaning}
 use Rattle.position_iteration.specs.Counting.{countedOf}
@@ -24,22 +24,22 @@ abbrev outcome : PositionPcg → Lent → Outcome
 outcome r l = record { answer = r; lent = l }
 
 -- ---- what is delivered of what is counted
-pub delivered-of : (t : Table) (mode : Mode) (n limit : ℕ) (before : Lent) (x : Run (Bool × ℕ × Iterate) ℕ) (o : Outcome) → countedOf mode t limit ≡ x → outcomeOf n before (next x (finishedOf t)) ≡ o → outcomeOf n before (solve (positionMethod true t mode) limit) ≡ o
+pub delivered-of : (p : Problem) (mode : Mode) (n limit : ℕ) (before : Lent) (x : Run (Bool × ℕ × Iterate) ℕ) (o : Outcome) → countedOf mode p limit ≡ x → outcomeOf n before (next x (finishedOf (p .table) (p .accumulated))) ≡ o → outcomeOf n before (solve (methodOf true p mode) limit) ≡ o
 unfolding solve finishedOf countedOf on
-delivered-of t mode n limit before x o e h = ap (outcomeOf n before) (joined (openingOf true t limit) ∙ ap (λ (y : Run (Bool × ℕ × Iterate) ℕ). next y (deliver (positionMethod true t mode))) e) ∙ h
+delivered-of p mode n limit before x o e h = ap (outcomeOf n before) (joined (openingOf true p limit) ∙ ap (λ (y : Run (Bool × ℕ × Iterate) ℕ). next y (deliver (methodOf true p mode))) e) ∙ h
   where
-    joined : (p : Run Unit ℕ) → next p (λ _. next (counting (positionMethod true t mode) limit) (deliver (positionMethod true t mode))) ≡ next (next p (λ _. counting (positionMethod true t mode) limit)) (deliver (positionMethod true t mode))
+    joined : (r : Run Unit ℕ) → next r (λ _. next (counting (methodOf true p mode) limit) (deliver (methodOf true p mode))) ≡ next (next r (λ _. counting (methodOf true p mode) limit)) (deliver (methodOf true p mode))
     joined (going _) = refl
     joined (ended k) = refl
 
 -- ---- refusal 3
-module _ (t : Table) (mode : Mode) (n limit : ℕ) (before : Lent) (b fits : Bool) (e : b ≡ fits) where
-  pub entry-refused : not b ≡ true → outcomeOf n before (solve (positionMethod fits t mode) limit) ≡ outcome (answers.Refused 3) before
+module _ (p : Problem) (mode : Mode) (n limit : ℕ) (before : Lent) (b fits : Bool) (e : b ≡ fits) where
+  pub entry-refused : not b ≡ true → outcomeOf n before (solve (methodOf fits p mode) limit) ≡ outcome (answers.Refused 3) before
   unfolding solve proposalOf committedOf openingOf judge
   entry-refused h = ap (outcomeOf n before) (on-ended _ _ _ {a = 3} (test-fail fits 3 _ e h))
 
-  pub entry-on : (o : Outcome) → not b ≡ false → outcomeOf n before (solve (positionMethod true t mode) limit) ≡ o → outcomeOf n before (solve (positionMethod fits t mode) limit) ≡ o
-  entry-on o h q = let z : true ≡ fits = sym (not-false b h) ∙ e in ap (λ (x : Bool). outcomeOf n before (solve (positionMethod x t mode) limit)) (sym z) ∙ q
+  pub entry-on : (o : Outcome) → not b ≡ false → outcomeOf n before (solve (methodOf true p mode) limit) ≡ o → outcomeOf n before (solve (methodOf fits p mode) limit) ≡ o
+  entry-on o h q = let z : true ≡ fits = sym (not-false b h) ∙ e in ap (λ (x : Bool). outcomeOf n before (solve (methodOf x p mode) limit)) (sym z) ∙ q
 
 -- whatever the answer, it means what it says
 module _ (m : Method Iterate Carried Delivered) (limit n : ℕ) (before after : Lent) (r : PositionPcg) where

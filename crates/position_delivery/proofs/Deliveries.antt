@@ -18,7 +18,6 @@ use Rattle.loops.proofs.Loop.{on-going, on-ended}
 use Rattle.loops.proofs.Every.{every-same}
 use Rattle.kapitsa_joint.specs.Row.{rowOf, scalarsOf, wordsOf}
 use Rattle.kapitsa_joint.specs.Table.{Table, tableOf}
-use Rattle.kapitsa_joint.specs.declared.tolerance.JointTolerance.{JointTolerance}
 use Rattle.kapitsa_joint.specs.declared.row.RowJacobian.{RowJacobian}
 use Rattle.compact_table.specs.Compact.{compactOf}
 use Rattle.mass_operator.specs.System.{System, systemOf, compactSystem}
@@ -26,6 +25,7 @@ use Rattle.mass_operator.specs.Flat.{Summed, impulsesOf, coefficients}
 use Rattle.mass_operator.specs.Applied.{allFiniteOf, appliedOf}
 use Rattle.mass_operator.specs.declared.finite.Applied.{Applied}
 use Rattle.mass_operator.specs.declared.finite.Applied.the-variants as applied
+use Rattle.position.specs.Problem.{multipliers}
 use Rattle.position.specs.Multipliers.{gainOf, gainsFinite, gained}
 use Rattle.position_iteration.specs.Method.{gainsOf, maximaIn, finishOf, Delivered}
 use Rattle.position_delivery.specs.Outcome.{withMultipliers, resultOf, proposalOf, committedOf}
@@ -88,9 +88,9 @@ unfolding withMultipliers
 with-same numbers l n zero h g = refl
 with-same numbers l n (suc k) h g = rw (with-same numbers l n k (omega arith) g, g k (omega arith)) (set-getD numbers (27 * k + 24) nan)
 
-module _ (numbers masses : List Float) (words : List ℕ) (rows bodies : ℕ) (tolerance : JointTolerance) where
+module _ (numbers masses : List Float) (words : List ℕ) (rows bodies : ℕ) where
   abbrev table : Table
-  table = tableOf rows bodies numbers words masses tolerance
+  table = tableOf rows bodies numbers words masses
 
   place : (i : ℕ) → 27 * i + 15 + 9 ≡ 27 * i + 24
   place i = omega arith
@@ -99,18 +99,19 @@ module _ (numbers masses : List Float) (words : List ℕ) (rows bodies : ℕ) (t
   unfolding rowOf scalarsOf
   multiplier i = ap (λ (k : ℕ). getD numbers k nan) (place i)
 
-  kept-multipliers : withMultipliers numbers (tabulate (λ i. table .row i .scalars .«accumulated_multiplier») rows) rows ≡ numbers
+  -- document 01: "with count 0 it keeps its bits"
+  pub kept-multipliers : withMultipliers numbers (tabulate (λ i. table .row i .scalars .«accumulated_multiplier») rows) rows ≡ numbers
   kept-multipliers = with-same numbers _ rows rows (omega arith) (λ i h. getD-tabulate (λ i. table .row i .scalars .«accumulated_multiplier») rows i nan h ∙ multiplier i)
 
   gain-at : (solution : List Float) (i : ℕ) → add binary64 (table .row i .scalars .«accumulated_multiplier») (getD solution i nan) ≡ gainOf numbers solution i
   unfolding gainOf
   gain-at solution i = rw (multiplier i)
 
-  gained-multipliers : (solution : List Float) → withMultipliers numbers (gainsOf table solution) rows ≡ gained numbers solution rows
+  gained-multipliers : (solution : List Float) → withMultipliers numbers (gainsOf (multipliers table) rows solution) rows ≡ gained numbers solution rows
   unfolding gainsOf
   gained-multipliers solution = with-gained numbers solution _ rows rows (omega arith) (λ i h. getD-tabulate (λ i. add binary64 (table .row i .scalars .«accumulated_multiplier») (getD solution i nan)) rows i nan h ∙ gain-at solution i)
 
-  gains-finite : (solution : List Float) → allFiniteOf (gainsOf table solution) ≡ gainsFinite numbers solution rows
+  gains-finite : (solution : List Float) → allFiniteOf (gainsOf (multipliers table) rows solution) ≡ gainsFinite numbers solution rows
   unfolding allFiniteOf gainsFinite gainsOf
   gains-finite solution =
       ap (every (λ i. finite (getD (tabulate (λ i. add binary64 (table .row i .scalars .«accumulated_multiplier») (getD solution i nan)) rows) i nan))) (length-tabulate (λ i. add binary64 (table .row i .scalars .«accumulated_multiplier») (getD solution i nan)) rows)
@@ -122,11 +123,11 @@ module _ (numbers masses : List Float) (words : List ℕ) (rows bodies : ℕ) (t
   maxima-in pending residual e = ap (maximaOf (λ i. dimensionOf (getD words (8 * i + 1) 0)) residual) e
 
   module _ (flag : Bool) (count : ℕ) (pending residual : List Float) (long : length residual ≡ rows) (r : PositionPcg) (accepted : r ≡ acceptedOf flag count words residual) where
-    answer-is : (m l : List Float) → r ≡ answers.Accepted (resultOf flag count (record { multipliers = m; impulses = l; maxima = maximaIn table (record { solution = pending; residual = residual }) }))
+    answer-is : (m l : List Float) → r ≡ answers.Accepted (resultOf flag count (record { accumulated = m; impulses = l; maxima = maximaIn table (record { solution = pending; residual = residual }) }))
     unfolding acceptedOf
     answer-is m l = accepted ∙ ap (λ (x : Maxima). answers.Accepted (record { converged = flag; iterations = count; «linear_residual_m» = x .linear; «angular_residual_rad» = x .angular })) (maxima-in pending residual long)
 
-    pub proposed-none : (solution impulses solution₁ impulses₁ : List Float) → count ≡ 0 → solution₁ ≡ pending → impulses₁ ≡ zeros (6 * bodies) → proposalOf solution impulses (finishedOf table (flag, count, record { solution = pending; residual = residual })) ≡ record { answer = r; solution = solution₁; impulses = impulses₁ }
+    pub proposed-none : (solution impulses solution₁ impulses₁ : List Float) → count ≡ 0 → solution₁ ≡ pending → impulses₁ ≡ zeros (6 * bodies) → proposalOf solution impulses (finishedOf table (multipliers table) (flag, count, record { solution = pending; residual = residual })) ≡ record { answer = r; solution = solution₁; impulses = impulses₁ }
     unfolding finishedOf finishOf proposalOf on
     proposed-none solution impulses solution₁ impulses₁ z es e = rw (z, es, e, answer-is (tabulate (λ i. table .row i .scalars .«accumulated_multiplier») rows) (zeros (6 * bodies)), z)
 
@@ -152,18 +153,18 @@ module _ (numbers masses : List Float) (words : List ℕ) (rows bodies : ℕ) (t
     totals = impulsesOf (systemOf table .jacobian) (coefficients pending) rows bodies
 
     abbrev passes17 : Bool
-    passes17 = allFiniteOf totals && allFiniteOf (gainsOf table pending)
+    passes17 = allFiniteOf totals && allFiniteOf (gainsOf (multipliers table) rows pending)
 
     abbrev delivery : Delivered
-    delivery = record { multipliers = gainsOf table pending; impulses = totals; maxima = maximaIn table step }
+    delivery = record { accumulated = gainsOf (multipliers table) rows pending; impulses = totals; maxima = maximaIn table step }
 
-    finished : (k : ℕ) → passes17 ≡ true → finishedOf table (flag, suc k, step) ≡ going ((flag, suc k, step), delivery)
+    finished : (k : ℕ) → passes17 ≡ true → finishedOf table (multipliers table) (flag, suc k, step) ≡ going ((flag, suc k, step), delivery)
     unfolding finishedOf finishOf
-    finished k t = on-going _ _ _ {s = delivery} (both-pass (allFiniteOf totals) (allFiniteOf (gainsOf table pending)) delivery t)
+    finished k t = on-going _ _ _ {s = delivery} (both-pass (allFiniteOf totals) (allFiniteOf (gainsOf (multipliers table) rows pending)) delivery t)
 
-    refused : (k : ℕ) → passes17 ≡ false → finishedOf table (flag, suc k, step) ≡ ended 17
+    refused : (k : ℕ) → passes17 ≡ false → finishedOf table (multipliers table) (flag, suc k, step) ≡ ended 17
     unfolding finishedOf finishOf
-    refused k t = on-ended _ _ _ {a = 17} (one-fails (allFiniteOf totals) (allFiniteOf (gainsOf table pending)) delivery t)
+    refused k t = on-ended _ _ _ {a = 17} (one-fails (allFiniteOf totals) (allFiniteOf (gainsOf (multipliers table) rows pending)) delivery t)
 
     module _ (jacobians solution impulses : List Float) (links : List ℕ) (n b : ℕ) (q : Bool) (solution₁ impulses₁ : List Float) (en : n ≡ rows) (eb : b ≡ bodies) (system : compactSystem rows bodies jacobians links masses ≡ systemOf table)
         (shown : Shown q numbers (impulsesOf (compactOf jacobians links) (coefficients pending) n b) pending solution impulses solution₁ impulses₁) (long : length pending ≡ rows) where
@@ -173,24 +174,24 @@ module _ (numbers masses : List Float) (words : List ℕ) (rows bodies : ℕ) (t
       tests : q ≡ passes17
       tests = shown .passed ∙ rw (impulses-are, long, gains-finite pending)
 
-      pub proposed-refused : (count : ℕ) → (count ≡ 0 → ⊥) → q ≡ false → proposalOf solution impulses (finishedOf table (flag, count, step)) ≡ record { answer = answers.Refused 17; solution = solution₁; impulses = impulses₁ }
+      pub proposed-refused : (count : ℕ) → (count ≡ 0 → ⊥) → q ≡ false → proposalOf solution impulses (finishedOf table (multipliers table) (flag, count, step)) ≡ record { answer = answers.Refused 17; solution = solution₁; impulses = impulses₁ }
       unfolding proposalOf
       proposed-refused zero z t = absurd (z refl)
       proposed-refused (suc k) z t = let (es, ei) = shown .kept t in ap (proposalOf solution impulses) (refused k (sym tests ∙ t)) ∙ rw (es, ei)
 
-      pub proposed-all : (count : ℕ) (r : PositionPcg) → (count ≡ 0 → ⊥) → q ≡ true → length residual ≡ rows → r ≡ acceptedOf flag count words residual → proposalOf solution impulses (finishedOf table (flag, count, step)) ≡ record { answer = r; solution = solution₁; impulses = impulses₁ }
+      pub proposed-all : (count : ℕ) (r : PositionPcg) → (count ≡ 0 → ⊥) → q ≡ true → length residual ≡ rows → r ≡ acceptedOf flag count words residual → proposalOf solution impulses (finishedOf table (multipliers table) (flag, count, step)) ≡ record { answer = r; solution = solution₁; impulses = impulses₁ }
       unfolding proposalOf
       proposed-all zero r z t lr e = absurd (z refl)
-      proposed-all (suc k) r z t lr e = let (es, ei) = shown .shown t in ap (proposalOf solution impulses) (finished k (sym tests ∙ t)) ∙ rw (answer-is flag (suc k) pending residual lr r e (gainsOf table pending) totals, es, ei ∙ impulses-are)
+      proposed-all (suc k) r z t lr e = let (es, ei) = shown .shown t in ap (proposalOf solution impulses) (finished k (sym tests ∙ t)) ∙ rw (answer-is flag (suc k) pending residual lr r e (gainsOf (multipliers table) rows pending) totals, es, ei ∙ impulses-are)
 
     -- ---- the commit of what is proposed is the definition's
     pub commits : (count : ℕ) (solution impulses : List Float) → length pending ≡ rows
-        → committedOf rows numbers (finishedOf table (flag, count, step)) ≡ committedBy (proposalOf solution impulses (finishedOf table (flag, count, step)) .answer) numbers (proposalOf solution impulses (finishedOf table (flag, count, step)) .solution)
+        → committedOf rows numbers (finishedOf table (multipliers table) (flag, count, step)) ≡ committedBy (proposalOf solution impulses (finishedOf table (multipliers table) (flag, count, step)) .answer) numbers (proposalOf solution impulses (finishedOf table (multipliers table) (flag, count, step)) .solution)
     unfolding committedOf committedBy proposalOf gainedAfter finishedOf finishOf on
     commits zero solution impulses long = kept-multipliers
     commits (suc k) solution impulses long = by passes17 refl
       where
         by : (b : Bool) → passes17 ≡ b
-            → committedOf rows numbers (finishedOf table (flag, suc k, step)) ≡ committedBy (proposalOf solution impulses (finishedOf table (flag, suc k, step)) .answer) numbers (proposalOf solution impulses (finishedOf table (flag, suc k, step)) .solution)
+            → committedOf rows numbers (finishedOf table (multipliers table) (flag, suc k, step)) ≡ committedBy (proposalOf solution impulses (finishedOf table (multipliers table) (flag, suc k, step)) .answer) numbers (proposalOf solution impulses (finishedOf table (multipliers table) (flag, suc k, step)) .solution)
         by true t = rw (finished k t) (gained-multipliers pending ∙ ap (gained numbers pending) (sym long))
         by false t = rw (refused k t)

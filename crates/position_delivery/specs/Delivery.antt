@@ -44,5 +44,5 @@ committedBy (answers.Accepted r) numbers solution = gainedAfter (r .iterations) 
 committedBy (answers.Refused number) numbers solution = numbers
 
 -- flag, count and the step counted, with what is delivered of it
-unfoldable pub finishedOf : Table → Bool × ℕ × Iterate → Answer
-finishedOf t a = next (finishOf t (a .1) (a .2)) (λ f. going (a, f))
+unfoldable pub finishedOf : Table → (ℕ → Float) → Bool × ℕ × Iterate → Answer
+finishedOf t accumulated a = next (finishOf t accumulated (a .1) (a .2)) (λ f. going (a, f))

@@ -48,7 +48,7 @@ proposalOf solution impulses (ended number) = record { answer = answers.Refused 
 
 -- What is then written into the n rows: their accumulated multipliers.
 unfoldable pub committedOf : ℕ → List Float → Answer → List Float
-committedOf n numbers (going (a, f)) = withMultipliers numbers (f .multipliers) n
+committedOf n numbers (going (a, f)) = withMultipliers numbers (f .accumulated) n
 committedOf n numbers (ended number) = numbers
 
 -- The solve is both.
@@ -58,7 +58,7 @@ outcomeOf n before a =
     record { answer = p .answer; lent = record { numbers = committedOf n (before .numbers) a; solution = p .solution; impulses = p .impulses } }
 
 abbrev pub lentOf : ℕ → Lent → Iterate → Delivered → Lent
-lentOf n before v f = record { numbers = withMultipliers (before .numbers) (f .multipliers) n; solution = v .solution; impulses = f .impulses }
+lentOf n before v f = record { numbers = withMultipliers (before .numbers) (f .accumulated) n; solution = v .solution; impulses = f .impulses }
 
 -- ---- what an answer means, told by document 01's steps: demand 3
 module _ (m : Method Iterate Carried Delivered) (limit n : ℕ) (before : Lent) where

@@ -6,15 +6,16 @@ ghost use Rattle.kapitsa_joint.specs.Table.{tableOf};
 ghost use Rattle.compact_table.specs.Compact.{compactOf, Linked};
 ghost use Rattle.mass_operator.specs.Flat.{coefficients, impulsesOf};
 ghost use Rattle.loops.specs.Run.{next};
+ghost use Rattle.loops.specs.Cleared.{Free};
 ghost use Rattle.work_memory.specs.Work.{tableMemory, clearedTable};
 ghost use Rattle.work_memory.specs.Lengths.{RowsRoom, TableRoom};
+ghost use Rattle.position.specs.Problem.{multipliers};
 ghost use Rattle.position_iteration.specs.Standing.{iteratedOut};
-ghost use Rattle.position_iteration.specs.Stands.{Counted, Stands};
+ghost use Rattle.position_iteration.specs.Stands.{StandsAfter, Stands};
 ghost use Rattle.position_delivery.specs.Outcome.{proposalOf, outcomeOf};
 ghost use Rattle.position_delivery.specs.Delivery.{Judged, Shown, acceptedOf, committedBy, finishedOf};
 use crate::answer::PositionPcg;
 use crate::answer::PositionPcgResult;
-use kapitsa_joint::JointTolerance;
 use loops::wide;
 use mass_operator::Applied;
 use mass_operator::global_velocity_impulse;
@@ -90,7 +91,6 @@ fn propose_step(
     masses: &[f64],
     rows: u32,
     bodies: u32,
-    tolerance: JointTolerance,
     jacobians: &[f64],
     links: &[u32],
     pending: &[f64],
@@ -101,8 +101,8 @@ fn propose_step(
 ) -> PositionPcg
     requires { ⌜ (length (now numbers) ≡ 27 * rows) × (length (now words) ≡ 8 * rows) × (10 * bodies ≤ length (now masses)) × (length (now solution) ≡ rows) × (length (now impulses) ≡ 6 * bodies) ⌝ }
     requires { ⌜ (12 * rows ≤ length (now jacobians)) × (2 * rows ≤ length (now links)) × (length (now pending) ≡ rows) × (length (now residual) ≡ rows) × (length (now «body_impulses») ≡ 6 * bodies) ⌝ }
-    requires { ⌜ Stands (tableOf rows bodies (now numbers) (now words) (now masses) tolerance) (now masses) (now jacobians) (now links) ⌝ }
-    ensures { λ r. ⌜ proposalOf (now (solution .entry)) (now (impulses .entry)) (finishedOf (tableOf rows bodies (now (numbers .entry)) (now (words .entry)) (now (masses .entry)) tolerance) (flag, count, record { solution = now (pending .entry); residual = now (residual .entry) })) ≡ record { answer = r; solution = now (solution .exit); impulses = now (impulses .exit) } ⌝ }
+    requires { ⌜ Stands (tableOf rows bodies (now numbers) (now words) (now masses)) (now masses) (now jacobians) (now links) ⌝ }
+    ensures { λ r. ⌜ proposalOf (now (solution .entry)) (now (impulses .entry)) (finishedOf (tableOf rows bodies (now (numbers .entry)) (now (words .entry)) (now (masses .entry))) (multipliers (tableOf rows bodies (now (numbers .entry)) (now (words .entry)) (now (masses .entry)))) (flag, count, record { solution = now (pending .entry); residual = now (residual .entry) })) ≡ record { answer = r; solution = now (solution .exit); impulses = now (impulses .exit) } ⌝ }
 {
     if count == 0 {
         loops::copy(solution, pending);
@@ -133,7 +133,6 @@ pub fn propose(
     masses: &[f64],
     rows: u32,
     bodies: u32,
-    tolerance: JointTolerance,
     jacobians: &[f64],
     links: &[u32],
     pending: &[f64],
@@ -144,8 +143,9 @@ pub fn propose(
 ) -> PositionPcg
     requires { ⌜ (length (now numbers) ≡ 27 * rows) × (length (now words) ≡ 8 * rows) × (10 * bodies ≤ length (now masses)) × (length (now solution) ≡ rows) × (length (now impulses) ≡ 6 * bodies) ⌝ }
     requires { ⌜ (12 * rows ≤ length (now jacobians)) × (2 * rows ≤ length (now links)) × (length (now pending) ≡ rows) × (length (now residual) ≡ rows) × (length (now «body_impulses») ≡ 6 * bodies) ⌝ }
-    requires { ⌜ Counted (tableOf rows bodies (now numbers) (now words) (now masses) tolerance) (now masses) counted (now jacobians) (now links) ⌝ }
-    ensures { λ r. ⌜ proposalOf (now (solution .entry)) (now (impulses .entry)) (next (iteratedOut counted limit (now (pending .entry)) (now (residual .entry))) (finishedOf (tableOf rows bodies (now (numbers .entry)) (now (words .entry)) (now (masses .entry)) tolerance))) ≡ record { answer = r; solution = now (solution .exit); impulses = now (impulses .exit) } ⌝ }
+    requires { ⌜ StandsAfter (tableOf rows bodies (now numbers) (now words) (now masses)) (now masses) counted (now jacobians) (now links) ⌝ }
+    ensures { λ r. ⌜ proposalOf (now (solution .entry)) (now (impulses .entry)) (next (iteratedOut counted limit (now (pending .entry)) (now (residual .entry))) (finishedOf (tableOf rows bodies (now (numbers .entry)) (now (words .entry)) (now (masses .entry))) (multipliers (tableOf rows bodies (now (numbers .entry)) (now (words .entry)) (now (masses .entry)))))) ≡ record { answer = r; solution = now (solution .exit); impulses = now (impulses .exit) } ⌝ }
+    ensures { λ _. ⌜ Free (now («body_impulses» .entry)) (now («body_impulses» .exit)) ⌝ }
 {
     let mut flag = true;
     let mut count = limit;
@@ -168,7 +168,6 @@ pub fn propose(
         masses,
         rows,
         bodies,
-        tolerance,
         jacobians,
         links,
         pending,
@@ -204,7 +203,6 @@ pub fn deliver(
     masses: &[f64],
     rows: u32,
     bodies: u32,
-    tolerance: JointTolerance,
     jacobians: &mut [f64],
     links: &mut [u32],
     residual: &mut [f64],
@@ -216,8 +214,8 @@ pub fn deliver(
     requires { ⌜ RowsRoom rows bodies (now numbers) (now words) (now masses) ⌝ }
     requires { ⌜ (length (now solution) ≡ rows) × (length (now impulses) ≡ 6 * bodies) ⌝ }
     requires { ⌜ TableRoom rows bodies (tableMemory (now jacobians) (now links) (now residual) (now pending) (now «body_impulses»)) ⌝ }
-    requires { ⌜ Counted (tableOf rows bodies (now numbers) (now words) (now masses) tolerance) (now masses) counted (now jacobians) (now links) ⌝ }
-    ensures { λ r. ⌜ outcomeOf rows record { numbers = now (numbers .entry); solution = now (solution .entry); impulses = now (impulses .entry) } (next (iteratedOut counted limit (now (pending .entry)) (now (residual .entry))) (finishedOf (tableOf rows bodies (now (numbers .entry)) (now (words .entry)) (now (masses .entry)) tolerance))) ≡ record { answer = r; lent = record { numbers = now (numbers .exit); solution = now (solution .exit); impulses = now (impulses .exit) } } ⌝ }
+    requires { ⌜ StandsAfter (tableOf rows bodies (now numbers) (now words) (now masses)) (now masses) counted (now jacobians) (now links) ⌝ }
+    ensures { λ r. ⌜ outcomeOf rows record { numbers = now (numbers .entry); solution = now (solution .entry); impulses = now (impulses .entry) } (next (iteratedOut counted limit (now (pending .entry)) (now (residual .entry))) (finishedOf (tableOf rows bodies (now (numbers .entry)) (now (words .entry)) (now (masses .entry))) (multipliers (tableOf rows bodies (now (numbers .entry)) (now (words .entry)) (now (masses .entry)))))) ≡ record { answer = r; lent = record { numbers = now (numbers .exit); solution = now (solution .exit); impulses = now (impulses .exit) } } ⌝ }
     ensures { λ _. ⌜ tableMemory (now (jacobians .exit)) (now (links .exit)) (now (residual .exit)) (now (pending .exit)) (now («body_impulses» .exit)) ≡ clearedTable (tableMemory (now (jacobians .entry)) (now (links .entry)) (now (residual .entry)) (now (pending .entry)) (now («body_impulses» .entry))) ⌝ }
 {
     let answer = propose(
@@ -228,7 +226,6 @@ pub fn deliver(
         masses,
         rows,
         bodies,
-        tolerance,
         jacobians,
         links,
         pending,

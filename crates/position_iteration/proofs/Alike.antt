@@ -30,7 +30,7 @@ updated-long v w direction product alpha e =
     let z : lessScaled (v .residual) alpha product ≡ w .residual = cc in
     ap length (sym z) ∙ length-tabulate _ (length (v .residual))
 
-advance-long : (s : System) (v w : Iterate) (c : Carried) → advanceOf s v c ≡ going w → length (w .residual) ≡ length (v .residual)
+pub advance-long : (s : System) (v w : Iterate) (c : Carried) → advanceOf s v c ≡ going w → length (w .residual) ≡ length (v .residual)
 unfolding advanceOf
 advance-long s v w c e =
     let (_, _, q) = next-going (test _ 16) _ w .0 e in

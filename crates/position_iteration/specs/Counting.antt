@@ -2,11 +2,11 @@
 use Prim.Native.Nat.{ℕ}
 use mathlib.Core.Bool.{Bool, true}
 use Rattle.loops.specs.Run.{Run, next}
-use Rattle.kapitsa_joint.specs.Table.{Table}
+use Rattle.position.specs.Problem.{Problem}
 use Rattle.preconditioner.specs.declared.mode.Mode.{Mode}
 use Rattle.recurrence.specs.Step.{Iterate}
 use Rattle.steps.specs.Solve.{counting}
-use Rattle.position_iteration.specs.Method.{openingOf, positionMethod}
+use Rattle.position_iteration.specs.Method.{openingOf, methodOf}
 
-unfoldable pub countedOf : Mode → Table → ℕ → Run (Bool × ℕ × Iterate) ℕ
-countedOf mode t limit = next (openingOf true t limit) (λ _. counting (positionMethod true t mode) limit)
+unfoldable pub countedOf : Mode → Problem → ℕ → Run (Bool × ℕ × Iterate) ℕ
+countedOf mode p limit = next (openingOf true p limit) (λ _. counting (methodOf true p mode) limit)

@@ -1,4 +1,4 @@
--- The parts of the position solve: document 01, "Flag, count and residuals". Everything is made from the table, the mode, and whether refusal 3 passes.
+-- The parts of a solve: document 01, "Flag, count and residuals". Everything is made from what it is given, the mode, and whether refusal 3 passes.
 use Prim.Native.Nat.{ℕ, zero, suc, _*_}
 use mathlib.Core.Bool.{Bool, not, _&&_, cond, true}
 use mathlib.Core.List.{List, [], _∷_}
@@ -6,12 +6,13 @@ use lib.Dec.{eqb}
 use lib.ListN.{getD}
 use lib.Ieee.{Float, nan, binary64, add}
 use lib.Ieee.Scale.{finite}
-use Rattle.loops.specs.Run.{Run, going, next}
-use Rattle.loops.specs.Judge.{judge, judged, test}
+use Rattle.loops.specs.Run.{Run, check, going, next}
+use Rattle.loops.specs.Judge.{judge, test}
+use Rattle.loops.specs.Every.{every}
 use Rattle.loops.specs.Tabulate.{tabulate}
 use Rattle.kapitsa_joint.specs.Table.{Table}
 use Rattle.kapitsa_joint.specs.Tolerance.{dimensionOf}
-use Rattle.joint_refusals.specs.Refusals.{passes4, rowsOpen, passes6}
+use Rattle.joint_refusals.specs.Refusals.{passes4, passes6}
 use Rattle.mass_operator.specs.System.{System, systemOf}
 use Rattle.mass_operator.specs.Flat.{coefficients, impulsesOf}
 use Rattle.mass_operator.specs.Applied.{allFiniteOf}
@@ -20,7 +21,8 @@ use Rattle.preconditioner.specs.Factor.{factorJudged}
 use Rattle.preconditioner.specs.Apply.{preconditioned}
 use Rattle.preconditioner.specs.declared.mode.Mode.{Mode}
 use Rattle.recurrence.specs.Step.{Iterate, Carried, advanceOf, firstFrom, renewFrom}
-use Rattle.position.specs.Prepare.{rowJudged, diagonals, residuals}
+use Rattle.position.specs.Problem.{Problem}
+use Rattle.position.specs.Prepare.{rowsJudged, diagonals, residuals}
 use Rattle.position.specs.Residual.{meetsOf, maximaOf}
 use Rattle.position.specs.declared.residual.Maxima.{Maxima}
 use Rattle.steps.specs.Method.{Recurrence, Method}
@@ -29,21 +31,38 @@ use Rattle.steps.specs.Method.{Recurrence, Method}
 abbrev pub ownerOf : Table → ℕ → ℕ
 ownerOf t i = t .row i .words .owner
 
--- "5. There are rows and the limit is 0, or a row fails the Rust's opening test"
-unfoldable pub passes5 : ℕ → Table → Bool
-passes5 limit t = cond (eqb (t .rows) 0) true (not (eqb limit 0) && rowsOpen t)
+-- ---- what is judged before step 0
 
--- what is judged before step 0; fits is whether 3 passes
-unfoldable pub openingOf : Bool → Table → ℕ → Run Unit ℕ
-openingOf fits t limit = judge ((3, fits) ∷ ((4, passes4 t) ∷ ((5, passes5 limit t) ∷ ((6, passes6 t) ∷ []))))
+-- "5. There are rows and the limit is 0, or a row fails the Rust's opening test"
+unfoldable pub passes5 : ℕ → (ℕ → Bool) → ℕ → Bool
+passes5 rows opens limit = cond (eqb rows 0) true (not (eqb limit 0) && every opens rows)
+
+-- once 3 has passed, in this order
+abbrev pub tableTests : Table → (ℕ → Bool) → List (ℕ × Bool) → ℕ → List (ℕ × Bool)
+tableTests t opens lent limit = (4, passes4 t) ∷ ((5, passes5 (t .rows) opens limit) ∷ ((6, passes6 t) ∷ lent))
+
+-- fits is whether 3 passes
+abbrev pub openingTests : Bool → Problem → ℕ → List (ℕ × Bool)
+openingTests fits p limit = (3, fits) ∷ tableTests (p .table) (p .opens) (p .lent) limit
+
+unfoldable pub openingOf : Bool → Problem → ℕ → Run Unit ℕ
+openingOf fits p limit = judge (openingTests fits p limit)
+
+-- ---- step 0 and what follows from it
+
+-- the factor (10 to 13), where it stands here
+unfoldable pub factorHere : Bool → Mode → System → (ℕ → ℕ) → List Float → Run Unit ℕ
+factorHere here mode s owner diagonal = check here (factorJudged mode s owner diagonal) (going tt)
 
 -- "Step 0 has the starting residual, replaced rows at 0.0", and the solution "0 at first"
-unfoldable pub beginOf : Table → Run Iterate ℕ
-beginOf t = next (judged (rowJudged t) (t .rows)) (λ _. going (record { solution = zeros (t .rows); residual = residuals t }))
+unfoldable pub beginOf : Problem → Mode → Run Iterate ℕ
+beginOf p mode =
+    let t = p .table in
+    next (rowsJudged p) (λ _. next (factorHere (p .factorFirst) mode (systemOf t) (ownerOf t) (diagonals t)) (λ _. going (record { solution = zeros (t .rows); residual = residuals t (p .start) })))
 
--- the factor (10 to 13), then z, s and direction (16, 14)
-unfoldable pub firstOf : Mode → System → (ℕ → ℕ) → List Float → Iterate → Run Carried ℕ
-firstOf mode s owner diagonal v = next (factorJudged mode s owner diagonal) (λ _. firstFrom (preconditioned mode s owner diagonal (v .residual)) (v .residual))
+-- where step 0 misses: the factor, unless it is there, then z, s and direction (16, 14)
+unfoldable pub firstOf : Bool → Mode → System → (ℕ → ℕ) → List Float → Iterate → Run Carried ℕ
+firstOf factorThere mode s owner diagonal v = next (factorHere (not factorThere) mode s owner diagonal) (λ _. firstFrom (preconditioned mode s owner diagonal (v .residual)) (v .residual))
 
 -- the steps, by the z of a residual
 abbrev pub stepsBy : (List Float → Run (List Float) ℕ) → System → (ℕ → Float) → Recurrence Iterate Carried
@@ -53,35 +72,35 @@ stepsBy z s tolerance = record {
   renew = λ v c. renewFrom (z (v .residual)) (v .residual) c;
 }
 
-abbrev pub positionSteps : Mode → System → (ℕ → ℕ) → List Float → (ℕ → Float) → Recurrence Iterate Carried
-positionSteps mode s owner diagonal tolerance = stepsBy (preconditioned mode s owner diagonal) s tolerance
+abbrev pub stepsOf : Mode → System → (ℕ → ℕ) → List Float → (ℕ → Float) → Recurrence Iterate Carried
+stepsOf mode s owner diagonal tolerance = stepsBy (preconditioned mode s owner diagonal) s tolerance
 
 -- ---- what is delivered: document 01, "Multipliers, solution, impulses"
 pub record Delivered : Type 0 where
-  pub multipliers : List Float  -- the accumulated ones, afterwards
+  pub accumulated : List Float  -- the rows' accumulated numbers, afterwards
   pub impulses : List Float  -- six doubles a body
   pub maxima : Maxima
 
-unfoldable pub gainsOf : Table → List Float → List Float
-gainsOf t solution = tabulate (λ i. add binary64 (t .row i .scalars .«accumulated_multiplier») (getD solution i nan)) (t .rows)
+unfoldable pub gainsOf : (ℕ → Float) → ℕ → List Float → List Float
+gainsOf accumulated rows solution = tabulate (λ i. add binary64 (accumulated i) (getD solution i nan)) rows
 
 unfoldable pub maximaIn : Table → Iterate → Maxima
 maximaIn t v = maximaOf (λ i. dimensionOf (t .row i .words .dimension)) (v .residual) (t .rows)
 
 -- "with count 0 it keeps its bits", "With count 0, solution and impulses are +0.0"; "17. A final impulse or multiplier is not finite."
-unfoldable pub finishOf : Table → ℕ → Iterate → Run Delivered ℕ
-finishOf t zero v = going (record { multipliers = tabulate (λ i. t .row i .scalars .«accumulated_multiplier») (t .rows); impulses = zeros (6 * t .bodies); maxima = maximaIn t v })
-finishOf t (suc count) v =
+unfoldable pub finishOf : Table → (ℕ → Float) → ℕ → Iterate → Run Delivered ℕ
+finishOf t accumulated zero v = going (record { accumulated = tabulate accumulated (t .rows); impulses = zeros (6 * t .bodies); maxima = maximaIn t v })
+finishOf t accumulated (suc count) v =
     let impulses = impulsesOf (systemOf t .jacobian) (coefficients (v .solution)) (t .rows) (t .bodies) in
-    let multipliers = gainsOf t (v .solution) in
-    next (test (allFiniteOf impulses) 17) (λ _. next (test (allFiniteOf multipliers) 17) (λ _. going (record { multipliers = multipliers; impulses = impulses; maxima = maximaIn t v })))
+    let gains = gainsOf accumulated (t .rows) (v .solution) in
+    next (test (allFiniteOf impulses) 17) (λ _. next (test (allFiniteOf gains) 17) (λ _. going (record { accumulated = gains; impulses = impulses; maxima = maximaIn t v })))
 
 -- ---- the solve
-abbrev pub positionMethod : Bool → Table → Mode → Method Iterate Carried Delivered
-positionMethod fits t mode = record {
-  opening = openingOf fits t;
-  begin = beginOf t;
-  first = firstOf mode (systemOf t) (ownerOf t) (diagonals t);
-  steps = positionSteps mode (systemOf t) (ownerOf t) (diagonals t) (t .tolerance);
-  finish = finishOf t;
+abbrev pub methodOf : Bool → Problem → Mode → Method Iterate Carried Delivered
+methodOf fits p mode = let t = p .table in record {
+  opening = openingOf fits p;
+  begin = beginOf p mode;
+  first = firstOf (p .factorFirst) mode (systemOf t) (ownerOf t) (diagonals t);
+  steps = stepsOf mode (systemOf t) (ownerOf t) (diagonals t) (p .tolerance);
+  finish = finishOf t (p .accumulated);
 }

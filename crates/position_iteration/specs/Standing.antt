@@ -6,6 +6,7 @@ use mathlib.Core.List.{List}
 use lib.ListN.{length}
 use lib.Ieee.{Float}
 use Rattle.loops.specs.Run.{Run, going, ended}
+use Rattle.loops.specs.Cleared.{Free}
 use Rattle.kapitsa_joint.specs.Table.{tolerancesIn}
 use Rattle.compact_table.specs.Compact.{Linked}
 use Rattle.mass_operator.specs.System.{compactSystem}
@@ -49,3 +50,11 @@ abbrev pub iteratedOut : Iterated → ℕ → List Float → List Float → Run 
 iteratedOut (iterated.Met count) limit pending residual = going (true, count, record { solution = pending; residual = residual })
 iteratedOut iterated.Limit limit pending residual = going (false, limit, record { solution = pending; residual = residual })
 iteratedOut (iterated.Refused number) limit pending residual = ended number
+
+-- ---- what the steps write: after a refusal nothing is told of it; otherwise the step counted stands in pending and residual
+pub record StepsFree (bodyImpulses product pending residual direction bodyImpulses₁ product₁ pending₁ residual₁ direction₁ : List Float) : Type 0 where
+  pub body-impulses-free : Free bodyImpulses bodyImpulses₁
+  pub product-free : Free product product₁
+  pub pending-free : Free pending pending₁
+  pub residual-free : Free residual residual₁
+  pub direction-free : Free direction direction₁

@@ -15,6 +15,6 @@ pub record Stands (t : Table) (masses jacobians : List Float) (links : List ℕ)
   pub linked : Linked links (t .rows) (t .bodies)
 
 -- of an answer that is not refused the compact table stands
-pub record Counted (t : Table) (masses : List Float) (answer : Iterated) (jacobians : List Float) (links : List ℕ) : Type 0 where
+pub record StandsAfter (t : Table) (masses : List Float) (answer : Iterated) (jacobians : List Float) (links : List ℕ) : Type 0 where
   pub met : (count : ℕ) → answer ≡ iterated.Met count → Stands t masses jacobians links
   pub spent : answer ≡ iterated.Limit → Stands t masses jacobians links

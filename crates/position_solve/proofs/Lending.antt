@@ -10,10 +10,12 @@ use lib.Ieee.{Float}
 use lib.Seq.{length-take-le}
 use borrow.Author.Tests.{leb-true, eq-eqb, not-false}
 use Rattle.loops.proofs.Both.{both}
-use Rattle.kapitsa_joint.specs.Table.{Table}
 use Rattle.preconditioner.specs.Mode.{modeOf}
 use Rattle.preconditioner.specs.declared.mode.Mode.{Mode}
-use Rattle.position_iteration.specs.Method.{positionMethod}
+use Rattle.position.specs.Problem.{Problem}
+use Rattle.position_iteration.specs.Method.{methodOf}
+use Rattle.position_iteration.specs.Places.{Apart}
+use Rattle.position_iteration.proofs.InPlace.{problem-in-place}
 use Rattle.position_delivery.specs.Outcome.{Lent}
 use Rattle.position_delivery.specs.declared.answer.PositionPcg.{PositionPcg}
 use Rattle.position_delivery.specs.declared.answer.PositionPcg.the-variants as answers
@@ -21,7 +23,7 @@ use Rattle.position_delivery.proofs.Answered.{entry-refused, entry-means}
 use Rattle.work_memory.specs.Work.{WorkMemory, workMemory}
 use Rattle.joint_refusals.specs.Counts.{countsFit}
 use Rattle.work_memory.specs.Lengths.{tableFits, vectorsFit, factorFits, passes3, WorkRoom}
-use Rattle.pcg.specs.Solved.{Solved}
+use Rattle.pcg.specs.SolveHeld.{SolveHeld}
 use Rattle.position_solve.specs.Job.{jobFits, JobSolved, FactorRoom}
 
 -- the counts of what has passed
@@ -52,16 +54,16 @@ module _ (n b mode : ℕ) (numbers : List Float) (words : List ℕ) (masses solu
   fits-too =
       rw (h, eq-eqb _ _ (r .table .jacobians-long), eq-eqb _ _ (r .table .links-long), eq-eqb _ _ (r .steps .tolerances-long), eq-eqb _ _ (r .table .residual-long), eq-eqb _ _ (r .table .pending-long), eq-eqb _ _ (r .steps .direction-long), eq-eqb _ _ (r .steps .product-long), eq-eqb _ _ (r .table .body-impulses-long), eq-eqb _ _ (r .steps .factor .diagonal-long), eq-eqb _ _ (r .steps .factor .pattern-long), eq-eqb _ _ (r .steps .factor .order-long), eq-eqb _ _ (r .steps .factor .values-long))
 
-  pub job-solved : {t : Table} {m : Mode} {limit rows : ℕ} {before after : Lent} {answer : PositionPcg} {work workAfter : WorkMemory}
-      → Solved (passes3 n b mode numbers words masses solution impulses w) t m limit rows before after answer work workAfter → JobSolved true t m limit rows before after answer
-  job-solved s = let q = rw fits-too at s in record { answered = q .answered; means = q .means }
+  pub job-solved : {p : Problem} {m : Mode} {limit rows : ℕ} {before after : Lent} {answer : PositionPcg} {work workAfter : WorkMemory}
+      → SolveHeld (passes3 n b mode numbers words masses solution impulses w) p m limit rows before after answer work workAfter → JobSolved true p m limit rows before after answer
+  job-solved s = let q = rw fits-too at s in record { answered = q .answered; means = q .means; in-place = q .in-place }
 
 -- ---- refusal 3; b is what its test answered
-module _ (t : Table) (mode : Mode) (limit n : ℕ) (before : Lent) (b fits : Bool) (e : b ≡ fits) where
-  pub job-refused : not b ≡ true → JobSolved fits t mode limit n before before (answers.Refused 3)
-  job-refused h = let q = entry-refused t mode n limit before b fits e h in record { answered = q; means = entry-means (positionMethod fits t mode) limit n before before (answers.Refused 3) q }
+module _ (p : Problem) (mode : Mode) (limit n : ℕ) (before : Lent) (b fits : Bool) (apart : Apart p) (e : b ≡ fits) where
+  pub job-refused : not b ≡ true → JobSolved fits p mode limit n before before (answers.Refused 3)
+  job-refused h = let q = entry-refused p mode n limit before b fits e h in record { answered = q; means = entry-means (methodOf fits p mode) limit n before before (answers.Refused 3) q; in-place = problem-in-place p mode fits limit apart }
 
-  pub job-passed : (after : Lent) (answer : PositionPcg) → not b ≡ false → JobSolved true t mode limit n before after answer → JobSolved fits t mode limit n before after answer
+  pub job-passed : (after : Lent) (answer : PositionPcg) → not b ≡ false → JobSolved true p mode limit n before after answer → JobSolved fits p mode limit n before after answer
   job-passed after answer h s = rw (← (sym (not-false b h) ∙ e)) s
 
 pub passed : {b fits : Bool} → b ≡ fits → not b ≡ false → fits ≡ true

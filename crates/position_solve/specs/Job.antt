@@ -2,12 +2,14 @@
 use Prim.Native.Nat.{ℕ}
 use mathlib.Core.Path.{_≡_}
 use mathlib.Core.Bool.{Bool, _&&_}
-use Rattle.kapitsa_joint.specs.Table.{Table}
 use Rattle.preconditioner.specs.Mode.{modeOf}
 use Rattle.preconditioner.specs.Room.{patternRoom, orderRoom, valuesRoom}
 use Rattle.preconditioner.specs.declared.mode.Mode.{Mode}
 use Rattle.steps.specs.Solve.{solve}
-use Rattle.position_iteration.specs.Method.{positionMethod}
+use Rattle.steps.specs.InPlace.{InPlace}
+use Rattle.position.specs.Problem.{Problem}
+use Rattle.position_iteration.specs.Method.{methodOf}
+use Rattle.position_iteration.specs.Places.{placesOf}
 use Rattle.position_delivery.specs.Outcome.{Lent, outcomeOf, SolveMeaning}
 use Rattle.position_delivery.specs.declared.answer.PositionPcg.{PositionPcg}
 use Rattle.joint_refusals.specs.Counts.{countsFit}
@@ -18,9 +20,10 @@ unfoldable pub jobFits : ℕ → ℕ → ℕ → ℕ → ℕ → ℕ → ℕ →
 jobFits n b mode numbers words masses solution impulses = countsFit n b mode && tableFits n b numbers words masses solution impulses
 
 -- of n rows; `fits` is whether refusal 3 passes
-pub record JobSolved (fits : Bool) (t : Table) (mode : Mode) (limit n : ℕ) (before after : Lent) (answer : PositionPcg) : Type 0 where
-  pub answered : outcomeOf n before (solve (positionMethod fits t mode) limit) ≡ record { answer = answer; lent = after }  -- the answer and every lent number are the definition's, of refused calls too
-  pub means : SolveMeaning (positionMethod fits t mode) limit n before answer after  -- demand 3
+pub record JobSolved (fits : Bool) (p : Problem) (mode : Mode) (limit n : ℕ) (before after : Lent) (answer : PositionPcg) : Type 0 where
+  pub answered : outcomeOf n before (solve (methodOf fits p mode) limit) ≡ record { answer = answer; lent = after }  -- the answer and every lent number are the definition's, of refused calls too
+  pub means : SolveMeaning (methodOf fits p mode) limit n before answer after  -- demand 3
+  pub in-place : InPlace (methodOf fits p mode) (placesOf p) limit  -- each refusal exactly in its place
 
 -- the factor's memory is as long as the mode calls for
 pub record FactorRoom (mode n pattern order values : ℕ) : Type 0 where

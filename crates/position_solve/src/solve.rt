@@ -3,8 +3,8 @@ ghost use mathlib.Core.Path.{_≡_};
 ghost use mathlib.Core.Bool.{true};
 ghost use Prim.Native.Nat.{_≤_};
 ghost use lib.ListN.{length};
-ghost use Rattle.kapitsa_joint.specs.Table.{tableOf};
 ghost use Rattle.preconditioner.specs.Mode.{modeOf};
+ghost use Rattle.position.specs.Problem.{positionOf};
 ghost use Rattle.position_solve.specs.Job.{jobFits, JobSolved, FactorRoom};
 use crate::fit::job_fits;
 use kapitsa_joint::JointTolerance;
@@ -34,7 +34,7 @@ fn with_vectors(
     requires { ⌜ jobFits rows bodies mode (length (now numbers)) (length (now words)) (length (now masses)) (length (now solution)) (length (now impulses)) ≡ true ⌝ }
     requires { ⌜ (rows ≤ 512) × (bodies ≤ 256) ⌝ }
     requires { ⌜ FactorRoom mode rows (length (now pattern)) (length (now order)) (length (now values)) ⌝ }
-    ensures { λ r. ⌜ JobSolved true (tableOf rows bodies (now (numbers .entry)) (now (words .entry)) (now (masses .entry)) tolerance) (modeOf mode) limit rows record { numbers = now (numbers .entry); solution = now (solution .entry); impulses = now (impulses .entry) } record { numbers = now (numbers .exit); solution = now (solution .exit); impulses = now (impulses .exit) } r ⌝ }
+    ensures { λ r. ⌜ JobSolved true (positionOf rows bodies (now (numbers .entry)) (now (words .entry)) (now (masses .entry)) tolerance) (modeOf mode) limit rows record { numbers = now (numbers .entry); solution = now (solution .entry); impulses = now (impulses .entry) } record { numbers = now (numbers .exit); solution = now (solution .exit); impulses = now (impulses .exit) } r ⌝ }
 {
     let mut jacobians: [f64; 6144] = [0.0; 6144];
     let mut links: [u32; 1024] = [0; 1024];
@@ -92,7 +92,7 @@ fn with_factor(
     requires { ⌜ jobFits rows bodies mode (length (now numbers)) (length (now words)) (length (now masses)) (length (now solution)) (length (now impulses)) ≡ true ⌝ }
     requires { ⌜ (rows ≤ 512) × (bodies ≤ 256) ⌝ }
     requires { ⌜ mode ≡ 1 ⌝ }
-    ensures { λ r. ⌜ JobSolved true (tableOf rows bodies (now (numbers .entry)) (now (words .entry)) (now (masses .entry)) tolerance) (modeOf mode) limit rows record { numbers = now (numbers .entry); solution = now (solution .entry); impulses = now (impulses .entry) } record { numbers = now (numbers .exit); solution = now (solution .exit); impulses = now (impulses .exit) } r ⌝ }
+    ensures { λ r. ⌜ JobSolved true (positionOf rows bodies (now (numbers .entry)) (now (words .entry)) (now (masses .entry)) tolerance) (modeOf mode) limit rows record { numbers = now (numbers .entry); solution = now (solution .entry); impulses = now (impulses .entry) } record { numbers = now (numbers .exit); solution = now (solution .exit); impulses = now (impulses .exit) } r ⌝ }
 {
     let mut pattern: [u32; 16897] = [0; 16897];
     let mut order: [u32; 33280] = [0; 33280];
@@ -133,7 +133,7 @@ fn with_blocks(
     requires { ⌜ jobFits rows bodies mode (length (now numbers)) (length (now words)) (length (now masses)) (length (now solution)) (length (now impulses)) ≡ true ⌝ }
     requires { ⌜ (rows ≤ 512) × (bodies ≤ 256) ⌝ }
     requires { ⌜ mode ≡ 2 ⌝ }
-    ensures { λ r. ⌜ JobSolved true (tableOf rows bodies (now (numbers .entry)) (now (words .entry)) (now (masses .entry)) tolerance) (modeOf mode) limit rows record { numbers = now (numbers .entry); solution = now (solution .entry); impulses = now (impulses .entry) } record { numbers = now (numbers .exit); solution = now (solution .exit); impulses = now (impulses .exit) } r ⌝ }
+    ensures { λ r. ⌜ JobSolved true (positionOf rows bodies (now (numbers .entry)) (now (words .entry)) (now (masses .entry)) tolerance) (modeOf mode) limit rows record { numbers = now (numbers .entry); solution = now (solution .entry); impulses = now (impulses .entry) } record { numbers = now (numbers .exit); solution = now (solution .exit); impulses = now (impulses .exit) } r ⌝ }
 {
     let mut pattern: [u32; 512] = [0; 512];
     let mut order: [u32; 0] = [0; 0];
@@ -173,7 +173,7 @@ fn with_diagonal(
     requires { ⌜ jobFits rows bodies mode (length (now numbers)) (length (now words)) (length (now masses)) (length (now solution)) (length (now impulses)) ≡ true ⌝ }
     requires { ⌜ (rows ≤ 512) × (bodies ≤ 256) ⌝ }
     requires { ⌜ mode ≡ 0 ⌝ }
-    ensures { λ r. ⌜ JobSolved true (tableOf rows bodies (now (numbers .entry)) (now (words .entry)) (now (masses .entry)) tolerance) (modeOf mode) limit rows record { numbers = now (numbers .entry); solution = now (solution .entry); impulses = now (impulses .entry) } record { numbers = now (numbers .exit); solution = now (solution .exit); impulses = now (impulses .exit) } r ⌝ }
+    ensures { λ r. ⌜ JobSolved true (positionOf rows bodies (now (numbers .entry)) (now (words .entry)) (now (masses .entry)) tolerance) (modeOf mode) limit rows record { numbers = now (numbers .entry); solution = now (solution .entry); impulses = now (impulses .entry) } record { numbers = now (numbers .exit); solution = now (solution .exit); impulses = now (impulses .exit) } r ⌝ }
 {
     let mut pattern: [u32; 0] = [0; 0];
     let mut order: [u32; 0] = [0; 0];
@@ -208,7 +208,7 @@ pub fn solve_position(
     solution: &mut [f64],
     impulses: &mut [f64],
 ) -> PositionPcg
-    ensures { λ r. ⌜ JobSolved (jobFits rows bodies mode (length (now (numbers .entry))) (length (now (words .entry))) (length (now (masses .entry))) (length (now (solution .entry))) (length (now (impulses .entry)))) (tableOf rows bodies (now (numbers .entry)) (now (words .entry)) (now (masses .entry)) tolerance) (modeOf mode) limit rows record { numbers = now (numbers .entry); solution = now (solution .entry); impulses = now (impulses .entry) } record { numbers = now (numbers .exit); solution = now (solution .exit); impulses = now (impulses .exit) } r ⌝ }
+    ensures { λ r. ⌜ JobSolved (jobFits rows bodies mode (length (now (numbers .entry))) (length (now (words .entry))) (length (now (masses .entry))) (length (now (solution .entry))) (length (now (impulses .entry)))) (positionOf rows bodies (now (numbers .entry)) (now (words .entry)) (now (masses .entry)) tolerance) (modeOf mode) limit rows record { numbers = now (numbers .entry); solution = now (solution .entry); impulses = now (impulses .entry) } record { numbers = now (numbers .exit); solution = now (solution .exit); impulses = now (impulses .exit) } r ⌝ }
 {
     if !job_fits(
         rows,

@@ -1,70 +1,78 @@
 -- The ways to step 0: the opening or a row is refused, or the lent memory holds the table. Assumes nothing.
 use Prim.Native.Nat.{ℕ, _+_, _*_, _<_}
-use mathlib.Core.Path.{_≡_, ap, _∙_, subst}
-use mathlib.Core.Bool.{true}
-use mathlib.Core.List.{List}
+use mathlib.Core.Path.{_≡_, sym, ap, _∙_, subst}
+use mathlib.Core.List.{List, []}
 use native.Mathlib.Omega.{arith}
 use lib.ListN.{getD, length}
 use lib.Ieee.{Float, nan}
 use Rattle.loops.specs.Run.{going, ended}
-use Rattle.loops.specs.Judge.{judged}
+use Rattle.loops.specs.Judge.{judge, judged}
 use Rattle.loops.specs.Tabulate.{tabulate}
 use Rattle.loops.specs.Cleared.{zeros}
 use Rattle.loops.proofs.Loop.{on-going, on-ended}
 use Rattle.loops.proofs.Tabulate.{getD-tabulate}
 use Rattle.kapitsa_joint.specs.Row.{rowOf, wordsOf, jacobianOf}
-use Rattle.kapitsa_joint.specs.Table.{Table, tableOf, tableWith, tolerancesIn}
+use Rattle.kapitsa_joint.specs.Table.{Table, tableOf, byDimension, tolerancesIn}
 use Rattle.kapitsa_joint.specs.Tolerance.{dimensionOf, toleranceOf}
 use Rattle.kapitsa_joint.specs.declared.tolerance.JointTolerance.{JointTolerance}
 use Rattle.compact_table.specs.Compact.{Gathered}
 use Rattle.mass_operator.specs.System.{systemOf, compactSystem}
+use Rattle.position.specs.Problem.{Problem, positionOpens, positionProblem}
 use Rattle.position.specs.Answers.{BegunHeld}
-use Rattle.position.specs.Prepare.{rowJudged}
+use Rattle.position.specs.Prepare.{rowJudged, rowsJudged}
 use Rattle.position.specs.declared.prepare.Begun.{Begun}
 use Rattle.position.specs.declared.prepare.Begun.the-variants as begun
+use Rattle.position.proofs.Rows.{position-rows}
 use Rattle.position.proofs.Same.{begun-same}
-use Rattle.position_iteration.specs.Method.{openingOf, beginOf}
-use Rattle.position_steps.specs.Start.{StartHeld}
+use Rattle.position_iteration.specs.Method.{tableTests}
+use Rattle.position_steps.specs.Start.{stepZeroOf, StartHeld}
+use Rattle.position_steps.proofs.Openings.{opening-after}
 use Rattle.position_steps.proofs.Tables.{system-same, table-linked}
 
 module _ (numbers : List Float) (words : List ℕ) (masses : List Float) (rows bodies : ℕ) (tolerance : JointTolerance) (limit : ℕ) where
   abbrev table : Table
-  table = tableOf rows bodies numbers words masses tolerance
+  table = tableOf rows bodies numbers words masses
 
-  pub unopened : (k : ℕ) (jacobians : List Float) (links : List ℕ) (tolerances diagonal pending residual : List Float) → openingOf true table limit ≡ ended k → StartHeld table limit masses (begun.Refused k) jacobians links tolerances diagonal pending residual
-  unopened k jacobians links tolerances diagonal pending residual e = record { answered = on-ended _ _ _ {a = k} e; started = λ q. absurd (let z : _≡_ {A = ℕ} 0 1 = cc in omega arith) }
+  abbrev problem : Problem
+  problem = positionProblem table (byDimension tolerance table)
+
+  pub unopened : (k : ℕ) (jacobians : List Float) (links : List ℕ) (tolerances diagonal pending residual : List Float) → judge (tableTests table (positionOpens table) [] limit) ≡ ended k → StartHeld problem limit masses (begun.Refused k) jacobians links tolerances diagonal pending residual
+  unopened k jacobians links tolerances diagonal pending residual e = record { answered = on-ended _ _ _ {a = k} (opening-after table (byDimension tolerance table) limit e); started = λ q. absurd (let z : _≡_ {A = ℕ} 0 1 = cc in omega arith) }
 
   -- the tolerances, gathered from the rows' words
-  module _ (opened : openingOf true table limit ≡ going tt) (tolerances : List Float) (k : ℕ) (ek : k ≡ rows) (gathered : tolerances ≡ tabulate (λ i. toleranceOf tolerance (dimensionOf (getD words (8 * i + 1) 0))) k) where
-    listed : tolerances ≡ tabulate (table .tolerance) rows
+  module _ (opened : judge (tableTests table (positionOpens table) [] limit) ≡ going tt) (tolerances : List Float) (k : ℕ) (ek : k ≡ rows) (gathered : tolerances ≡ tabulate (λ i. toleranceOf tolerance (dimensionOf (getD words (8 * i + 1) 0))) k) where
+    listed : tolerances ≡ tabulate (byDimension tolerance table) rows
     unfolding rowOf wordsOf
     listed = gathered ∙ ap (tabulate (λ i. toleranceOf tolerance (dimensionOf (getD words (8 * i + 1) 0)))) ek
 
-    agree : (i : ℕ) → i < rows → tolerancesIn tolerances i ≡ table .tolerance i
-    agree i h = ap (λ (l : List Float). getD l i nan) listed ∙ getD-tabulate (table .tolerance) rows i nan h
+    agree : (i : ℕ) → i < rows → tolerancesIn tolerances i ≡ byDimension tolerance table i
+    agree i h = ap (λ (l : List Float). getD l i nan) listed ∙ getD-tabulate (byDimension tolerance table) rows i nan h
 
-    module _ (n : ℕ) (same : n ≡ rows) (a : Begun) (diagonal residual : List Float) (begins : BegunHeld (tableWith n bodies numbers words masses (tolerancesIn tolerances)) a diagonal residual) where
-      held : BegunHeld table a diagonal residual
-      held = begun-same rows bodies numbers words masses (tolerancesIn tolerances) (table .tolerance) agree a diagonal residual (subst (λ (i : ℕ). BegunHeld (tableWith i bodies numbers words masses (tolerancesIn tolerances)) a diagonal residual) same begins)
+    module _ (n : ℕ) (same : n ≡ rows) (a : Begun) (diagonal residual : List Float) (begins : BegunHeld (positionProblem (tableOf n bodies numbers words masses) (tolerancesIn tolerances)) a diagonal residual) where
+      held : BegunHeld problem a diagonal residual
+      held = begun-same table (tolerancesIn tolerances) (byDimension tolerance table) agree a diagonal residual (subst (λ (i : ℕ). BegunHeld (positionProblem (tableOf i bodies numbers words masses) (tolerancesIn tolerances)) a diagonal residual) same begins)
 
-      pub start-refused : (k : ℕ) (jacobians : List Float) (links : List ℕ) (pending : List Float) → a ≡ begun.Refused k → StartHeld table limit masses (begun.Refused k) jacobians links tolerances diagonal pending residual
-      unfolding beginOf
-      start-refused k jacobians links pending e = record { answered = on-going _ _ _ {s = tt} opened ∙ on-ended _ _ _ {a = k} (held .judgement ∙ rw e); started = λ q. absurd (let z : _≡_ {A = ℕ} 0 1 = cc in omega arith) }
+      pub start-refused : (k : ℕ) (jacobians : List Float) (links : List ℕ) (pending : List Float) → a ≡ begun.Refused k → StartHeld problem limit masses (begun.Refused k) jacobians links tolerances diagonal pending residual
+      unfolding stepZeroOf
+      start-refused k jacobians links pending e = record { answered = on-going _ _ _ {s = tt} (opening-after table (byDimension tolerance table) limit opened) ∙ on-ended _ _ _ {a = k} (held .judgement ∙ rw e); started = λ q. absurd (let z : _≡_ {A = ℕ} 0 1 = cc in omega arith) }
 
       module _ (done : a ≡ begun.Done) (pending : List Float) (ep : pending ≡ zeros rows) where
-        passed : judged (rowJudged table) rows ≡ going tt
-        passed = held .judgement ∙ rw done
+        judgement : rowsJudged problem ≡ going tt
+        judgement = held .judgement ∙ rw done
 
-        begun-is : beginOf table ≡ going (record { solution = pending; residual = residual })
-        unfolding beginOf
-        begun-is = on-going _ _ _ {s = tt} passed ∙ rw (ep, held .residual-is done)
+        passed : judged (rowJudged problem) rows ≡ going tt
+        passed = sym (position-rows table (byDimension tolerance table)) ∙ judgement
+
+        begun-is : stepZeroOf problem ≡ going (record { solution = pending; residual = residual })
+        unfolding stepZeroOf
+        begun-is = on-going _ _ _ {s = tt} judgement ∙ rw (ep, held .residual-is done)
 
         pub start-done : (jacobians₀ jacobians : List Float) (links₀ links : List ℕ) (m : ℕ) → length numbers ≡ 27 * rows → length words ≡ 8 * rows → length jacobians₀ ≡ 12 * rows → length links₀ ≡ 2 * rows → m ≡ rows
-            → Gathered (λ i. jacobianOf (rowOf numbers words i)) m jacobians₀ links₀ jacobians links → StartHeld table limit masses begun.Done jacobians links tolerances diagonal pending residual
+            → Gathered (λ i. jacobianOf (rowOf numbers words i)) m jacobians₀ links₀ jacobians links → StartHeld problem limit masses begun.Done jacobians links tolerances diagonal pending residual
         start-done jacobians₀ jacobians links₀ links m en ew ej el em g =
             let here : Gathered (λ i. jacobianOf (rowOf numbers words i)) rows jacobians₀ links₀ jacobians links = rw em at g in
-            let system : compactSystem rows bodies jacobians links masses ≡ systemOf table = system-same numbers words rows en ew bodies masses tolerance jacobians₀ jacobians links₀ links (g .longJacobians ∙ ej) (g .longLinks ∙ el) here in
+            let system : compactSystem rows bodies jacobians links masses ≡ systemOf table = system-same numbers words rows en ew bodies masses jacobians₀ jacobians links₀ links (g .longJacobians ∙ ej) (g .longLinks ∙ el) here in
             record {
-              answered = on-going _ _ _ {s = tt} opened ∙ begun-is;
-              started = λ _. record { stands = record { system = system; linked = table-linked table passed jacobians links masses system }; tolerances-are = listed; diagonal-is = held .diagonal-is done };
+              answered = on-going _ _ _ {s = tt} (opening-after table (byDimension tolerance table) limit opened) ∙ begun-is;
+              started = λ _. record { stands = record { system = system; linked = table-linked problem passed jacobians links masses system }; tolerances-are = listed; diagonal-is = held .diagonal-is done };
             }

@@ -1,14 +1,13 @@
 -- The compact table is that of the table, beyond its rows too: there every list has its default. Assumes nothing.
 use Prim.Native.Nat.{ℕ, suc, _+_, _*_, _<_, _≤_}
-use mathlib.Core.Path.{_≡_, refl, sym, ap, _∙_, fun-ext}
-use mathlib.Core.Bool.{Bool, true, false, not, _&&_}
+use mathlib.Core.Path.{_≡_, sym, ap, _∙_, fun-ext}
+use mathlib.Core.Bool.{Bool, true}
 use mathlib.Core.List.{List}
 use native.Mathlib.Decide.{decLt}
 use native.Mathlib.Omega.{arith}
-use lib.Dec.{ltb, eqb}
+use lib.Dec.{eqb}
 use lib.ListN.{getD, length, List·getD-eq-default}
 use lib.Ieee.{Float, nan}
-use borrow.Author.Tests.{ltb-true}
 use Rattle.loops.specs.Run.{going}
 use Rattle.loops.specs.Judge.{judge, judged, test}
 use Rattle.loops.proofs.Inverse.{next-going}
@@ -19,12 +18,12 @@ use Rattle.kapitsa_joint.specs.Row.{rowOf, wordsOf, jacobianOf}
 use Rattle.kapitsa_joint.specs.Mass.{massOf}
 use Rattle.kapitsa_joint.specs.Table.{Table, tableOf}
 use Rattle.kapitsa_joint.specs.declared.row.RowJacobian.{RowJacobian}
-use Rattle.kapitsa_joint.specs.declared.tolerance.JointTolerance.{JointTolerance}
-use Rattle.joint_refusals.specs.Refusals.{isValidOf, bodiesBelowOf, jacobiansFiniteOf, scalarsFiniteOf, scalarsInRangeOf}
+use Rattle.joint_refusals.specs.Refusals.{isValidOf}
+use Rattle.joint_refusals.proofs.Valid.{Bodies, valid-bodies}
 use Rattle.compact_table.specs.Compact.{compactOf, Gathered, Linked}
 use Rattle.mass_operator.specs.System.{System, systemOf, compactSystem}
 use Rattle.loops.proofs.Turned.{turned}
-use Rattle.loops.proofs.Both.{both}
+use Rattle.position.specs.Problem.{Problem}
 use Rattle.position.specs.Prepare.{rowJudged}
 
 -- ---- beyond a list's end
@@ -58,21 +57,24 @@ module _ (numbers : List Float) (words : List ℕ) (n : ℕ) (en : length number
       at i (yes h) = g .at i h
       at i (no h) = compact-beyond jacobians links ej el i (omega arith) ∙ sym (row-beyond i (omega arith))
 
-  pub system-same : (bodies : ℕ) (masses : List Float) (tolerance : JointTolerance) (jacobians₀ jacobians : List Float) (links₀ links : List ℕ) → length jacobians ≡ 12 * n → length links ≡ 2 * n
-      → Gathered (λ i. jacobianOf (rowOf numbers words i)) n jacobians₀ links₀ jacobians links → compactSystem n bodies jacobians links masses ≡ systemOf (tableOf n bodies numbers words masses tolerance)
-  system-same bodies masses tolerance jacobians₀ jacobians links₀ links ej el g =
+  pub system-same : (bodies : ℕ) (masses : List Float) (jacobians₀ jacobians : List Float) (links₀ links : List ℕ) → length jacobians ≡ 12 * n → length links ≡ 2 * n
+      → Gathered (λ i. jacobianOf (rowOf numbers words i)) n jacobians₀ links₀ jacobians links → compactSystem n bodies jacobians links masses ≡ systemOf (tableOf n bodies numbers words masses)
+  system-same bodies masses jacobians₀ jacobians links₀ links ej el g =
       ap (λ (j : ℕ → RowJacobian). the (record { rows = n; bodies = bodies; jacobian = j; mass = massOf masses })) (rows-same jacobians₀ jacobians links₀ links ej el g)
     where
       the : System → System
       the s = s
 
 -- ---- refusal 7 has passed: the bodies are below the count
-module _ (t : Table) (passed : judged (rowJudged t) (t .rows) ≡ going tt) where
-  each : (i : ℕ) → i < t .rows → rowJudged t i ≡ going tt
+module _ (p : Problem) (passed : judged (rowJudged p) (p .table .rows) ≡ going tt) where
+  abbrev t : Table
+  t = p .table
+
+  each : (i : ℕ) → i < t .rows → rowJudged p i ≡ going tt
   unfolding judged
-  each i h = turned (λ i _. rowJudged t i) tt (t .rows) (λ k _. (i : ℕ) → i < k → rowJudged t i ≡ going tt) (λ i h. absurd (omega arith)) (λ k s u l all q i h. step k u all q i (decLt i k) h) (t .rows) (omega arith) tt passed i h
+  each i h = turned (λ i _. rowJudged p i) tt (t .rows) (λ k _. (i : ℕ) → i < k → rowJudged p i ≡ going tt) (λ i h. absurd (omega arith)) (λ k s u l all q i h. step k u all q i (decLt i k) h) (t .rows) (omega arith) tt passed i h
     where
-      step : (k : ℕ) (u : Unit) → ((i : ℕ) → i < k → rowJudged t i ≡ going tt) → rowJudged t k ≡ going u → (i : ℕ) → Dec (i < k) → i < suc k → rowJudged t i ≡ going tt
+      step : (k : ℕ) (u : Unit) → ((i : ℕ) → i < k → rowJudged p i ≡ going tt) → rowJudged p k ≡ going u → (i : ℕ) → Dec (i < k) → i < suc k → rowJudged p i ≡ going tt
       step k tt all q i (yes h) l = all i h
       step k tt all q i (no h) l = let e : i ≡ k = omega arith in rw e q
 
@@ -83,23 +85,14 @@ module _ (t : Table) (passed : judged (rowJudged t) (t .rows) ≡ going tt) wher
       only : (b : Bool) (u : Unit) → test b 7 ≡ going u → test b 7 ≡ going tt
       only b tt q = q
 
-  below : (i : ℕ) → i < t .rows → (t .row i .words .«body_a» < t .bodies) × (t .row i .words .«body_b» < t .bodies)
-  unfolding isValidOf bodiesBelowOf
-  below i h =
-      let r = t .row i in
-      let w = r .words in
-      let s = ((not (eqb (w .«body_a») (w .«body_b»)) && ltb (w .«body_a») (t .bodies)) && ltb (w .«body_b») (t .bodies)) in
-      let (p, _) = both ((s && jacobiansFiniteOf r) && scalarsFiniteOf (r .scalars)) (scalarsInRangeOf (r .scalars)) (valid i h) in
-      let (q, _) = both (s && jacobiansFiniteOf r) (scalarsFiniteOf (r .scalars)) p in
-      let (u, _) = both s (jacobiansFiniteOf r) q in
-      let (v, b) = both (not (eqb (w .«body_a») (w .«body_b»)) && ltb (w .«body_a») (t .bodies)) (ltb (w .«body_b») (t .bodies)) u in
-      let (_, a) = both (not (eqb (w .«body_a») (w .«body_b»))) (ltb (w .«body_a») (t .bodies)) v in
-      (ltb-true (w .«body_a») (t .bodies) a, ltb-true (w .«body_b») (t .bodies) b)
+  linked : (i : ℕ) → i < t .rows → Bodies (t .bodies) (t .row i .words)
+  linked i h = valid-bodies (t .bodies) (t .row i) (valid i h)
 
   -- the compact table's rows are those of the table
   pub table-linked : (jacobians : List Float) (links : List ℕ) (masses : List Float) → compactSystem (t .rows) (t .bodies) jacobians links masses ≡ systemOf t → Linked links (t .rows) (t .bodies)
   unfolding compactOf jacobianOf
   table-linked jacobians links masses e = record {
-    a = λ i h. rw (ap (λ (s : System). s .jacobian i .«body_a») e) (below i h .0);
-    b = λ i h. rw (ap (λ (s : System). s .jacobian i .«body_b») e) (below i h .1);
+    a = λ i h. rw (ap (λ (s : System). s .jacobian i .«body_a») e) (linked i h .a);
+    b = λ i h. rw (ap (λ (s : System). s .jacobian i .«body_b») e) (linked i h .b);
+    apart = λ i h. ap (λ (s : System). eqb (s .jacobian i .«body_a») (s .jacobian i .«body_b»)) e ∙ linked i h .apart;
   }

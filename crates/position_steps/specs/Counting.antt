@@ -3,16 +3,25 @@ use Prim.Native.Nat.{ℕ}
 use mathlib.Core.Path.{_≡_}
 use mathlib.Core.List.{List}
 use lib.Ieee.{Float}
-use Rattle.kapitsa_joint.specs.Table.{Table}
+use Rattle.loops.specs.Cleared.{Free}
 use Rattle.preconditioner.specs.declared.mode.Mode.{Mode}
+use Rattle.position.specs.Problem.{Problem}
 use Rattle.position_iteration.specs.Counting.{countedOf}
 use Rattle.position_iteration.specs.Standing.{iteratedOut}
-use Rattle.position_iteration.specs.Stands.{Counted}
+use Rattle.position_iteration.specs.Stands.{StandsAfter}
 use Rattle.position_iteration.specs.declared.iteration.Iterated.{Iterated}
-use Rattle.work_memory.specs.Work.{StepMemory, clearedSteps}
+use Rattle.work_memory.specs.Work.{StepMemory, TableMemory, clearedSteps}
 
 -- flag, count and step are the definition's, the compact table stands where nothing was refused, and what the count alone uses is cleared
-pub record CountHeld (mode : Mode) (t : Table) (limit : ℕ) (masses : List Float) (answer : Iterated) (jacobians : List Float) (links : List ℕ) (pending residual : List Float) (before after : StepMemory) : Type 0 where
-  pub answered : countedOf mode t limit ≡ iteratedOut answer limit pending residual
-  pub counted : Counted t masses answer jacobians links
+pub record CountHeld (mode : Mode) (p : Problem) (limit : ℕ) (masses : List Float) (answer : Iterated) (jacobians : List Float) (links : List ℕ) (pending residual : List Float) (before after : StepMemory) : Type 0 where
+  pub answered : countedOf mode p limit ≡ iteratedOut answer limit pending residual
+  pub counted : StandsAfter (p .table) masses answer jacobians links
   pub memory : after ≡ clearedSteps before
+
+-- what the count leaves to the delivery: after a refusal nothing else is told of it, and of the impulses nothing at all
+pub record CountFree (before after : TableMemory) : Type 0 where
+  pub jacobians-free : Free (before .jacobians) (after .jacobians)
+  pub links-free : Free (before .links) (after .links)
+  pub residual-free : Free (before .residual) (after .residual)
+  pub pending-free : Free (before .pending) (after .pending)
+  pub body-impulses-free : Free (before .bodyImpulses) (after .bodyImpulses)

@@ -4,14 +4,17 @@ use mathlib.Core.Bool.{Bool, true}
 use mathlib.Core.List.{List}
 use lib.Ieee.{Float}
 use Rattle.loops.specs.Run.{Run, going, next, check, turns}
+use Rattle.loops.specs.Cleared.{Free}
 use Rattle.mass_operator.specs.System.{System}
 use Rattle.preconditioner.specs.Factor.{factorJudged}
 use Rattle.preconditioner.specs.Apply.{preconditioned}
+use Rattle.preconditioner.specs.Room.{Memory}
 use Rattle.preconditioner.specs.declared.mode.Mode.{Mode}
 use Rattle.recurrence.specs.Step.{Iterate, Carried, firstFrom}
 use Rattle.position.specs.Residual.{meetsOf}
 use Rattle.steps.specs.Solve.{turn, afterLoop}
 use Rattle.position_iteration.specs.Method.{stepsBy}
+use Rattle.position_iteration.specs.Standing.{StepsFree}
 
 abbrev Steps : Type 0
 Steps = Run (Bool × ℕ × Iterate) ℕ
@@ -30,3 +33,11 @@ runningOf mode s owner diagonal tolerance limit v = next (factorJudged mode s ow
 
 unfoldable pub followingOf : Mode → System → (ℕ → ℕ) → List Float → (ℕ → Float) → ℕ → Iterate → Steps
 followingOf mode s owner diagonal tolerance limit v = check (meetsOf tolerance (v .residual) (s .rows)) (going (true, 0, v)) (runningOf mode s owner diagonal tolerance limit v)
+
+-- ---- what is written: the factor's memory, and what the steps write
+pub record RunFree (before after : Memory) (bodyImpulses product pending residual direction bodyImpulses₁ product₁ pending₁ residual₁ direction₁ : List Float) : Type 0 where
+  pub diagonal-free : Free (before .diagonal) (after .diagonal)
+  pub pattern-free : Free (before .pattern) (after .pattern)
+  pub order-free : Free (before .order) (after .order)
+  pub values-free : Free (before .values) (after .values)
+  pub steps-free : StepsFree bodyImpulses product pending residual direction bodyImpulses₁ product₁ pending₁ residual₁ direction₁

@@ -2,8 +2,8 @@
 ghost use mathlib.Core.Path.{_≡_};
 ghost use Prim.Native.Nat.{_*_, _≤_};
 ghost use lib.ListN.{length};
-ghost use Rattle.kapitsa_joint.specs.Table.{tableOf};
-ghost use Rattle.position_steps.specs.Start.{StartHeld};
+ghost use Rattle.position.specs.Problem.{positionOf};
+ghost use Rattle.position_steps.specs.Start.{StartHeld, StartFree};
 use crate::opening::Opened;
 use crate::opening::open_table;
 use compact_table::gather;
@@ -30,10 +30,11 @@ pub fn start(
 ) -> Begun
     requires { ⌜ (length (now numbers) ≡ 27 * rows) × (length (now words) ≡ 8 * rows) × (10 * bodies ≤ length (now masses)) ⌝ }
     requires { ⌜ (length (now jacobians) ≡ 12 * rows) × (length (now links) ≡ 2 * rows) × (length (now tolerances) ≡ rows) × (length (now diagonal) ≡ rows) × (length (now pending) ≡ rows) × (length (now residual) ≡ rows) ⌝ }
-    ensures { λ r. ⌜ StartHeld (tableOf rows bodies (now (numbers .entry)) (now (words .entry)) (now (masses .entry)) tolerance) limit (now (masses .entry)) r
+    ensures { λ r. ⌜ StartHeld (positionOf rows bodies (now (numbers .entry)) (now (words .entry)) (now (masses .entry)) tolerance) limit (now (masses .entry)) r
         (now (jacobians .exit)) (now (links .exit)) (now (tolerances .exit)) (now (diagonal .exit)) (now (pending .exit)) (now (residual .exit)) ⌝ }
+    ensures { λ _. ⌜ StartFree (now (jacobians .entry)) (now (links .entry)) (now (tolerances .entry)) (now (diagonal .entry)) (now (pending .entry)) (now (residual .entry)) (now (jacobians .exit)) (now (links .exit)) (now (tolerances .exit)) (now (diagonal .exit)) (now (pending .exit)) (now (residual .exit)) ⌝ }
 {
-    match open_table(numbers, words, masses, rows, bodies, tolerance, limit) {
+    match open_table(numbers, words, masses, rows, bodies, limit) {
         Opened::Done => {}
         Opened::Refused(number) => {
             return Begun::Refused(number);

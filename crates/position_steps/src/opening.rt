@@ -1,15 +1,18 @@
 // Refusals 4, 5 and 6, before step 0.
 ghost use mathlib.Core.Path.{_≡_};
-ghost use mathlib.Core.Bool.{true};
-ghost use Prim.Native.Nat.{_*_, _≤_};
+ghost use mathlib.Core.List.{[]};
+ghost use Prim.Native.Nat.{_+_, _*_, _≤_};
 ghost use lib.ListN.{length};
+ghost use Rattle.loops.specs.Judge.{judge};
+ghost use Rattle.kapitsa_joint.specs.Row.{scalarsOf, wordsOf};
 ghost use Rattle.kapitsa_joint.specs.Table.{tableOf};
-ghost use Rattle.position_iteration.specs.Method.{passes5, openingOf};
+ghost use Rattle.joint_refusals.specs.Refusals.{opensOf};
+ghost use Rattle.position.specs.Problem.{positionOpens};
+ghost use Rattle.position_iteration.specs.Method.{passes5, tableTests};
 ghost use Rattle.position_steps.specs.Opening.{openedOut};
 use joint_refusals::masses_finite;
 use joint_refusals::rows_open;
 use joint_refusals::words_fit;
-use kapitsa_joint::JointTolerance;
 use loops::wide;
 
 pub enum Opened {
@@ -18,17 +21,9 @@ pub enum Opened {
 }
 
 // 5: no rows open nothing.
-fn opens(
-    numbers: &[f64],
-    words: &[u32],
-    masses: &[f64],
-    rows: u32,
-    bodies: u32,
-    tolerance: JointTolerance,
-    limit: u32,
-) -> bool
+fn opens(numbers: &[f64], words: &[u32], rows: u32, limit: u32) -> bool
     requires { ⌜ (27 * rows ≤ length (now numbers)) × (8 * rows ≤ length (now words)) ⌝ }
-    ensures { λ r. ⌜ r ≡ passes5 limit (tableOf rows bodies (now (numbers .entry)) (now (words .entry)) (now (masses .entry)) tolerance) ⌝ }
+    ensures { λ r. ⌜ r ≡ passes5 rows (λ i. opensOf (scalarsOf (now (numbers .entry)) (27 * i + 15)) (wordsOf (now (words .entry)) (8 * i))) limit ⌝ }
 {
     if rows == 0 {
         return true;
@@ -45,16 +40,15 @@ pub fn open_table(
     masses: &[f64],
     rows: u32,
     bodies: u32,
-    tolerance: JointTolerance,
     limit: u32,
 ) -> Opened
     requires { ⌜ (27 * rows ≤ length (now numbers)) × (8 * rows ≤ length (now words)) × (10 * bodies ≤ length (now masses)) ⌝ }
-    ensures { λ r. ⌜ openingOf true (tableOf rows bodies (now (numbers .entry)) (now (words .entry)) (now (masses .entry)) tolerance) limit ≡ openedOut r ⌝ }
+    ensures { λ r. ⌜ judge (tableTests (tableOf rows bodies (now (numbers .entry)) (now (words .entry)) (now (masses .entry))) (positionOpens (tableOf rows bodies (now (numbers .entry)) (now (words .entry)) (now (masses .entry)))) [] limit) ≡ openedOut r ⌝ }
 {
     if !words_fit(words, wide(rows)) {
         return Opened::Refused(4);
     }
-    if !opens(numbers, words, masses, rows, bodies, tolerance, limit) {
+    if !opens(numbers, words, rows, limit) {
         return Opened::Refused(5);
     }
     if !masses_finite(masses, wide(bodies)) {

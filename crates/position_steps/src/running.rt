@@ -9,7 +9,7 @@ ghost use Rattle.preconditioner.specs.Room.{Roomy};
 ghost use Rattle.preconditioner.specs.Held.{zIn, jointsIn};
 ghost use Rattle.position_iteration.specs.Standing.{Standing, iteratedOut};
 ghost use Rattle.position_steps.specs.Start.{startOut, Linking};
-ghost use Rattle.position_steps.specs.Running.{steppingBy, followingOf};
+ghost use Rattle.position_steps.specs.Running.{steppingBy, followingOf, RunFree};
 use position::Begun;
 use position::position_vector_converged;
 use position_iteration::Iterated;
@@ -107,6 +107,7 @@ pub fn run_steps(
     requires { ⌜ (length (now «body_impulses») ≡ 6 * bodies) × (length (now product) ≡ rows) × (length (now pending) ≡ rows) × (length (now residual) ≡ rows) × (length (now direction) ≡ rows) ⌝ }
     ensures { λ r. ⌜ next (startOut begun (now (pending .entry)) (now (residual .entry))) (followingOf mode (compactSystem rows bodies (now (jacobians .entry)) (now (links .entry)) (now (masses .entry))) (jointsIn (now (words .entry))) (now (diagonal .entry)) (tolerancesIn (now (tolerances .entry))) limit)
         ≡ iteratedOut r limit (now (pending .exit)) (now (residual .exit)) ⌝ }
+    ensures { λ _. ⌜ RunFree record { diagonal = now (diagonal .entry); pattern = now (pattern .entry); order = now (order .entry); values = now (values .entry) } record { diagonal = now (diagonal .exit); pattern = now (pattern .exit); order = now (order .exit); values = now (values .exit) } (now («body_impulses» .entry)) (now (product .entry)) (now (pending .entry)) (now (residual .entry)) (now (direction .entry)) (now («body_impulses» .exit)) (now (product .exit)) (now (pending .exit)) (now (residual .exit)) (now (direction .exit)) ⌝ }
 {
     match begun {
         Begun::Done => {}

@@ -1,4 +1,5 @@
--- Laws of building and applying the preconditioners.
+-- Laws of building and applying the preconditioners, and the numbers that they are refused with.
 pub mod Applies
 pub mod Modes
 pub mod Means
+pub mod Numbers

@@ -24,8 +24,9 @@ use Rattle.block_jacobi.specs.Blocks.{blockIn, putBlock, putStretch, stretch, b
 use Rattle.block_jacobi.specs.declared.build.Blocked.{Blocked}
 use Rattle.block_jacobi.specs.declared.build.Blocked.the-variants as blocks
 use Rattle.block_jacobi.proofs.BlocksHeld.{kept-all, runs-fit}
+use Rattle.triangular.specs.Triangular.{orSixteen}
 use Rattle.preconditioner.specs.Factor.{blockAt, blockJudged, factorJudged}
-use Rattle.preconditioner.specs.Apply.{diagonalSolveOf, orSixteen, blockNumbers, preconditioned, preconditionedRun}
+use Rattle.preconditioner.specs.Apply.{diagonalSolveOf, blockNumbers, preconditioned, preconditionedRun}
 use Rattle.preconditioner.specs.Room.{Memory, Roomy, patternRoom, orderRoom, valuesRoom}
 use Rattle.preconditioner.specs.Held.{factorIn, Ready, Holds, holds-diagonal, holds-factor, holds-blocks, FactorBuilt, built-diagonal, built-factor, built-blocks, preparedOut, factorPrepared, blocksPrepared, zIn}
 use Rattle.preconditioner.specs.declared.mode.Mode.{Mode}
@@ -80,7 +81,7 @@ module _ (s : System) (owner : ℕ → ℕ) (before after : Memory) where
   pub built-answered : (mode : Mode) (r : Prepared) → FactorBuilt s owner before after mode r → factorJudged mode s owner (before .diagonal) ≡ preparedOut r
   unfolding factorJudged
   built-answered modes.Diagonal (prepared.Done built.Diagonal) (built-diagonal e) = refl
-  built-answered modes.IncompleteCholesky r (built-factor a h) = factor-answered a (h .answered)
+  built-answered modes.IncompleteCholesky r (built-factor a h _) = factor-answered a (h .answered)
   built-answered modes.BlockJacobi r (built-blocks a e q) = blocks-answered a e
 
   module _ (p : Preconditioner) (joints : ownerIn (tabulate owner (s .rows)) ≡ owner) where
@@ -105,7 +106,7 @@ module _ (s : System) (owner : ℕ → ℕ) (before after : Memory) where
 
     pub built-holds : (mode : Mode) (r : Prepared) → r ≡ prepared.Done p → Roomy mode (s .rows) before → FactorBuilt s owner before after mode r → Holds s owner (before .diagonal) after mode p
     built-holds modes.Diagonal r e room (built-diagonal q) = let z : built.Diagonal ≡ p = cc in rw (← z) (holds-diagonal (ap (λ (m : Memory). m .diagonal) q))
-    built-holds modes.IncompleteCholesky r e room (built-factor a h) = factor-holds a e (h .answered)
+    built-holds modes.IncompleteCholesky r e room (built-factor a h _) = factor-holds a e (h .answered)
     built-holds modes.BlockJacobi r e room (built-blocks a h q) = blocks-hold a e h (gathered q) (block-room room)
 
     -- ---- the solves may be called with it; lent memory keeps its lengths
@@ -133,7 +134,7 @@ module _ (s : System) (owner : ℕ → ℕ) (before after : Memory) where
 
       pub built-ready : (mode : Mode) (r : Prepared) → r ≡ prepared.Done p → Roomy mode (s .rows) before → FactorBuilt s owner before after mode r → Ready p (s .rows) after
       built-ready modes.Diagonal r e room (built-diagonal q) = diagonal-ready modes.Diagonal room (let z : built.Diagonal ≡ p = cc in sym z)
-      built-ready modes.IncompleteCholesky r e room (built-factor a h) = factor-ready a e room (h .indexed)
+      built-ready modes.IncompleteCholesky r e room (built-factor a h _) = factor-ready a e room (h .indexed)
       built-ready modes.BlockJacobi r e room (built-blocks a h q) = blocks-ready a e room h (gathered q)
 
 -- ---- the blocks' solves read a block only where a run begins

@@ -9,9 +9,9 @@ use Rattle.loops.specs.Tabulate.{tabulate}
 use Rattle.loops.proofs.Tabulate.{getD-tabulate, length-tabulate}
 use lib.Ieee.{Float}
 use Rattle.mass_operator.specs.System.{System, compactSystem}
-use Rattle.pairs.specs.Pairs.{pairRoom}
+use Rattle.pairs.specs.Pairs.{patternOf, pairCount, pairRoom}
 use Rattle.pairs.specs.Pattern.{startsIn, columnsIn}
-use Rattle.incomplete_cholesky.specs.Build.{FactorHeld}
+use Rattle.incomplete_cholesky.specs.Build.{FactorHeld, FactorPast}
 use Rattle.incomplete_cholesky.specs.declared.build.Built.{Built}
 use Rattle.incomplete_cholesky.specs.declared.build.Built.the-variants as factors
 use Rattle.block_jacobi.specs.Runs.{ownerIn}
@@ -83,8 +83,9 @@ module _ (s : System) (owner : ℕ → ℕ) (mode : Mode) (before : Memory) wher
   mode-diagonal e = rw e (built-diagonal refl)
 
   pub mode-factor : (after : Memory) (a : Built) (r : Prepared) → mode ≡ modes.IncompleteCholesky
-      → FactorHeld s (before .diagonal) a (startsIn (s .rows) (after .pattern)) (columnsIn (s .rows) (after .pattern)) (before .order) (after .order) (before .values) (after .values) (after .diagonal) → r ≡ factorPrepared a → FactorBuilt s owner before after mode r
-  mode-factor after a r e h t = rw (e, t) (built-factor a h)
+      → FactorHeld s (before .diagonal) a (startsIn (s .rows) (after .pattern)) (columnsIn (s .rows) (after .pattern)) (before .order) (after .order) (before .values) (after .values) (after .diagonal)
+      → FactorPast (s .rows) (pairCount (patternOf s) (s .rows)) (before .pattern) (after .pattern) (before .order) (after .order) (before .values) (after .values) → r ≡ factorPrepared a → FactorBuilt s owner before after mode r
+  mode-factor after a r e h f t = rw (e, t) (built-factor a h f)
 
 -- the joints of the rows are gathered, and the blocks built of as many rows as there are joints
 pub joints-are : (words : List ℕ) (n : ℕ) → length words ≡ 8 * n → ownerIn (tabulate (jointsIn words) n) ≡ jointsIn words

@@ -3,11 +3,11 @@ use Prim.Native.Nat.{ℕ}
 use mathlib.Core.List.{List, []}
 use lib.ListN.{getD, length}
 use lib.Ieee.{Float, nan, binary64, div}
-use Rattle.loops.specs.Run.{Run, going, ended, on, next}
+use Rattle.loops.specs.Run.{Run, going, on, next}
 use Rattle.loops.specs.Tabulate.{tabulate}
 use Rattle.mass_operator.specs.System.{System}
 use Rattle.sparse.specs.Triangle.{Sparse}
-use Rattle.triangular.specs.Triangular.{solveRun}
+use Rattle.triangular.specs.Triangular.{solveRun, orSixteen}
 use Rattle.loops.specs.Cleared.{zeros}
 use Rattle.incomplete_cholesky.specs.Build.{choleskyRun}
 use Rattle.block_jacobi.specs.Blocks.{blocksSolveRun}
@@ -20,9 +20,6 @@ use Rattle.preconditioner.specs.declared.apply.Preconditioner.the-varian
 -- mode 0: each residual by its diagonal. The Rust tests nothing here: the dot product that follows meets what is not finite.
 unfoldable pub diagonalSolveOf : List Float → List Float → List Float
 diagonalSolveOf residual diagonal = tabulate (λ i. div binary64 (getD residual i nan) (getD diagonal i nan)) (length residual)
-
-abbrev pub orSixteen : Run (List Float) (List Float) → Run (List Float) ℕ
-orSixteen r = on r going (λ _. ended 16)
 
 -- the numbers of a block that is there
 abbrev pub blockNumbers : Run (List Float) ℕ → List Float

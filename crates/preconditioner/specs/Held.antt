@@ -11,8 +11,10 @@ use Rattle.mass_operator.specs.System.{System}
 use Rattle.sparse.specs.Triangle.{Sparse}
 use Rattle.sparse.specs.Kept.{numbers}
 use Rattle.triangular.specs.Column.{Indexed}
+use Rattle.triangular.specs.Triangular.{orSixteen}
+use Rattle.pairs.specs.Pairs.{patternOf, pairCount}
 use Rattle.pairs.specs.Pattern.{startsIn, columnsIn}
-use Rattle.incomplete_cholesky.specs.Build.{choleskyRun, FactorHeld}
+use Rattle.incomplete_cholesky.specs.Build.{choleskyRun, FactorHeld, FactorPast}
 use Rattle.incomplete_cholesky.specs.declared.build.Built.{Built}
 use Rattle.incomplete_cholesky.specs.declared.build.Built.the-variants as factors
 use Rattle.block_jacobi.specs.Runs.{ownerIn, begins, RunsFit}
@@ -20,7 +22,7 @@ use Rattle.block_jacobi.specs.Blocks.{blockIn, blocksRun, blockedOut}
 use Rattle.block_jacobi.specs.declared.build.Blocked.{Blocked}
 use Rattle.block_jacobi.specs.declared.build.Blocked.the-variants as blocks
 use Rattle.preconditioner.specs.Factor.{blockAt}
-use Rattle.preconditioner.specs.Apply.{orSixteen, preconditionedRun}
+use Rattle.preconditioner.specs.Apply.{preconditionedRun}
 use Rattle.preconditioner.specs.Room.{Memory}
 use Rattle.preconditioner.specs.declared.mode.Mode.{Mode}
 use Rattle.preconditioner.specs.declared.mode.Mode.the-variants as modes
@@ -49,9 +51,13 @@ pub record Ready (p : Preconditioner) (n : ℕ) (m : Memory) : Type 0 where
   pub factor : (count : ℕ) → p ≡ built.IncompleteCholesky count → FactorReady n count m
   pub blocks : p ≡ built.BlockJacobi → BlocksReady n m
 
--- z by what stands there
+-- z by what stands there; a Run that has ended carries the numbers as they then stand
+abbrev pub zRun : Preconditioner → ℕ → Memory → List Float → Run (List Float) (List Float)
+zRun p n m residual = preconditionedRun p (m .diagonal) (factorIn n m) (blockIn (m .values)) (ownerIn (m .pattern)) residual
+
+-- the same, where refused with 16
 abbrev pub zIn : Preconditioner → ℕ → Memory → List Float → Run (List Float) ℕ
-zIn p n m residual = orSixteen (preconditionedRun p (m .diagonal) (factorIn n m) (blockIn (m .values)) (ownerIn (m .pattern)) residual)
+zIn p n m residual = orSixteen (zRun p n m residual)
 
 -- ---- the mode's factor is there; diagonal is the one that it is made of
 pub data Holds (s : System) (owner : ℕ → ℕ) (diagonal : List Float) (m : Memory) : Mode → Preconditioner → Type 0 where
@@ -83,6 +89,7 @@ blocksPrepared (blocks.Refused number) = prepared.Refused number
 -- of an answer the memory before and after: what is not the mode's is untouched
 pub data FactorBuilt (s : System) (owner : ℕ → ℕ) (before after : Memory) : Mode → Prepared → Type 0 where
   built-diagonal : after ≡ before → FactorBuilt s owner before after modes.Diagonal (prepared.Done built.Diagonal)
-  built-factor : (answer : Built) → FactorHeld s (before .diagonal) answer (startsIn (s .rows) (after .pattern)) (columnsIn (s .rows) (after .pattern)) (before .order) (after .order) (before .values) (after .values) (after .diagonal) → FactorBuilt s owner before after modes.IncompleteCholesky (factorPrepared answer)
+  built-factor : (answer : Built) → FactorHeld s (before .diagonal) answer (startsIn (s .rows) (after .pattern)) (columnsIn (s .rows) (after .pattern)) (before .order) (after .order) (before .values) (after .values) (after .diagonal)
+      → FactorPast (s .rows) (pairCount (patternOf s) (s .rows)) (before .pattern) (after .pattern) (before .order) (after .order) (before .values) (after .values) → FactorBuilt s owner before after modes.IncompleteCholesky (factorPrepared answer)
   built-blocks : (answer : Blocked) → blocksRun s owner (before .values) ≡ blockedOut answer (after .values) → after ≡ record { diagonal = before .diagonal; pattern = tabulate owner (s .rows); order = before .order; values = after .values }
       → FactorBuilt s owner before after modes.BlockJacobi (blocksPrepared answer)

@@ -4,8 +4,8 @@ ghost use Prim.Native.Nat.{_+_, _*_, _≤_};
 ghost use lib.ListN.{length};
 ghost use Rattle.sparse.specs.Kept.{numbers};
 ghost use Rattle.pairs.specs.Pattern.{startsIn, columnsIn};
-ghost use Rattle.triangular.specs.Triangular.{solveRun};
-ghost use Rattle.triangular.specs.Answers.{solveOut};
+ghost use Rattle.triangular.specs.Triangular.{solveRun, orSixteen};
+ghost use Rattle.triangular.specs.Answers.{solveOut, solvedOut};
 ghost use Rattle.block_jacobi.specs.Runs.{ownerIn};
 ghost use Rattle.block_jacobi.specs.Blocks.{blockIn};
 ghost use Rattle.preconditioner.specs.Apply.{diagonalSolveOf, preconditionedRun};
@@ -74,6 +74,8 @@ pub fn apply_preconditioner(
     requires { ⌜ length (now residual) ≡ length (now output) ⌝ }
     ensures { λ r. ⌜ preconditionedRun preconditioner (now (diagonal .entry)) (numbers (startsIn (length (now (residual .entry))) (now (pattern .entry))) (columnsIn (length (now (residual .entry))) (now (pattern .entry))) (now (values .entry))) (blockIn (now (values .entry))) (ownerIn (now (pattern .entry))) (now (residual .entry))
         ≡ solveOut r (now (output .exit)) ⌝ }
+    ensures { λ r. ⌜ orSixteen (preconditionedRun preconditioner (now (diagonal .entry)) (numbers (startsIn (length (now (residual .entry))) (now (pattern .entry))) (columnsIn (length (now (residual .entry))) (now (pattern .entry))) (now (values .entry))) (blockIn (now (values .entry))) (ownerIn (now (pattern .entry))) (now (residual .entry)))
+        ≡ solvedOut r (now (output .exit)) ⌝ }
 {
     match preconditioner {
         Preconditioner::Diagonal => {

@@ -3,22 +3,24 @@ use Prim.Native.Nat.{ℕ}
 use mathlib.Core.Path.{_≡_, refl, sym, ap, _∙_}
 use mathlib.Core.Bool.{Bool, true, false, not, _&&_}
 use mathlib.Core.List.{List}
-use native.Mathlib.Omega.{arith}
+use lib.ListN.{length}
 use lib.Ieee.{Float}
-use Rattle.loops.specs.Run.{Run, going, ended, next, check}
+use Rattle.loops.specs.Run.{Run, going, ended, on, next}
+use Rattle.loops.specs.Judge.{test}
 use Rattle.loops.proofs.Loop.{on-going, on-ended}
 use Rattle.mass_operator.specs.System.{System}
 use Rattle.mass_operator.specs.Flat.{coefficients, productOf, Multiplied}
-use Rattle.mass_operator.specs.Applied.{allFiniteOf, appliedOf}
+use Rattle.mass_operator.specs.Applied.{allFiniteOf}
 use Rattle.mass_operator.specs.declared.finite.Applied.{Applied}
 use Rattle.mass_operator.specs.declared.finite.Applied.the-variants as applied
-use Rattle.triangular.specs.Answers.{solveOut}
+use Rattle.sparse.proofs.Left.{free}
+use Rattle.triangular.specs.Triangular.{orSixteen}
+use Rattle.triangular.specs.Answers.{solveOut, solvedOut}
 use Rattle.triangular.specs.declared.substitution.Solved.{Solved}
 use Rattle.triangular.specs.declared.substitution.Solved.the-variants as solves
-use Rattle.preconditioner.specs.Apply.{orSixteen}
 use Rattle.recurrence.specs.Vectors.{dotProductOf, plusScaled, lessScaled}
 use Rattle.recurrence.specs.Step.{Iterate, Carried, alphaOf, updatedOf, advanceOf, productFit, firstFrom, betaOf, turnedOf, renewFrom}
-use Rattle.recurrence.specs.Answers.{scaleOut, carriedOut}
+use Rattle.recurrence.specs.Answers.{scaleOut, carriedOut, standing, AdvanceLeft, CarriedLeft}
 use Rattle.recurrence.specs.declared.ratio.Scale.{Scale}
 use Rattle.recurrence.specs.declared.ratio.Scale.the-variants as scales
 use Rattle.loops.proofs.Judge.{test-pass, test-fail}
@@ -37,41 +39,30 @@ module _ (x₀ r₀ direction product : List Float) (a : Float) (x r : List Floa
   update-is h = rw (← ex, ← er) (test-pass _ _ _ both h refl)
 
 -- ---- `advance`
-finite-of : (l : List Float) → applied.Done ≡ appliedOf l → allFiniteOf l ≡ true
-unfolding appliedOf check
-finite-of l = by (allFiniteOf l)
-  where
-    by : (b : Bool) → applied.Done ≡ check b applied.Done applied.Overflow → b ≡ true
-    by true h = refl
-    by false h = let z : _≡_ {A = ℕ} 0 1 = cc in absurd (omega arith)
-
-overflow-of : (l : List Float) → applied.Overflow ≡ appliedOf l → allFiniteOf l ≡ false
-unfolding appliedOf check
-overflow-of l = by (allFiniteOf l)
-  where
-    by : (b : Bool) → applied.Overflow ≡ check b applied.Done applied.Overflow → b ≡ false
-    by true h = let z : _≡_ {A = ℕ} 0 1 = cc in absurd (omega arith)
-    by false h = refl
-
 module _ (system : System) (x₀ r₀ direction : List Float) (s : Float) (answer : Applied) (responses product : List Float) (m : Multiplied system (coefficients direction) answer responses product) where
   pub advance-bad : answer ≡ applied.Overflow → advanceOf system record { solution = x₀; residual = r₀ } record { direction = direction; s = s } ≡ ended 16
   unfolding advanceOf
-  advance-bad t = test-fail _ _ _ refl (ap not (overflow-of _ (sym t ∙ m .answered)))
+  advance-bad t = on-ended _ _ _ (m .told ∙ rw t)
 
   module _ (d : Float) (q : Scale) (done : answer ≡ applied.Done) (ed : d ≡ dotProductOf direction product) (eq : alphaOf s d ≡ scaleOut q) where
-    fits : not (allFiniteOf (productOf system (coefficients direction))) ≡ false
-    fits = ap not (finite-of _ (sym done ∙ m .answered))
+    fits : test (allFiniteOf (productOf system (coefficients direction))) 16 ≡ going tt
+    fits = m .told ∙ rw done
 
     scaled : alphaOf s (dotProductOf direction (productOf system (coefficients direction))) ≡ scaleOut q
     scaled = rw (← m .multiplied, ← ed) eq
 
     pub advance-refused : (number : ℕ) → q ≡ scales.Refused number → advanceOf system record { solution = x₀; residual = r₀ } record { direction = direction; s = s } ≡ ended number
     unfolding advanceOf
-    advance-refused number t = test-pass _ _ _ refl fits (on-ended _ _ _ (scaled ∙ rw t))
+    advance-refused number t = on-going _ _ _ fits ∙ on-ended _ _ _ (scaled ∙ rw t)
 
     pub advance-on : (a : Float) {o : Run Iterate ℕ} → q ≡ scales.Value a → updatedOf record { solution = x₀; residual = r₀ } direction product a ≡ o → advanceOf system record { solution = x₀; residual = r₀ } record { direction = direction; s = s } ≡ o
     unfolding advanceOf
-    advance-on a t h = test-pass _ _ _ refl fits (on-going _ _ _ {s = a} (scaled ∙ rw t) ∙ rw (← m .multiplied) h)
+    advance-on a t h = on-going _ _ _ fits ∙ on-going _ _ _ {s = a} (scaled ∙ rw t) ∙ rw (← m .multiplied) h
+
+-- what the operator works in stands after a refusal too
+pub advance-left : (system : System) (direction : List Float) (answer : Applied) (responses product solution₀ solution residual₀ residual : List Float) → Multiplied system (coefficients direction) answer responses product → length solution ≡ length solution₀ → length residual ≡ length residual₀
+    → AdvanceLeft system direction responses product solution₀ solution residual₀ residual
+advance-left system direction answer responses product solution₀ solution residual₀ residual m x r = record { responded = m .responded; multiplied = m .multiplied; solution-left = free x; residual-left = free r }
 
 -- ---- `first_direction`
 pub first-is : (residual z d : List Float) (s : Float) (q : Scale) → d ≡ z → s ≡ dotProductOf residual z → productFit s ≡ scaleOut q → firstFrom (going z) residual ≡ carriedOut q d
@@ -107,12 +98,12 @@ module _ (residual z d₀ : List Float) (old s : Float) (q : Scale) (es : s ≡ 
   next-on new t h = on-going _ _ _ refl ∙ on-going _ _ _ (fitted ∙ rw t) ∙ h
 
 -- ---- `first`, `renew`: z, or 16
-module _ (run : Run (List Float) (List Float)) (residual : List Float) (z : List Float) (a : Solved) (e : run ≡ solveOut a z) where
+module _ (run : Run (List Float) (List Float)) (residual : List Float) (z : List Float) (a : Solved) (e : orSixteen run ≡ solvedOut a z) where
   z-done : a ≡ solves.Done → orSixteen run ≡ going z
-  z-done t = on-going _ _ _ (e ∙ rw t)
+  z-done t = e ∙ rw t
 
   z-over : a ≡ solves.Overflow → orSixteen run ≡ ended 16
-  z-over t = on-ended _ _ _ {a = z} (e ∙ rw t)
+  z-over t = e ∙ rw t
 
   pub first-bad : a ≡ solves.Overflow → firstFrom (orSixteen run) residual ≡ ended 16
   unfolding firstFrom
@@ -127,3 +118,12 @@ module _ (run : Run (List Float) (List Float)) (residual : List Float) (z : List
 
   pub renew-on : (c : Carried) {o : Run Carried ℕ} → a ≡ solves.Done → renewFrom (going z) residual c ≡ o → renewFrom (orSixteen run) residual c ≡ o
   renew-on c t h = ap (λ y. renewFrom y residual c) (z-done t) ∙ h
+
+-- z as it stands, refused or not
+pub carried-left : (run : Run (List Float) (List Float)) (z direction₀ direction : List Float) (a : Solved) → run ≡ solveOut a z → length direction ≡ length direction₀ → CarriedLeft run z direction₀ direction
+unfolding standing on
+carried-left run z direction₀ direction a e l = record { preconditioned = rw e (by a); direction-left = free l }
+  where
+    by : (q : Solved) → z ≡ standing (solveOut q z)
+    by solves.Done = refl
+    by solves.Overflow = refl

@@ -1,8 +1,12 @@
--- What the answers of the recurrence tell. Where a part is refused the vectors that it works in are left free: the solve clears them.
+-- What the answers of the recurrence tell, and what its vectors then hold.
 use Prim.Native.Nat.{ℕ}
+use mathlib.Core.Path.{_≡_}
 use mathlib.Core.List.{List}
 use lib.Ieee.{Float}
-use Rattle.loops.specs.Run.{Run, going, ended}
+use Rattle.loops.specs.Run.{Run, going, ended, on}
+use Rattle.loops.specs.Cleared.{Free}
+use Rattle.mass_operator.specs.System.{System}
+use Rattle.mass_operator.specs.Flat.{coefficients, responsesOf, productOf}
 use Rattle.recurrence.specs.Step.{Iterate, Carried}
 use Rattle.recurrence.specs.declared.ratio.Scale.{Scale}
 use Rattle.recurrence.specs.declared.ratio.Scale.the-variants as scales
@@ -21,3 +25,21 @@ advancedOut (steps.Refused number) solution residual = ended number
 abbrev pub carriedOut : Scale → List Float → Run Carried ℕ
 carriedOut (scales.Value s) direction = going (record { direction = direction; s = s })
 carriedOut (scales.Refused number) direction = ended number
+
+-- ---- the vectors that these tell nothing of
+
+-- the numbers as a solve leaves them, refused or not
+unfoldable pub standing : Run (List Float) (List Float) → List Float
+standing r = on r (λ z. z) (λ z. z)
+
+-- `advance`: what the operator works in, refused or not. After a refusal solution and residual are free.
+pub record AdvanceLeft (s : System) (direction impulses product solution₀ solution residual₀ residual : List Float) : Type 0 where
+  pub responded : impulses ≡ responsesOf s (coefficients direction)
+  pub multiplied : product ≡ productOf s (coefficients direction)
+  pub solution-left : Free solution₀ solution
+  pub residual-left : Free residual₀ residual
+
+-- `first` and `renew`: z as its solve leaves it, refused or not. After a refusal the direction is free.
+pub record CarriedLeft (solve : Run (List Float) (List Float)) (z direction₀ direction : List Float) : Type 0 where
+  pub preconditioned : z ≡ standing solve
+  pub direction-left : Free direction₀ direction

@@ -3,10 +3,10 @@ ghost use mathlib.Core.Path.{_≡_};
 ghost use Prim.Native.Nat.{_+_, _*_, _≤_};
 ghost use lib.ListN.{length};
 ghost use Rattle.loops.specs.Run.{going, next};
-ghost use Rattle.preconditioner.specs.Held.{Ready, zIn};
+ghost use Rattle.preconditioner.specs.Held.{Ready, zRun, zIn};
 ghost use Rattle.recurrence.specs.Step.{productFit, firstFrom, betaOf, turnedOf, renewFrom};
 ghost use Rattle.recurrence.specs.Vectors.{dotProductOf};
-ghost use Rattle.recurrence.specs.Answers.{scaleOut, carriedOut};
+ghost use Rattle.recurrence.specs.Answers.{scaleOut, carriedOut, CarriedLeft};
 use crate::ratio::Scale;
 use crate::ratio::beta;
 use crate::ratio::fit_product;
@@ -63,7 +63,7 @@ fn next_direction(
     }
 }
 
-// z, s and direction of step 0. After a refusal z and direction are left free.
+// z, s and direction of step 0. After a refusal the direction is left free.
 pub fn first(
     preconditioner: Preconditioner,
     diagonal: &[f64],
@@ -78,6 +78,8 @@ pub fn first(
     requires { ⌜ (length (now preconditioned) ≡ length (now residual)) × (length (now direction) ≡ length (now residual)) ⌝ }
     ensures { λ r. ⌜ firstFrom (zIn preconditioner (length (now (residual .entry))) record { diagonal = now (diagonal .entry); pattern = now (pattern .entry); order = now (order .entry); values = now (values .entry) } (now (residual .entry))) (now (residual .entry))
         ≡ carriedOut r (now (direction .exit)) ⌝ }
+    ensures { λ _. ⌜ CarriedLeft (zRun preconditioner (length (now (residual .entry))) record { diagonal = now (diagonal .entry); pattern = now (pattern .entry); order = now (order .entry); values = now (values .entry) } (now (residual .entry)))
+        (now (preconditioned .exit)) (now (direction .entry)) (now (direction .exit)) ⌝ }
 {
     let Solved::Done = apply_preconditioner(
         preconditioner,
@@ -93,7 +95,7 @@ pub fn first(
     first_direction(residual, preconditioned, direction)
 }
 
-// z, s and direction of a later step. After a refusal z and direction are left free.
+// z, s and direction of a later step. After a refusal the direction is left free.
 pub fn renew(
     preconditioner: Preconditioner,
     diagonal: &[f64],
@@ -109,6 +111,8 @@ pub fn renew(
     requires { ⌜ (length (now preconditioned) ≡ length (now residual)) × (length (now direction) ≡ length (now residual)) ⌝ }
     ensures { λ r. ⌜ renewFrom (zIn preconditioner (length (now (residual .entry))) record { diagonal = now (diagonal .entry); pattern = now (pattern .entry); order = now (order .entry); values = now (values .entry) } (now (residual .entry))) (now (residual .entry)) record { direction = now (direction .entry); s = «residual_product» }
         ≡ carriedOut r (now (direction .exit)) ⌝ }
+    ensures { λ _. ⌜ CarriedLeft (zRun preconditioner (length (now (residual .entry))) record { diagonal = now (diagonal .entry); pattern = now (pattern .entry); order = now (order .entry); values = now (values .entry) } (now (residual .entry)))
+        (now (preconditioned .exit)) (now (direction .entry)) (now (direction .exit)) ⌝ }
 {
     let Solved::Done = apply_preconditioner(
         preconditioner,

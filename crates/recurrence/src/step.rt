@@ -5,7 +5,7 @@ ghost use lib.ListN.{length};
 ghost use Rattle.compact_table.specs.Compact.{Linked};
 ghost use Rattle.mass_operator.specs.System.{compactSystem};
 ghost use Rattle.recurrence.specs.Step.{updatedOf, advanceOf};
-ghost use Rattle.recurrence.specs.Answers.{advancedOut};
+ghost use Rattle.recurrence.specs.Answers.{advancedOut, AdvanceLeft};
 use crate::ratio::Scale;
 use crate::ratio::alpha;
 use crate::vector::dot_product;
@@ -39,7 +39,7 @@ fn update(
     Advanced::Done
 }
 
-// After a refusal solution, residual and the vectors of the product are left free.
+// After a refusal solution and residual are left free.
 pub fn advance(
     jacobians: &[f64],
     links: &[u32],
@@ -58,6 +58,8 @@ pub fn advance(
     ensures { λ r. ⌜ advanceOf (compactSystem (length (now (direction .entry))) bodies (now (jacobians .entry)) (now (links .entry)) (now (masses .entry)))
         record { solution = now (solution .entry); residual = now (residual .entry) } record { direction = now (direction .entry); s = «residual_product» }
         ≡ advancedOut r (now (solution .exit)) (now (residual .exit)) ⌝ }
+    ensures { λ _. ⌜ AdvanceLeft (compactSystem (length (now (direction .entry))) bodies (now (jacobians .entry)) (now (links .entry)) (now (masses .entry))) (now (direction .entry))
+        (now («body_impulses» .exit)) (now (product .exit)) (now (solution .entry)) (now (solution .exit)) (now (residual .entry)) (now (residual .exit)) ⌝ }
 {
     let Applied::Done = global_velocity_matrix_vector(
         jacobians,

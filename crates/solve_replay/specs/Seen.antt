@@ -6,11 +6,11 @@ use mathlib.Core.List.{List}
 use lib.Dec.{leb, eqb}
 use lib.ListN.{length, replicate}
 use lib.Ieee.{Float, binary64, ofBits, toBits}
-use Rattle.kapitsa_joint.specs.Table.{tableOf}
 use Rattle.kapitsa_joint.specs.declared.tolerance.JointTolerance.{JointTolerance}
 use Rattle.preconditioner.specs.Mode.{modeOf}
 use Rattle.steps.specs.Solve.{solve}
-use Rattle.position_iteration.specs.Method.{positionMethod}
+use Rattle.position.specs.Problem.{positionOf}
+use Rattle.position_iteration.specs.Method.{methodOf}
 use Rattle.position_delivery.specs.Outcome.{Lent, Outcome, outcomeOf}
 use Rattle.position_delivery.specs.declared.answer.PositionPcg.{PositionPcg}
 use Rattle.position_delivery.specs.declared.answer.PositionPcg.the-variants as answers
@@ -70,7 +70,7 @@ toleranceIn h = record { «linear_m» = ofBits binary64 (h .«linear_tolerance»
 unfoldable pub solvedOf : Header → JointTolerance → List Float → List ℕ → List Float → List Float → List Float → Outcome
 solvedOf h tolerance numbers words masses solution impulses =
     outcomeOf (h .rows) (record { numbers = numbers; solution = solution; impulses = impulses })
-    (solve (positionMethod (jobFits (h .rows) (h .bodies) (h .mode) (length numbers) (length words) (length masses) (length solution) (length impulses)) (tableOf (h .rows) (h .bodies) numbers words masses tolerance) (modeOf (h .mode))) (h .limit))
+    (solve (methodOf (jobFits (h .rows) (h .bodies) (h .mode) (length numbers) (length words) (length masses) (length solution) (length impulses)) (positionOf (h .rows) (h .bodies) numbers words masses tolerance) (modeOf (h .mode))) (h .limit))
 
 unfoldable pub solvedSeen : List ℕ → ℕ → Header → List ℕ → List Float → List ℕ → List Float → List Float → List Float → Seen
 solvedSeen list at h rows numbers words masses solution impulses = let o = solvedOf h (toleranceIn h) numbers words masses solution impulses in outcomeSeen list at h rows (o .answer) (o .lent)

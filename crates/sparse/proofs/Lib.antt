@@ -3,3 +3,4 @@ pub mod Hop
 pub mod Rows
 pub mod Fit
 pub mod Marks
+pub mod Left

@@ -81,3 +81,7 @@ rowTurn i s = on (factorsRun (s .1) i (s .0)) (λ L. pivotOf (s .1) i L (squares
 -- the factors in the place of the pair values, and the pivots in the place of the diagonal
 unfoldable pub factorRun : Sparse → List Float → Run Factor Factor
 factorRun pairs diagonal = turns rowTurn (pairs, diagonal) (length diagonal)
+
+-- the same with document 01's number where it is refused: "13. A pivot is not finite or at most MIN, or a factor is not finite."
+abbrev pub orThirteen : Run Factor Factor → Run Factor ℕ
+orThirteen r = on r going (λ _. ended 13)

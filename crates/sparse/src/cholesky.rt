@@ -4,10 +4,10 @@ ghost use Prim.Native.Nat.{_+_, _<_, _≤_};
 ghost use lib.ListN.{length, getD};
 ghost use mathlib.Core.Bool.{true};
 ghost use Rattle.binary64.specs.Answer.{rootOf};
-ghost use Rattle.sparse.specs.Cholesky.{reducedOf, squaresOf, fit, rootValue, columnTurn, factorsRun, rowTurn, factorRun};
+ghost use Rattle.sparse.specs.Cholesky.{reducedOf, squaresOf, fit, rootValue, columnTurn, factorsRun, rowTurn, factorRun, orThirteen};
 ghost use Rattle.sparse.specs.Kept.{start, Kept, Row, numbers};
 ghost use Rattle.sparse.specs.Marks.{AtMost, Marked, lessAt};
-ghost use Rattle.sparse.specs.Answers.{columnOut, factorOut};
+ghost use Rattle.sparse.specs.Answers.{columnOut, factorOut, factoredOut, FactorFree};
 use crate::places::column;
 use crate::places::earlier;
 use crate::places::number;
@@ -238,6 +238,9 @@ pub fn factor(
     requires { ⌜ AtMost (now marks) 0 ⌝ }
     ensures { λ r. ⌜ factorRun (numbers (now (starts .entry)) (now (columns .entry)) (now (values .entry))) (now (pivots .entry))
         ≡ factorOut r (numbers (now (starts .entry)) (now (columns .entry)) (now (values .exit))) (now (pivots .exit)) ⌝ }
+    ensures { λ r. ⌜ orThirteen (factorRun (numbers (now (starts .entry)) (now (columns .entry)) (now (values .entry))) (now (pivots .entry)))
+        ≡ factoredOut r (numbers (now (starts .entry)) (now (columns .entry)) (now (values .exit))) (now (pivots .exit)) ⌝ }
+    ensures { λ _. ⌜ FactorFree (start (now (starts .entry)) (length (now (pivots .entry)))) (now (values .entry)) (now (values .exit)) (now (marks .entry)) (now (marks .exit)) ⌝ }
 {
     let n = pivots.len();
     let mut i = 0;

@@ -5,5 +5,5 @@ pub mod Counting
 pub mod Count
 pub mod Answer
 pub mod FirstStep
-pub mod Numbered
-pub mod Only
+pub mod InPlace
+pub mod Alike

@@ -1,21 +1,46 @@
--- The refusals 3 to 17 by their numbers: document 01, "Why a job was turned back".
-use Prim.Native.Nat.{ℕ, _≤_}
+-- The refusals by their numbers: document 01, "Why a job was turned back". Which part of a solve refuses with which numbers, and where each number turns a job back.
+use Prim.Native.Nat.{ℕ}
+use mathlib.Core.Bool.{false, true}
+use mathlib.Core.List.{List, [], _++_, _∷_}
+use mathlib.Core.Logic.{_⊎_}
 use mathlib.Core.Path.{_≡_}
-use mathlib.Core.Bool.{false}
-use mathlib.Core.Logic.{_⊎_, _≢_}
-use Rattle.loops.specs.Run.{Goes, going, ended}
+use Rattle.loops.specs.Numbers.{In, once}
+use Rattle.loops.specs.Run.{Goes, ended, going}
+use Rattle.steps.specs.Meaning.{Advancing, Finishing, Renewing}
 use Rattle.steps.specs.Method.{Method}
 use Rattle.steps.specs.Steps.{stepAt}
-use Rattle.steps.specs.Meaning.{Renewing, Advancing, Finishing}
+
+-- ---- the order of judging, as one list cut into places
+
+-- the numbers of the places that a kind of solve chooses
+pub record Places : Type 0 where
+  pub opening : List ℕ  -- before step 0
+  pub begin : List ℕ  -- in step 0, before the count 0 test
+  pub factor : List ℕ  -- in the factor, after the count 0 test
+
+-- "14 to 16 as the Rust meets them", and 17: the same for every kind
+abbrev pub late : List ℕ
+late = 14 ∷ (15 ∷ (16 ∷ (17 ∷ [])))
+
+-- of what is made anew from a step, and of a step
+abbrev pub renewing : List ℕ
+renewing = 14 ∷ (16 ∷ [])
+
+abbrev pub advancing : List ℕ
+advancing = 15 ∷ (16 ∷ [])
+
+abbrev pub orderOf : Places → List ℕ
+orderOf p = p .opening ++ (p .begin ++ (p .factor ++ late))
 
 module _ {S C F : Type 0} (m : Method S C F) where
-  -- Which part refuses with which number: "10 to 17 follow the count 0 test; 7 to 9 run row by row, 11 to 13 and 14 to 16 as the Rust meets them".
-  pub record Numbers : Type 0 where
-    pub opening : (limit n : ℕ) → m .opening limit ≡ ended n → (3 ≤ n) × (n ≤ 6)
-    pub begin : (n : ℕ) → m .begin ≡ ended n → (7 ≤ n) × (n ≤ 9)
-    pub first : (v : S) (n : ℕ) → m .first v ≡ ended n → (10 ≤ n) × (n ≤ 16) × (n ≢ 15)
-    pub advance : (v : S) (c : C) (n : ℕ) → m .steps .advance v c ≡ ended n → (15 ≤ n) × (n ≤ 16)
-    pub renew : (u v : S) (c : C) (n : ℕ) → Goes (m .first u) → m .steps .renew v c ≡ ended n → (14 ≤ n) × (n ≤ 16) × (n ≢ 15)  -- a factor is there: some step 0 was not refused it
+  -- Each part refuses with the numbers of its place, and each number has one place.
+  pub record Numbers (p : Places) : Type 0 where
+    pub apart : once (orderOf p) ≡ true
+    pub opening : (limit n : ℕ) → m .opening limit ≡ ended n → In n (p .opening)
+    pub begin : (n : ℕ) → m .begin ≡ ended n → In n (p .begin)
+    pub first : (v : S) (n : ℕ) → m .begin ≡ going v → m .first v ≡ ended n → In n (p .factor ++ renewing)
+    pub advance : (v : S) (c : C) (n : ℕ) → m .steps .advance v c ≡ ended n → In n advancing
+    pub renew : (u v : S) (c : C) (n : ℕ) → m .begin ≡ going u → Goes (m .first u) → m .steps .renew v c ≡ ended n → In n renewing  -- a factor is there: neither step 0 nor what follows from it was refused it
     pub finish : (k : ℕ) (v : S) (n : ℕ) → m .finish k v ≡ ended n → n ≡ 17
 
   -- After the count 0 test: step 0 is there and misses, and its factor, z or s is refused.
@@ -32,17 +57,17 @@ module _ {S C F : Type 0} (m : Method S C F) where
 
   -- ---- where each number turns a job back
 
-  -- 3 to 6: before step 0
-  abbrev pub TurnsBack3-6 : ℕ → ℕ → Type 0
-  TurnsBack3-6 limit n = m .opening limit ≡ ended n
+  -- before step 0
+  abbrev pub InOpening : ℕ → ℕ → Type 0
+  InOpening limit n = m .opening limit ≡ ended n
 
-  -- 7 to 9: in step 0
-  abbrev pub TurnsBack7-9 : ℕ → ℕ → Type 0
-  TurnsBack7-9 limit n = Passed limit (stepAt m 0 ≡ ended n)
+  -- in step 0, before the count 0 test
+  abbrev pub InBegin : ℕ → ℕ → Type 0
+  InBegin limit n = Passed limit (stepAt m 0 ≡ ended n)
 
-  -- 10 to 13: in the factor
-  abbrev pub TurnsBack10-13 : ℕ → ℕ → Type 0
-  TurnsBack10-13 limit n = Passed limit (Factoring n)
+  -- in the factor, after the count 0 test
+  abbrev pub InFactor : ℕ → ℕ → Type 0
+  InFactor limit n = Passed limit (Factoring n)
 
   -- "14. Residual times preconditioned residual is at most MIN."
   abbrev pub TurnsBack14 : ℕ → Type 0
@@ -59,13 +84,3 @@ module _ {S C F : Type 0} (m : Method S C F) where
   -- "17. A final impulse or multiplier is not finite."
   abbrev pub TurnsBack17 : ℕ → Type 0
   TurnsBack17 limit = Passed limit (Finishing m limit 17)
-
-  -- Demand 3: "none of these papers' refusals, each judged in its place, turns it back".
-  pub record NoneTurnsBack (limit : ℕ) : Type 0 where
-    pub not3-6 : (n : ℕ) → (3 ≤ n) → (n ≤ 6) → ¬ TurnsBack3-6 limit n
-    pub not7-9 : (n : ℕ) → (7 ≤ n) → (n ≤ 9) → ¬ TurnsBack7-9 limit n
-    pub not10-13 : (n : ℕ) → (10 ≤ n) → (n ≤ 13) → ¬ TurnsBack10-13 limit n
-    pub not14 : ¬ TurnsBack14 limit
-    pub not15 : ¬ TurnsBack15 limit
-    pub not16 : ¬ TurnsBack16 limit
-    pub not17 : ¬ TurnsBack17 limit

@@ -1,6 +1,8 @@
--- P1 to P9; the numbers of the position solve.
+-- P1 to P9, sentences of document 01, and that a solve and a check look only below the counts.
 pub mod Sheets
-pub mod Ranges
-pub mod Factors
-pub mod Parts
-pub mod InPlace
+pub mod Sentences
+pub mod Systems
+pub mod Tables
+pub mod Solves
+pub mod Checks
+pub mod Below

@@ -1,2 +1,2 @@
 pub mod Sheets
-pub mod Places
+pub mod Below

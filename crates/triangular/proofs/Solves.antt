@@ -11,11 +11,11 @@ use Rattle.loops.proofs.Loop.{check-pass, check-fail}
 use Rattle.sparse.specs.Count.{count}
 use Rattle.sparse.specs.Triangle.{Sparse}
 use Rattle.sparse.specs.Cholesky.{less}
-use Rattle.triangular.specs.Triangular.{transposed, alongTurn, written, forwardTurn, forwardRun, backwardOf, backwardTurn, backwardRun, solveRun}
+use Rattle.triangular.specs.Triangular.{transposed, alongTurn, written, forwardTurn, forwardRun, backwardOf, backwardTurn, backwardRun, solveRun, orSixteen}
 use Rattle.sparse.specs.Kept.{Row, numbers}
 use Rattle.triangular.specs.Column.{placeAt, homeAt}
 use Rattle.triangular.specs.Index.{Spread}
-use Rattle.triangular.specs.Answers.{solveOut}
+use Rattle.triangular.specs.Answers.{solveOut, solvedOut}
 use Rattle.triangular.specs.declared.substitution.Solved.{Solved}
 use Rattle.triangular.specs.declared.substitution.Solved.the-variants.{Done, Overflow}
 use Rattle.sparse.proofs.Hop.{plain, Skips}
@@ -54,6 +54,18 @@ module _ {f : Run (List Float) (List Float)} (r : Solved) (y : List Float) (call
 
   pub solved-out : r ≡ Overflow → f ≡ ended y
   solved-out told = called ∙ rw told
+
+-- the number of an answer
+pub sixteen : {f : Run (List Float) (List Float)} (r : Solved) (y : List Float) → f ≡ solveOut r y → orSixteen f ≡ solvedOut r y
+unfolding on
+sixteen r y e = rw e (by r)
+  where
+    by : (q : Solved) → orSixteen (solveOut q y) ≡ solvedOut q y
+    by Done = refl
+    by Overflow = refl
+
+pub solve-tells : {f : Run (List Float) (List Float)} (r : Solved) (y : List Float) → f ≡ solveOut r y → (f ≡ solveOut r y) × (orSixteen f ≡ solvedOut r y)
+solve-tells r y e = (e, sixteen r y e)
 
 -- ---- along a column
 module _ {starts columns order : List ℕ} {n count j a b : ℕ} (spread : Spread starts columns order n count j a b) where

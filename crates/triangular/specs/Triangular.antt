@@ -6,7 +6,7 @@ use mathlib.Core.Option.{Option, some}
 use lib.ListN.{getD, set, length}
 use lib.Ieee.{Float, nan, binary64, div}
 use lib.Ieee.Scale.{finite}
-use Rattle.loops.specs.Run.{Run, going, ended, next, turns, check}
+use Rattle.loops.specs.Run.{Run, going, ended, on, next, turns, check}
 use Rattle.sparse.specs.Count.{count}
 use Rattle.sparse.specs.Triangle.{Sparse}
 use Rattle.sparse.specs.Cholesky.{less}
@@ -43,3 +43,7 @@ backwardRun L pivots y = turns (backwardTurn L pivots) y (length pivots)
 -- the preconditioned residual, in the place of what stood in y
 unfoldable pub solveRun : Sparse → List Float → List Float → List Float → Run (List Float) (List Float)
 solveRun L pivots residual y = next (forwardRun L pivots residual y) (backwardRun L pivots)
+
+-- a solve with document 01's number where it is refused: "16. A number in the recurrence is not finite."
+abbrev pub orSixteen : Run (List Float) (List Float) → Run (List Float) ℕ
+orSixteen r = on r going (λ _. ended 16)

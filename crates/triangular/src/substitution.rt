@@ -7,8 +7,8 @@ ghost use Rattle.sparse.specs.Count.{count as down};
 ghost use Rattle.sparse.specs.Kept.{Kept, numbers};
 ghost use Rattle.triangular.specs.Column.{placeAt, homeAt, Indexed};
 ghost use Rattle.triangular.specs.Index.{Spread};
-ghost use Rattle.triangular.specs.Triangular.{transposed, alongTurn, forwardTurn, forwardRun, backwardOf, backwardRun, solveRun};
-ghost use Rattle.triangular.specs.Answers.{solveOut};
+ghost use Rattle.triangular.specs.Triangular.{transposed, alongTurn, forwardTurn, forwardRun, backwardOf, backwardRun, solveRun, orSixteen};
+ghost use Rattle.triangular.specs.Answers.{solveOut, solvedOut};
 use loops::wide;
 use sparse::Stretch;
 use sparse::earlier;
@@ -296,6 +296,8 @@ pub fn solve(
     requires { ⌜ length (now residual) ≡ length (now output) ⌝ }
     ensures { λ r. ⌜ solveRun (numbers (now (starts .entry)) (now (columns .entry)) (now (values .entry))) (now (pivots .entry)) (now (residual .entry)) (now (output .entry))
         ≡ solveOut r (now (output .exit)) ⌝ }
+    ensures { λ r. ⌜ orSixteen (solveRun (numbers (now (starts .entry)) (now (columns .entry)) (now (values .entry))) (now (pivots .entry)) (now (residual .entry)) (now (output .entry)))
+        ≡ solvedOut r (now (output .exit)) ⌝ }
 {
     let Solved::Done = forward(starts, columns, values, pivots, residual, output) else {
         return Solved::Overflow;

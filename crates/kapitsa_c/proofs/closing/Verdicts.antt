@@ -6,10 +6,9 @@ use mathlib.Core.List.{List, [], _∷_}
 use mathlib.Core.Logic.{_↔_}
 use native.Mathlib.Omega.{arith}
 use lib.ListN.{length, set}
-use lib.Ieee.{Float}
 use borrow.Author.Tests.{not-true, not-false, eqb-true}
 use Rattle.loops.specs.Run.{check}
-use Rattle.kapitsa_joint.specs.Table.{Table}
+use Rattle.check_range.specs.Closing.{Closing}
 use Rattle.check_answer.specs.Answer.{checkOf}
 use Rattle.check_answer.specs.declared.CheckAnswer.{CheckAnswer}
 use Rattle.check_answer.specs.declared.CheckAnswer.the-variants.{Closed, Open, Refused}
@@ -27,20 +26,20 @@ zero-is verdict Closed above = (λ _ n h. let z : _≡_ {A = ℕ} 0 1 = cc in om
 zero-is verdict Open above = (λ _ n h. let z : _≡_ {A = ℕ} 0 1 = cc in omega arith, λ _. refl)
 zero-is verdict (Refused k) above = (λ e n h. let l = above k refl in omega arith, λ h. absurd (h k refl))
 
-module _ (t : Table) (x : ℕ → Float) (verdict : List ℕ) (before : CheckMemory) where
-  told-so : {fits : Bool} {told : VerdictTold} {a : CheckAnswer} {after : CheckMemory} → Checked fits t x a before after → told ≡ verdictTold a verdict → CheckTold fits t x verdict told before after
-  told-so {fits} c h =
-      let means = rw (c .answered) at (c .means) in
-      rw (h, c .answered) (record { answered = refl; means = means; zero = zero-is verdict (checkOf fits t x) (λ n e. refusal-above fits t x n (means .refused n .0 e)); memory = c .memory })
+module _ (c : Closing) (verdict : List ℕ) (before : CheckMemory) where
+  told-so : {fits : Bool} {told : VerdictTold} {a : CheckAnswer} {after : CheckMemory} → Checked fits c a before after → told ≡ verdictTold a verdict → CheckTold fits c verdict told before after
+  told-so {fits} k h =
+      let means = rw (k .answered) at (k .means) in
+      rw (h, k .answered) (record { answered = refl; means = means; zero = zero-is verdict (checkOf fits c) (λ n e. refusal-above fits c n (means .refused n .0 e)); memory = k .memory })
 
   -- refusal 3 of the verdict's slice, then of the others
   module _ {r v : Bool} (p : Bool) (e : r ≡ v) where
-    pub untold : not r ≡ true → CheckTold (v && p) t x verdict (record { number = 3; verdict = verdict }) before before
+    pub untold : not r ≡ true → CheckTold (v && p) c verdict (record { number = 3; verdict = verdict }) before before
     unfolding verdictTold
-    untold h = told-so (checked-3 t x before (sym (ap (λ (b : Bool). b && p) (sym e ∙ not-true r h))) refl) refl
+    untold h = told-so (checked-3 c before (sym (ap (λ (b : Bool). b && p) (sym e ∙ not-true r h))) refl) refl
 
-    pub told-on : {told : VerdictTold} {a : CheckAnswer} {after : CheckMemory} → not r ≡ false → Checked p t x a before after → told ≡ verdictTold a verdict → CheckTold (v && p) t x verdict told before after
-    told-on h c w = rw (sym e ∙ not-false r h) (told-so c w)
+    pub told-on : {told : VerdictTold} {a : CheckAnswer} {after : CheckMemory} → not r ≡ false → Checked p c a before after → told ≡ verdictTold a verdict → CheckTold (v && p) c verdict told before after
+    told-on h k w = rw (sym e ∙ not-false r h) (told-so k w)
 
 -- ---- the slice of the verdict
 pub verdict-length : (verdict : List ℕ) {r : Bool} → r ≡ verdictFits verdict → not r ≡ false → length verdict ≡ 1

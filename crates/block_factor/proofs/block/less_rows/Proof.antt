@@ -4,12 +4,12 @@ use denote.Index.{row}
 use denote.Struct.Rest.{rest}
 use borrow.Author.Needs.{needs}
 use Rattle.block_factor.proofs.Cells.{Counts, counts-end, counts-more, counts-none, less-turn}
-use Rattle.block_factor.specs.Blocks.{lessOf, lessTurn}
+use Rattle.block_factor.specs.Blocks.{lessOf, blockLess}
 use Rattle.block_factor.proofs.block.less_rows.Statement.{statement}
 use Rattle.block_factor.proofs.block.less_rows.Tie as tie
 
 abbrev Inv-loop : tie.InvT-loop
-Inv-loop value lower row column rest₀ k₀ rest k = Counts (lessTurn lower row column) value column k rest
+Inv-loop value lower row column rest₀ k₀ rest k = Counts (blockLess lower row column) value column k rest
 
 abbrev μ-loop : tie.MeasureT-loop
 μ-loop value lower row column rest₀ k₀ rest k = column - k

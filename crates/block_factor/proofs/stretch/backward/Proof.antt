@@ -3,13 +3,13 @@ use Prim.Native.Nat.{_-_}
 use mathlib.Core.Path.{_≡_}
 use lib.ListN.{length}
 use Rattle.block_factor.proofs.Stretches.{backs-on, backs-out}
-use Rattle.block_factor.specs.Solves.{backwardRun, backwardTurn}
+use Rattle.block_factor.specs.Solves.{blockBackwardRun, blockBackwardTurn}
 use Rattle.loops.proofs.Loop.{At, loops}
 use Rattle.block_factor.proofs.stretch.backward.Statement.{statement}
 use Rattle.block_factor.proofs.stretch.backward.Tie as tie
 
 abbrev Inv-loop : tie.InvT-loop
-Inv-loop lower part₀ len t₀ part t = (length part ≡ length part₀) × At (backwardTurn lower (length part₀)) part₀ (length part₀) t part
+Inv-loop lower part₀ len t₀ part t = (length part ≡ length part₀) × At (blockBackwardTurn lower (length part₀)) part₀ (length part₀) t part
 
 abbrev μ-loop : tie.MeasureT-loop
 μ-loop lower part₀ len t₀ part t = length part₀ - t
@@ -17,7 +17,7 @@ abbrev μ-loop : tie.MeasureT-loop
 ruleset known = (backs-on, backs-out, loops)
 
 pub backward-spec : {M : Type 1} → statement M
-unfolding backwardRun
+unfolding blockBackwardRun
 backward-spec =
     tie.close
     (tie.spec Inv-loop μ-loop

@@ -6,12 +6,12 @@ use denote.Index.{row}
 use borrow.Author.Needs.{needs}
 use Rattle.block_factor.proofs.Cells.{Counts, counts-end, counts-more, counts-none}
 use Rattle.block_factor.proofs.Stretches.{forward-turn}
-use Rattle.block_factor.specs.Solves.{forwardTurn}
+use Rattle.block_factor.specs.Solves.{blockForwardTurn}
 use Rattle.block_factor.proofs.stretch.forward.Statement.{statement}
 use Rattle.block_factor.proofs.stretch.forward.Tie as tie
 
 abbrev Inv-loop : tie.InvT-loop
-Inv-loop lower residual part₀ row₀ part row = (length part ≡ length part₀) × Counts (forwardTurn lower residual) part₀ (length residual) row part
+Inv-loop lower residual part₀ row₀ part row = (length part ≡ length part₀) × Counts (blockForwardTurn lower residual) part₀ (length residual) row part
 
 abbrev μ-loop : tie.MeasureT-loop
 μ-loop lower residual part₀ row₀ part row = length residual - row

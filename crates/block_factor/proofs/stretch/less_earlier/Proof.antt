@@ -5,12 +5,12 @@ use denote.Struct.Rest.{rest}
 use borrow.Author.Needs.{needs}
 use Rattle.block_factor.proofs.Cells.{Counts, counts-end, counts-more, counts-none}
 use Rattle.block_factor.proofs.Stretches.{forward-less}
-use Rattle.block_factor.specs.Solves.{forwardLess}
+use Rattle.block_factor.specs.Solves.{blockForwardLess}
 use Rattle.block_factor.proofs.stretch.less_earlier.Statement.{statement}
 use Rattle.block_factor.proofs.stretch.less_earlier.Tie as tie
 
 abbrev Inv-loop : tie.InvT-loop
-Inv-loop value lower part row rest₀ k₀ rest k = Counts (forwardLess lower part row) value row k rest
+Inv-loop value lower part row rest₀ k₀ rest k = Counts (blockForwardLess lower part row) value row k rest
 
 abbrev μ-loop : tie.MeasureT-loop
 μ-loop value lower part row rest₀ k₀ rest k = row - k

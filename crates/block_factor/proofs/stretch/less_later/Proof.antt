@@ -6,12 +6,12 @@ use denote.Struct.Rest.{rest}
 use borrow.Author.Needs.{needs}
 use Rattle.block_factor.proofs.Cells.{Counts, counts-end, counts-more, counts-none}
 use Rattle.block_factor.proofs.Stretches.{backward-less}
-use Rattle.block_factor.specs.Solves.{backwardLess}
+use Rattle.block_factor.specs.Solves.{blockBackwardLess}
 use Rattle.block_factor.proofs.stretch.less_later.Statement.{statement}
 use Rattle.block_factor.proofs.stretch.less_later.Tie as tie
 
 abbrev Inv-loop : tie.InvT-loop
-Inv-loop value lower part row below rest₀ k₀ rest k = Counts (backwardLess lower part row) value below k rest
+Inv-loop value lower part row below rest₀ k₀ rest k = Counts (blockBackwardLess lower part row) value below k rest
 
 abbrev μ-loop : tie.MeasureT-loop
 μ-loop value lower part row below rest₀ k₀ rest k = below - k

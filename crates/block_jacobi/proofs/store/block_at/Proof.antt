@@ -16,4 +16,4 @@ block-at-spec =
     (λ c. search needs)  -- part-copy-start
     (λ c. search needs)  -- part-copy-end
     (λ c κs. search needs)  -- copy-requires
-    (λ c. block-made _ _ _ _ (c .before .copy .ensures)))  -- returns
+    (λ c. block-made _ _ _ (c .before .copy .ensures)))  -- returns

@@ -10,6 +10,6 @@ checked-spec =
     tie.close
     (tie.spec
     (λ c κs. search needs)  -- given-fits-requires
-    (λ c. alone-3 _ _ ((c .before .given-fits) .ensures) (c .if1 .taken))  -- returns
+    (λ c. alone-3 _ ((c .before .given-fits) .ensures) (c .if1 .taken))  -- returns
     (λ c κs. passed-3 ((c .before .given-fits) .ensures) (c .if1 .left))  -- with-memory-requires
     (λ c. c .with-memory .ensures))  -- returns-2

@@ -1,12 +1,14 @@
 -- `check_refusals::judge::judge_table` meets its contract. Assumes nothing.
 use borrow.Author.Needs.{needs}
-use Rattle.check_refusals.proofs.Judgement.{judged-18, judged-4, judged-6, judged-7, judged-passed}
+use Rattle.joint_refusals.specs.Refusals.{passes6, passes7}
+use Rattle.check_refusals.proofs.Judgement.{judging, words-pass}
 use Rattle.check_refusals.proofs.judge.judge_table.Statement.{statement}
 use Rattle.check_refusals.proofs.judge.judge_table.Tie as tie
 
-ruleset known = (judged-4, judged-6, judged-7, judged-18, judged-passed, needs)
+ruleset known = (judging, words-pass, needs)
 
 pub judge-table-spec : {M : Type 1} → statement M
+unfolding passes6 passes7
 judge-table-spec =
     tie.close
     (tie.spec

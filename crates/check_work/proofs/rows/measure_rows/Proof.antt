@@ -18,4 +18,12 @@ measure-rows-spec =
     (λ c. (c .before .before .before .impulses2) .given ∙ (c .before .before .before .before .before .before .before .before .before .before .before .before .before .before .before .before .before .before .before .before .impulses) .given)  -- same-length-5
     (λ c. (c .before .before .before .before .before .before .before .before .before .before .before .before .before .before .before .before .before .before .values) .given)  -- same-length-6
     (λ c. (c .before .sizes) .given)  -- same-length-7
-    (λ c. record { values = (c .before .before .before .before .before .before .before .before .before .before .before .before .before .before .before .before .before .before .before .before .before .before .before .before .before .measure-values) .ensures .1 ∙ values-are _ _ _ _ _ ((c .before .before .before .before .before .before .before .before .before .before .before .before .before .before .before .before .before .before .before .before .before .before .before .before .before .before .before .before .before .before .before .before .before .before .before .before .before .before .before .before .before) .args .multipliers .now) _ ((c .before .before .before .before .before .before .before .before .before .before .before .before .before .before .before .before .before .before .before .before .before .before .before .before .before .measure-values) .ensures .0); sizes = (c .before .before .before .before .before .before .before .before .before .before .measure-sizes) .ensures ∙ sizes-are _ _ _ _ _ ((c .before .before .before .before .before .before .before .before .before .before .before .before .before .before .before .before .before .before .before .before .before .before .before .before .before .before .before .before .before .before .before .before .before .before .before .before .before .before .before .before .before) .args .multipliers .now) _ ((c .before .before .before .before .before .before .before .before .before .before .before .before .before .before .before .before .before .before .before .before .before .before .before .before .before .measure-values) .ensures .0) }))  -- returns
+    (λ c. record {
+      values = (c .before .before .before .before .before .before .before .before .before .before .before .before .before .before .before .before .before .before .before .before .before .before .before .before .before .measure-values) .ensures .1 .0 ∙ values-are _ _ _ _ _ ((c .before .before .before .before .before .before .before .before .before .before .before .before .before .before .before .before .before .before .before .before .before .before .before .before .before .before .before .before .before .before .before .before .before .before .before .before .before .before .before .before .before) .args .multipliers .now) ((c .before .before .before .before .before .before .before .before .before .before .before .before .before .before .before .before .before .before .before .before .before .before .before .before .before .measure-values) .ensures .0);
+      sizes = (c .before .before .before .before .before .before .before .before .before .before .measure-sizes) .ensures .0 ∙ sizes-are _ _ _ _ _ ((c .before .before .before .before .before .before .before .before .before .before .before .before .before .before .before .before .before .before .before .before .before .before .before .before .before .before .before .before .before .before .before .before .before .before .before .before .before .before .before .before .before) .args .multipliers .now) ((c .before .before .before .before .before .before .before .before .before .before .before .before .before .before .before .before .before .before .before .before .before .before .before .before .before .measure-values) .ensures .0);
+      massSizes = (c .before .before .before .before .before .before .before .before .before .before .measure-sizes) .ensures .1 .0 .1;
+      multiplierSizes = (c .before .before .before .before .before .before .before .before .before .before .measure-sizes) .ensures .1 .0 .2;
+      jacobians = record { long = (c .before .before .before .before .before .before .before .before .before .jacobians2) .given ∙ (c .before .before .before .before .before .before .before .before .before .before .before .before .before .before .before .before .before .before .before .before .before .before .before .before .jacobians) .given };
+      links = record { long = (c .before .before .before .before .before .before .before .before .before .before .before .before .before .before .before .before .before .before .before .before .before .before .links) .given };
+      impulses = record { long = (c .before .before .before .impulses2) .given ∙ (c .before .before .before .before .before .before .before .before .before .before .before .before .before .before .before .before .before .before .before .before .impulses) .given };
+    }))  -- returns

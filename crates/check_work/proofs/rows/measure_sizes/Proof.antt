@@ -19,4 +19,4 @@ measure-sizes-spec =
     (λ c. (c .before .before .before .before .before .before .before .before .before .before .before .multiplier-sizes) .given)  -- same-length-3
     (λ c. (c .before .before .before .impulses) .given)  -- same-length-4
     (λ c. (c .before .sizes) .given)  -- same-length-5
-    (λ c. sizes-product _ _ ((c .before .before .before .before .before .before .before .before .before .before .before .before .before .before .before .before .before .before .before .before .before .before .before .before .before .before .before .before .before .before) .args .jacobians .now) ((c .before .before .before .before .before .before .before .before .before .before .before .before .before .before .before .before .before .before .before .before .before .before .before .before .before .before .before .before .before .before) .args .masses .now) ((c .before .before .before .before .before .before .before .before .before .before .before .before .before .before .before .before .before .before .before .before .before .before .before .before .before .before .before .before .before .before) .args .multipliers .now) ((c .before .before .before .before .before .before .before .before .before .before .before .before .before .before .before .before .before .before .before .before .take-sizes) .ensures) ((c .before .before .before .before .before .before .before .before .before .before .before .before .before .before .before .before .copy-sizes) .ensures) ((c .before .before .before .before .before .before .before .before .before .before .before .before .copy-sizes2) .ensures) ((c .before .before .before .before .global-velocity-matrix-vector) .ensures)))  -- returns
+    (λ c. (sizes-product _ _ ((c .before .before .before .before .before .before .before .before .before .before .before .before .before .before .before .before .before .before .before .before .before .before .before .before .before .before .before .before .before .before) .args .jacobians .now) ((c .before .before .before .before .before .before .before .before .before .before .before .before .before .before .before .before .before .before .before .before .before .before .before .before .before .before .before .before .before .before) .args .masses .now) ((c .before .before .before .before .before .before .before .before .before .before .before .before .before .before .before .before .before .before .before .before .before .before .before .before .before .before .before .before .before .before) .args .multipliers .now) ((c .before .before .before .before .before .before .before .before .before .before .before .before .before .before .before .before .before .before .before .before .take-sizes) .ensures) ((c .before .before .before .before .before .before .before .before .before .before .before .before .before .before .before .before .copy-sizes) .ensures) ((c .before .before .before .before .before .before .before .before .before .before .before .before .copy-sizes2) .ensures) ((c .before .before .before .before .global-velocity-matrix-vector) .ensures), (((c .before .before .before .before .before .before .before .before .before .before .before .before .before .before .before .before .before .before .before .before .take-sizes) .ensures, (c .before .before .before .before .before .before .before .before .before .before .before .before .before .before .before .before .copy-sizes) .ensures, (c .before .before .before .before .before .before .before .before .before .before .before .before .copy-sizes2) .ensures), record { long = (c .before .before .before .impulses) .given }))))  -- returns

@@ -15,4 +15,4 @@ measure-values-spec =
     (λ c. (c .before .before .before .before .before .before .before .before .before .before .links) .given)  -- same-length-2
     (λ c. (c .before .before .before .impulses) .given)  -- same-length-3
     (λ c. (c .before .values) .given)  -- same-length-4
-    (λ c. search needs))  -- returns
+    (λ c. ((c .before .before .before .before .before .before .before .before .before .before .before .before .before .gather) .ensures, ((c .before .before .before .before .global-velocity-matrix-vector) .ensures .multiplied, record { long = (c .before .before .before .impulses) .given }))))  -- returns

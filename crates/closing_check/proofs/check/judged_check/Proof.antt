@@ -1,9 +1,10 @@
 -- `closing_check::check::judged_check` meets its contract. Assumes nothing.
+use mathlib.Core.Path.{_∙_}
 use native.Mathlib.Omega.{arith}
 use borrow.Author.Needs.{needs}
 use Rattle.closing_check.proofs.Entry.{room-same}
-use Rattle.closing_check.proofs.Judged.{passed-judged, refused-judged, valid-of, valid-same}
-use Rattle.closing_check.proofs.Measured.{closed-is, open-is}
+use Rattle.closing_check.proofs.Judged.{passed-judged, refused-judged, valid-judged, valid-same}
+use Rattle.closing_check.proofs.Measured.{verdict-is}
 use Rattle.closing_check.proofs.check.judged_check.Statement.{statement}
 use Rattle.closing_check.proofs.check.judged_check.Tie as tie
 
@@ -13,23 +14,17 @@ judged-check-spec =
     (tie.spec
     (λ c κs. (omega (arith, (c .before .before .before .before .before .before .before .before .before .before .before) .pre .0 .numbers), omega (arith, (c .before .before .before .before .before .before .before .before .before .before .before) .pre .0 .words), omega (arith, (c .before .before .before .before .before .before .before .before .before .before .before) .pre .0 .masses), omega (arith, (c .before .before .before .before .before .before .before .before .before .before .before) .pre .0 .multipliers)))  -- judge-table-requires
     (λ c. search needs)  -- enum-known-judged
-    (λ c. refused-judged _ _ _ ((c .before .before .before .judge-table) .ensures) ((c .before .judged) .given .1))  -- returns
+    (λ c. refused-judged _ ((c .before .before .before .judge-table) .ensures) _ ((c .before .judged) .given .1))  -- returns
     (λ c. search needs)  -- enum-told
-    (λ c κs. (room-same ((c .before .before .before .before .before .before .before .before .before .before .before .before .before .before .before .before .before .before .before .before .before) .pre .0 .multipliers) ((c .before .before .before .before .before .before .before .before .before .before .before .before .before .before .before .before .before .before .before .before .before) .pre .0), valid-same ((c .before .before .before .before .before .before .before .before .before .before .before .before .before .before .before .before .before .before .before .before .before) .pre .0 .multipliers) (valid-of _ _ _ _ _ _ (passed-judged _ _ ((c .before .before .before .before .before .before .before .before .before .judge-table) .ensures) ((c .before .before .before .before .before .before .before .enum-told) .given .1) .1))))  -- measure-rows-requires
-    (λ c κs. ((c .before .before .before .before .before .before .before .before .before .before .before .before .before .before .before .before .before .before .before .before .before .before .before .before .before .before .before .before .before .before .before .before .before .before .before .before .before .before) .pre .1, omega (arith, (c .before .before .before .before .before .before .before .before .before .before .before .before .before .before .before .before .before .before .before .before .before .before .before .before .before .before .before .before .before .before .before .before .before .before .before .before .before .before) .pre .0 .numbers), omega (arith, (c .before .before .before .before .before .before .before .before .before .before .before .before .before .before .before .before .before .before .before .before .before .before .before .before .before .before .before .before .before .before .before .before .before .before .before .before .before .before) .pre .0 .words), omega (arith, (c .before .before .before .before .before .values) .given, (c .before .before .before .before .before .before .before .before .before .before .before .before .before .before .before .before .before .before .before .before .before .before .before .before .before .before .before .before .before .before .before .before .before .before .before .before .before .before) .pre .0 .values), omega (arith, (c .before .before .before .sizes) .given, (c .before .before .before .before .before .before .before .before .before .before .before .before .before .before .before .before .before .before .before .before .before .before .before .before .before .before .before .before .before .before .before .before .before .before .before .before .before .before) .pre .0 .sizes)))  -- rows-close-requires
-    (λ c. (c .before .before .before .before .before .before .before .before .before .before .before .before .before .before .before .before .before .jacobians) .given)  -- same-length
-    (λ c. (c .before .before .before .before .before .before .before .before .before .before .before .before .before .before .before .links) .given)  -- same-length-2
-    (λ c. (c .before .before .before .before .before .before .before .before .before .before .before .before .before .mass-sizes) .given)  -- same-length-3
-    (λ c. (c .before .before .before .before .before .before .before .before .before .before .before .multiplier-sizes) .given)  -- same-length-4
-    (λ c. (c .before .before .before .before .before .before .before .before .before .impulses) .given)  -- same-length-5
-    (λ c. (c .before .before .before .before .before .before .before .values) .given)  -- same-length-6
-    (λ c. (c .before .before .before .before .before .sizes) .given)  -- same-length-7
-    (λ c. open-is ((c .before .before .before .before .before .before .before .before .before .before .before .before .before .before .before .before .before .before .measure-rows) .ensures) ((c .before .before .before .before .before .before .before .before .before .before .before .before .before .before .before .before .before .before .before .before .before .before .before .before .before .before .before .before .before .before .before .before .before .before .before .before .before .before .before .before) .pre .0 .multipliers) ((c .before .rows-close) .ensures) (passed-judged _ _ ((c .before .before .before .before .before .before .before .before .before .before .before .before .before .before .before .before .before .before .before .before .before .before .before .before .before .before .before .before .judge-table) .ensures) ((c .before .before .before .before .before .before .before .before .before .before .before .before .before .before .before .before .before .before .before .before .before .before .before .before .before .before .enum-told) .given .1) .0) (c .if1 .taken))  -- returns-2
-    (λ c. (c .before .before .before .before .before .before .before .before .before .before .before .before .before .before .before .before .before .jacobians) .given)  -- same-length-8
-    (λ c. (c .before .before .before .before .before .before .before .before .before .before .before .before .before .before .before .links) .given)  -- same-length-9
-    (λ c. (c .before .before .before .before .before .before .before .before .before .before .before .before .before .mass-sizes) .given)  -- same-length-10
-    (λ c. (c .before .before .before .before .before .before .before .before .before .before .before .multiplier-sizes) .given)  -- same-length-11
-    (λ c. (c .before .before .before .before .before .before .before .before .before .impulses) .given)  -- same-length-12
-    (λ c. (c .before .before .before .before .before .before .before .values) .given)  -- same-length-13
-    (λ c. (c .before .before .before .before .before .sizes) .given)  -- same-length-14
-    (λ c. closed-is ((c .before .before .before .before .before .before .before .before .before .before .before .before .before .before .before .before .before .before .measure-rows) .ensures) ((c .before .before .before .before .before .before .before .before .before .before .before .before .before .before .before .before .before .before .before .before .before .before .before .before .before .before .before .before .before .before .before .before .before .before .before .before .before .before .before .before) .pre .0 .multipliers) ((c .before .rows-close) .ensures) (passed-judged _ _ ((c .before .before .before .before .before .before .before .before .before .before .before .before .before .before .before .before .before .before .before .before .before .before .before .before .before .before .before .before .judge-table) .ensures) ((c .before .before .before .before .before .before .before .before .before .before .before .before .before .before .before .before .before .before .before .before .before .before .before .before .before .before .enum-told) .given .1) .0) (c .if1 .left)))  -- returns-3
+    (λ c κs. (room-same ((c .before .before .before .before .before .before .before .before .before .before .before .before .before .before .before .before .before .before .before .before .before) .pre .0 .multipliers) ((c .before .before .before .before .before .before .before .before .before .before .before .before .before .before .before .before .before .before .before .before .before) .pre .0), valid-same ((c .before .before .before .before .before .before .before .before .before .before .before .before .before .before .before .before .before .before .before .before .before) .pre .0 .multipliers) (valid-judged _ _ _ _ _ _ _ ((c .before .before .before .before .before .before .before .before .before .judge-table) .ensures) ((c .before .before .before .before .before .before .before .enum-told) .given .1))))  -- measure-rows-requires
+    (λ c κs. ((c .before .before .before .before .before .before .before .before .before .before .before .before .before .before .before .before .before .before .before .before .before .before .before .before .before .before .before .before .before .before .before .before .before .before .before .before .before .before) .pre .1, omega (arith, (c .before .before .before .before .before .before .before .before .before .before .before .before .before .before .before .before .before .before .before .before .before .before .before .before .before .before .before .before .before .before .before .before .before .before .before .before .before .before) .pre .0 .numbers), omega (arith, (c .before .before .before .sizes) .given, (c .before .before .before .before .before .before .before .before .before .before .before .before .before .before .before .before .before .before .before .before .before .before .before .before .before .before .before .before .before .before .before .before .before .before .before .before .before .before) .pre .0 .sizes), (c .before .before .before .before .before .values) .given ∙ (c .before .before .before .before .before .before .before .before .before .before .before .before .before .before .before .before .before .before .before .before .before .before .before .before .before .before .before .before .before .before .before .before .before .before .before .before .before .before) .pre .0 .values))  -- measure-reaches-requires
+    (λ c κs. (omega (arith, (c .before .before .before .before .before .before .before .before .before .before .before .before .before .before .before .before .before .before .before .before .before .before .before .before .before .before .before .before .before .before .before .before .before .before .before .before .before .before .before .before .before .before) .pre .0 .words), omega (arith, (c .before .before .values2) .given, (c .before .before .before .before .before .before .before .before .before .values) .given, (c .before .before .before .before .before .before .before .before .before .before .before .before .before .before .before .before .before .before .before .before .before .before .before .before .before .before .before .before .before .before .before .before .before .before .before .before .before .before .before .before .before .before) .pre .0 .values)))  -- rows-close-requires
+    (λ c κs. search needs)  -- verdict-requires
+    (λ c. (c .before .before .before .before .before .before .before .before .before .before .before .before .before .before .before .before .before .before .before .before .before .jacobians) .given)  -- same-length
+    (λ c. (c .before .before .before .before .before .before .before .before .before .before .before .before .before .before .before .before .before .before .before .links) .given)  -- same-length-2
+    (λ c. (c .before .before .before .before .before .before .before .before .before .before .before .before .before .before .before .before .before .mass-sizes) .given)  -- same-length-3
+    (λ c. (c .before .before .before .before .before .before .before .before .before .before .before .before .before .before .before .multiplier-sizes) .given)  -- same-length-4
+    (λ c. (c .before .before .before .before .before .before .before .before .before .before .before .before .before .impulses) .given)  -- same-length-5
+    (λ c. (c .before .before .before .before .values2) .given ∙ (c .before .before .before .before .before .before .before .before .before .before .before .values) .given)  -- same-length-6
+    (λ c. (c .before .before .before .before .before .before .before .before .before .sizes) .given)  -- same-length-7
+    (λ c. verdict-is _ ((c .before .before .before .before .before .before .before .before .before .before .before .before .before .before .before .before .before .before .before .before .before .before .measure-rows) .ensures) ((c .before .before .before .before .before .before .before .before .before .before .before .before .before .before .before .before .before .before .before .before .before .before .before .before .before .before .before .before .before .before .before .before .before .before .before .before .before .before .before .before .before .before .before .before) .pre .0 .multipliers) ((c .before .before .before .before .before .measure-reaches) .ensures) ((c .before .rows-close) .ensures) ((c .verdict) .ensures) (passed-judged _ ((c .before .before .before .before .before .before .before .before .before .before .before .before .before .before .before .before .before .before .before .before .before .before .before .before .before .before .before .before .before .before .before .before .judge-table) .ensures) ((c .before .before .before .before .before .before .before .before .before .before .before .before .before .before .before .before .before .before .before .before .before .before .before .before .before .before .before .before .before .before .enum-told) .given .1))))  -- returns-2

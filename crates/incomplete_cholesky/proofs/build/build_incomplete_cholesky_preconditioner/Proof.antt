@@ -1,7 +1,7 @@
 -- `incomplete_cholesky::build::build_incomplete_cholesky_preconditioner` meets its contract. Assumes nothing.
 use native.Mathlib.Omega.{arith}
 use Rattle.loops.proofs.Loop.{loops}
-use Rattle.incomplete_cholesky.proofs.Builds.{build-finished, build-refused, paired-kept}
+use Rattle.incomplete_cholesky.proofs.Builds.{build-finished, build-refused, factor-past, paired-kept}
 use Rattle.incomplete_cholesky.proofs.build.build_incomplete_cholesky_preconditioner.Statement.{statement}
 use Rattle.incomplete_cholesky.proofs.build.build_incomplete_cholesky_preconditioner.Tie as tie
 
@@ -19,7 +19,7 @@ build-incomplete-cholesky-preconditioner-spec =
     (λ c. search known)  -- same-length-2
     (λ c. search known)  -- same-length-3
     (λ c. search known)  -- same-length-4
-    (λ c. search known)  -- returns
+    (λ c. (search known, factor-past _ _ _ _ _ _ _ _ (omega arith) (omega arith) (omega arith)))  -- returns
     (λ c. search known)  -- same-length-5
     (λ c. search known)  -- same-length-6
-    (λ c. search known))  -- returns-2
+    (λ c. (search known, factor-past _ _ _ _ _ _ _ _ (omega arith) (omega arith) (omega arith))))  -- returns-2

@@ -21,10 +21,9 @@ read-job-spec =
     (λ c. search loops)  -- cast-mass-offset
     (λ c κs. rows-inside _ ((c .before .before .before .before .before .before .before .before .before .judge-trailer) .ensures) ((c .before .before .before .before .before .before .before .opened) .given .1))  -- keys-fit-requires
     (λ c. reads-4 _ _ _ _ ((c .before .before .before .before .before .before .before .before .before .before .before .judge-trailer) .ensures) ((c .before .before .before .before .before .before .before .before .before .opened) .given .1) ((c .before .before .before .before .before .before .before .lengths-fit) .ensures) ((c .before .before .before .before .before .before .if1) .left) ((c .before .keys-fit) .ensures) ((c .if2) .taken))  -- returns-3
-    (λ c κs. (rows-inside _ ((c .before .before .before .before .before .before .before .before .before .before .before .before .judge-trailer) .ensures) ((c .before .before .before .before .before .before .before .before .before .before .opened) .given .1), numbers-long _ _ _ _ ((c .before .before .before .before .before .before .before .before .lengths-fit) .ensures) ((c .before .before .before .before .before .before .before .if1) .left)))  -- read-numbers-requires
-    (λ c κs. (rows-inside _ ((c .before .before .before .before .before .before .before .before .before .before .before .before .before .before .before .before .judge-trailer) .ensures) ((c .before .before .before .before .before .before .before .before .before .before .before .before .before .before .opened) .given .1), words-long _ _ _ _ ((c .before .before .before .before .before .before .before .before .before .before .before .before .lengths-fit) .ensures) ((c .before .before .before .before .before .before .before .before .before .before .before .if1) .left)))  -- read-words-requires
-    (λ c κs. (masses-inside _ ((c .before .before .before .before .before .before .before .before .before .before .before .before .before .before .before .before .before .before .before .before .judge-trailer) .ensures) ((c .before .before .before .before .before .before .before .before .before .before .before .before .before .before .before .before .before .before .opened) .given .1), masses-long _ _ _ _ ((c .before .before .before .before .before .before .before .before .before .before .before .before .before .before .before .before .lengths-fit) .ensures) ((c .before .before .before .before .before .before .before .before .before .before .before .before .before .before .before .if1) .left)))  -- read-masses-requires
-    (λ c. (c .before .before .before .before .before .before .before .before .before .numbers) .given)  -- same-length
+    (λ c κs. (rows-inside _ ((c .before .before .before .before .before .before .before .before .before .before .before .before .before .judge-trailer) .ensures) ((c .before .before .before .before .before .before .before .before .before .before .before .opened) .given .1), numbers-long _ _ _ _ ((c .before .before .before .before .before .before .before .before .before .lengths-fit) .ensures) ((c .before .before .before .before .before .before .before .before .if1) .left), words-long _ _ _ _ ((c .before .before .before .before .before .before .before .before .before .lengths-fit) .ensures) ((c .before .before .before .before .before .before .before .before .if1) .left)))  -- read-rows-requires
+    (λ c κs. (masses-inside _ ((c .before .before .before .before .before .before .before .before .before .before .before .before .before .before .before .before .before .before .before .judge-trailer) .ensures) ((c .before .before .before .before .before .before .before .before .before .before .before .before .before .before .before .before .before .opened) .given .1), masses-long _ _ _ _ ((c .before .before .before .before .before .before .before .before .before .before .before .before .before .before .before .lengths-fit) .ensures) ((c .before .before .before .before .before .before .before .before .before .before .before .before .before .before .if1) .left)))  -- read-masses-requires
+    (λ c. (c .before .before .before .before .before .before .before .numbers) .given)  -- same-length
     (λ c. (c .before .before .before .before .before .words) .given)  -- same-length-2
     (λ c. (c .before .masses) .given)  -- same-length-3
-    (λ c. reads-passed _ _ _ _ ((c .before .before .before .before .before .before .before .before .before .before .before .before .before .before .before .before .before .before .before .before .before .before .before .judge-trailer) .ensures) ((c .before .before .before .before .before .before .before .before .before .before .before .before .before .before .before .before .before .before .before .before .before .opened) .given .1) ((c .before .before .before .before .before .before .before .before .before .before .before .before .before .before .before .before .before .before .before .lengths-fit) .ensures) ((c .before .before .before .before .before .before .before .before .before .before .before .before .before .before .before .before .before .before .if1) .left) ((c .before .before .before .before .before .before .before .before .before .before .before .before .before .keys-fit) .ensures) ((c .before .before .before .before .before .before .before .before .before .before .before .before .if2) .left) ((c .before .before .before .before .before .before .before .before .before .before .read-numbers) .ensures) ((c .before .before .before .before .before .before .read-words) .ensures) ((c .before .before .read-masses) .ensures)))  -- returns-4
+    (λ c. reads-passed _ _ _ _ ((c .before .before .before .before .before .before .before .before .before .before .before .before .before .before .before .before .before .before .before .before .before .before .judge-trailer) .ensures) ((c .before .before .before .before .before .before .before .before .before .before .before .before .before .before .before .before .before .before .before .before .opened) .given .1) ((c .before .before .before .before .before .before .before .before .before .before .before .before .before .before .before .before .before .before .lengths-fit) .ensures) ((c .before .before .before .before .before .before .before .before .before .before .before .before .before .before .before .before .before .if1) .left) ((c .before .before .before .before .before .before .before .before .before .before .before .before .keys-fit) .ensures) ((c .before .before .before .before .before .before .before .before .before .before .before .if2) .left) ((c .before .before .before .before .before .before .before .before .read-rows) .ensures .0) ((c .before .before .before .before .before .before .before .before .read-rows) .ensures .1) ((c .before .before .read-masses) .ensures)))  -- returns-4

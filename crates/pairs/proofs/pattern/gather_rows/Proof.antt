@@ -5,7 +5,7 @@ use lib.ListN.{length}
 use native.Mathlib.Omega.{arith}
 use Rattle.loops.proofs.Loop.{loops}
 use Rattle.pairs.proofs.Firsts.{firsts-none}
-use Rattle.pairs.proofs.Parted.{columns-lent-long}
+use Rattle.pairs.proofs.Parted.{columns-lent-long, columns-long}
 use Rattle.pairs.proofs.Parts.{rows-end, rows-full, rows-more, rows-none, rows-within}
 use Rattle.pairs.specs.Gather.{Firsts, Stored, shareIn}
 use Rattle.pairs.specs.Pattern.{startsIn, columnsIn}
@@ -19,7 +19,7 @@ Inv-loop links pattern₀ room firsts₀ n ends p₀ i₀ pattern firsts p i =
 abbrev μ-loop : tie.MeasureT-loop
 μ-loop links pattern₀ room firsts₀ n ends p₀ i₀ pattern firsts p i = n - i
 
-ruleset known = (firsts-none, rows-none, rows-full, rows-end, loops)
+ruleset known = (firsts-none, rows-none, rows-full, rows-end, columns-long, loops)
 
 pub gather-rows-spec : {M : Type 1} → statement M
 gather-rows-spec =

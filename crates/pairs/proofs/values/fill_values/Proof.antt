@@ -3,6 +3,7 @@ use Prim.Native.Nat.{_-_, _≤_}
 use mathlib.Core.Path.{_≡_}
 use lib.ListN.{length}
 use Rattle.loops.proofs.Loop.{loops}
+use Rattle.sparse.proofs.Left.{free}
 use Rattle.pairs.proofs.Places.{valued-end, valued-none}
 use Rattle.pairs.specs.Gather.{Valued, valueIn}
 use Rattle.sparse.specs.Kept.{start}
@@ -27,4 +28,4 @@ fill-values-spec =
     (λ c. search known)  -- loop-less
     (λ c. search known)  -- loop-again
     (λ c. search known)  -- same-length
-    (λ c. search known))  -- returns
+    (λ c. (search known, free (search known))))  -- returns

@@ -35,14 +35,14 @@ iterate-spec =
     (λ c. (c .before .before .before .before .before .before .before .pending) .given ∙ (c .before .before .before .before .before .before .before .before .before .before .before .before .before .before .before .before .before .before .before .loop) .inv .2)  -- same-length-3
     (λ c. (c .before .before .before .before .before .residual) .given ∙ (c .before .before .before .before .before .before .before .before .before .before .before .before .before .before .before .before .before .before .before .loop) .inv .3)  -- same-length-4
     (λ c. (c .before .before .before .direction) .given ∙ (c .before .before .before .before .before .before .before .before .before .before .before .before .before .before .before .before .before .before .before .loop) .inv .4)  -- same-length-5
-    (λ c. loop-met _ _ _ _ _ _ _ ((c .before .before .before .before .before .before .before .before .before .before .before .before .before .before .before .before .before .before .before .loop) .inv .5) ((c .before .before .before .before .before .before .before .before .before .before .before .before .before .before .before .before .before .before .loop-test) .taken) _ _ _ _ ((c .before .before .before .before .before .before .before .before .before .before .before .before .take-step) .ensures) ((c .enum-told) .given .1))  -- returns
+    (λ c. (loop-met _ _ _ _ _ _ _ ((c .before .before .before .before .before .before .before .before .before .before .before .before .before .before .before .before .before .before .before .loop) .inv .5) ((c .before .before .before .before .before .before .before .before .before .before .before .before .before .before .before .before .before .before .loop-test) .taken) _ _ _ _ ((c .before .before .before .before .before .before .before .before .before .before .before .before .take-step) .ensures) ((c .enum-told) .given .1), record { body-impulses-free = record { long = (c .before .before .before .before .before .before .before .before .before .before .before .body-impulses) .given ∙ (c .before .before .before .before .before .before .before .before .before .before .before .before .before .before .before .before .before .before .before .loop) .inv .0 }; product-free = record { long = (c .before .before .before .before .before .before .before .before .before .product) .given ∙ (c .before .before .before .before .before .before .before .before .before .before .before .before .before .before .before .before .before .before .before .loop) .inv .1 }; pending-free = record { long = (c .before .before .before .before .before .before .before .pending) .given ∙ (c .before .before .before .before .before .before .before .before .before .before .before .before .before .before .before .before .before .before .before .loop) .inv .2 }; residual-free = record { long = (c .before .before .before .before .before .residual) .given ∙ (c .before .before .before .before .before .before .before .before .before .before .before .before .before .before .before .before .before .before .before .loop) .inv .3 }; direction-free = record { long = (c .before .before .before .direction) .given ∙ (c .before .before .before .before .before .before .before .before .before .before .before .before .before .before .before .before .before .before .before .loop) .inv .4 } }))  -- returns
     (λ c. search known)  -- enum-known-number
     (λ c. (c .before .before .before .before .before .before .before .before .before .before .before .before .body-impulses) .given ∙ (c .before .before .before .before .before .before .before .before .before .before .before .before .before .before .before .before .before .before .before .before .loop) .inv .0)  -- same-length-6
     (λ c. (c .before .before .before .before .before .before .before .before .before .before .product) .given ∙ (c .before .before .before .before .before .before .before .before .before .before .before .before .before .before .before .before .before .before .before .before .loop) .inv .1)  -- same-length-7
     (λ c. (c .before .before .before .before .before .before .before .before .pending) .given ∙ (c .before .before .before .before .before .before .before .before .before .before .before .before .before .before .before .before .before .before .before .before .loop) .inv .2)  -- same-length-8
     (λ c. (c .before .before .before .before .before .before .residual) .given ∙ (c .before .before .before .before .before .before .before .before .before .before .before .before .before .before .before .before .before .before .before .before .loop) .inv .3)  -- same-length-9
     (λ c. (c .before .before .before .before .direction) .given ∙ (c .before .before .before .before .before .before .before .before .before .before .before .before .before .before .before .before .before .before .before .before .loop) .inv .4)  -- same-length-10
-    (λ c. loop-refused _ _ _ _ _ _ _ ((c .before .before .before .before .before .before .before .before .before .before .before .before .before .before .before .before .before .before .before .before .loop) .inv .5) ((c .before .before .before .before .before .before .before .before .before .before .before .before .before .before .before .before .before .before .before .loop-test) .taken) _ _ _ _ ((c .before .before .before .before .before .before .before .before .before .before .before .before .before .take-step) .ensures) _ ((c .before .number) .given .1))  -- returns-2
+    (λ c. (loop-refused _ _ _ _ _ _ _ ((c .before .before .before .before .before .before .before .before .before .before .before .before .before .before .before .before .before .before .before .before .loop) .inv .5) ((c .before .before .before .before .before .before .before .before .before .before .before .before .before .before .before .before .before .before .before .loop-test) .taken) _ _ _ _ ((c .before .before .before .before .before .before .before .before .before .before .before .before .before .take-step) .ensures) _ ((c .before .number) .given .1), record { body-impulses-free = record { long = (c .before .before .before .before .before .before .before .before .before .before .before .before .body-impulses) .given ∙ (c .before .before .before .before .before .before .before .before .before .before .before .before .before .before .before .before .before .before .before .before .loop) .inv .0 }; product-free = record { long = (c .before .before .before .before .before .before .before .before .before .before .product) .given ∙ (c .before .before .before .before .before .before .before .before .before .before .before .before .before .before .before .before .before .before .before .before .loop) .inv .1 }; pending-free = record { long = (c .before .before .before .before .before .before .before .before .pending) .given ∙ (c .before .before .before .before .before .before .before .before .before .before .before .before .before .before .before .before .before .before .before .before .loop) .inv .2 }; residual-free = record { long = (c .before .before .before .before .before .before .residual) .given ∙ (c .before .before .before .before .before .before .before .before .before .before .before .before .before .before .before .before .before .before .before .before .loop) .inv .3 }; direction-free = record { long = (c .before .before .before .before .direction) .given ∙ (c .before .before .before .before .before .before .before .before .before .before .before .before .before .before .before .before .before .before .before .before .loop) .inv .4 } }))  -- returns-2
     (λ c. record { fits = omega (arith, (c .before .before .before .before .before .before .before .before .before .before .before .before .before .before .before .before .before .before .before .loop-test) .taken, (c .before .before .before .before .before .before .before .before .before .before .before .before .before .before .before .before .before .before .before .before .before .before .before .before .before .before .before .before .before .before .before .before .before .before) .fits .limit) })  -- add-k
     (λ c. search known)  -- loop-less
     (λ c. ((c .before .before .before .before .before .before .before .before .before .before .before .before .body-impulses) .given ∙ (c .before .before .before .before .before .before .before .before .before .before .before .before .before .before .before .before .before .before .before .before .loop) .inv .0, (c .before .before .before .before .before .before .before .before .before .before .product) .given ∙ (c .before .before .before .before .before .before .before .before .before .before .before .before .before .before .before .before .before .before .before .before .loop) .inv .1, (c .before .before .before .before .before .before .before .before .pending) .given ∙ (c .before .before .before .before .before .before .before .before .before .before .before .before .before .before .before .before .before .before .before .before .loop) .inv .2, (c .before .before .before .before .before .before .residual) .given ∙ (c .before .before .before .before .before .before .before .before .before .before .before .before .before .before .before .before .before .before .before .before .loop) .inv .3, (c .before .before .before .before .direction) .given ∙ (c .before .before .before .before .before .before .before .before .before .before .before .before .before .before .before .before .before .before .before .before .loop) .inv .4, loop-on _ _ _ _ _ _ _ ((c .before .before .before .before .before .before .before .before .before .before .before .before .before .before .before .before .before .before .before .before .loop) .inv .5) ((c .before .before .before .before .before .before .before .before .before .before .before .before .before .before .before .before .before .before .before .loop-test) .taken) _ _ _ _ ((c .before .before .before .before .before .before .before .before .before .before .before .before .before .take-step) .ensures) _ ((c .before .next) .given .1)))  -- loop-again
@@ -51,4 +51,4 @@ iterate-spec =
     (λ c. (c .before .loop) .inv .2)  -- same-length-13
     (λ c. (c .before .loop) .inv .3)  -- same-length-14
     (λ c. (c .before .loop) .inv .4)  -- same-length-15
-    (λ c. loop-spent _ _ _ _ _ _ _ _ ((c .before .loop) .inv .5) (omega (arith, (c .loop-test) .left))))  -- returns-3
+    (λ c. (loop-spent _ _ _ _ _ _ _ _ ((c .before .loop) .inv .5) (omega (arith, (c .loop-test) .left)), record { body-impulses-free = record { long = (c .before .loop) .inv .0 }; product-free = record { long = (c .before .loop) .inv .1 }; pending-free = record { long = (c .before .loop) .inv .2 }; residual-free = record { long = (c .before .loop) .inv .3 }; direction-free = record { long = (c .before .loop) .inv .4 } })))  -- returns-3

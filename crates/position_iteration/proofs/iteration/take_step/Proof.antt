@@ -20,14 +20,14 @@ take-step-spec =
     (λ c. search known)  -- same-length-3
     (λ c. search known)  -- same-length-4
     (λ c. search known)  -- same-length-5
-    (λ c. step-refused _ _ _ _ _ _ _ _ (advance-same _ _ _ _ _ _ _ _ ((c .before .before .before .before .before .before .before .before .before .before .before .before .before .before .before .before .before .before .before .before .before .before .before .before .before .before .before .before .before .before) .pre .1 .4) ((c .before .before .before .before .before .before .before .before .before .before .before .advance) .ensures)) _ _ ((c .before .number) .given .1))  -- returns
+    (λ c. step-refused _ _ _ _ _ _ _ _ (advance-same _ _ _ _ _ _ _ _ ((c .before .before .before .before .before .before .before .before .before .before .before .before .before .before .before .before .before .before .before .before .before .before .before .before .before .before .before .before .before .before) .pre .1 .4) ((c .before .before .before .before .before .before .before .before .before .before .before .advance) .ensures .0)) _ _ ((c .before .number) .given .1))  -- returns
     (λ c κs. tolerances-fit _ _ _ _ _ _ _ _ ((c .before .before .before .before .before .before .before .before .before .before .before .before .before .before .before .before .before .before .before .before .before .before .before .before .before .before .before .before .before .before) .pre .0) _ ((c .before .before .before .before .residual) .given ∙ (c .before .before .before .before .before .before .before .before .before .before .before .before .before .before .before .before .before .before .before .before .before .before .before .before .before .before .before .before .before .before) .pre .1 .3))  -- position-vector-converged-requires
     (λ c. search known)  -- same-length-6
     (λ c. search known)  -- same-length-7
     (λ c. search known)  -- same-length-8
     (λ c. search known)  -- same-length-9
     (λ c. search known)  -- same-length-10
-    (λ c. step-met _ _ _ _ _ _ _ _ (advance-same _ _ _ _ _ _ _ _ ((c .before .before .before .before .before .before .before .before .before .before .before .before .before .before .before .before .before .before .before .before .before .before .before .before .before .before .before .before .before .before .before .before) .pre .1 .4) ((c .before .before .before .before .before .before .before .before .before .before .before .before .before .advance) .ensures)) ((c .before .before .before .enum-told) .given .1) _ ((c .before .position-vector-converged) .ensures) ((c .before .before .before .before .before .before .residual) .given ∙ (c .before .before .before .before .before .before .before .before .before .before .before .before .before .before .before .before .before .before .before .before .before .before .before .before .before .before .before .before .before .before .before .before) .pre .1 .3) _ ((c .if1) .taken))  -- returns-2
+    (λ c. step-met _ _ _ _ _ _ _ _ (advance-same _ _ _ _ _ _ _ _ ((c .before .before .before .before .before .before .before .before .before .before .before .before .before .before .before .before .before .before .before .before .before .before .before .before .before .before .before .before .before .before .before .before) .pre .1 .4) ((c .before .before .before .before .before .before .before .before .before .before .before .before .before .advance) .ensures .0)) ((c .before .before .before .enum-told) .given .1) _ ((c .before .position-vector-converged) .ensures) ((c .before .before .before .before .before .before .residual) .given ∙ (c .before .before .before .before .before .before .before .before .before .before .before .before .before .before .before .before .before .before .before .before .before .before .before .before .before .before .before .before .before .before .before .before) .pre .1 .3) _ ((c .if1) .taken))  -- returns-2
     (λ c κs. (ready-fits _ _ _ _ _ _ _ _ ((c .before .before .before .before .before .before .before .before .before .before .before .before .before .before .before .before .before .before .before .before .before .before .before .before .before .before .before .before .before .before .before .before .before .before .before) .pre .0) _ ((c .before .before .before .before .before .before .before .before .before .residual) .given ∙ (c .before .before .before .before .before .before .before .before .before .before .before .before .before .before .before .before .before .before .before .before .before .before .before .before .before .before .before .before .before .before .before .before .before .before .before) .pre .1 .3), ((c .before .before .before .before .before .before .before .before .before .before .before .before .before .product) .given ∙ (c .before .before .before .before .before .before .before .before .before .before .before .before .before .before .before .before .before .before .before .before .before .before .before .before .before .before .before .before .before .before .before .before .before .before .before) .pre .1 .1 ∙ sym ((c .before .before .before .before .before .before .before .before .before .residual) .given ∙ (c .before .before .before .before .before .before .before .before .before .before .before .before .before .before .before .before .before .before .before .before .before .before .before .before .before .before .before .before .before .before .before .before .before .before .before) .pre .1 .3), (c .before .before .before .before .before .before .before .before .before .before .before .before .before .before .before .before .before .before .before .before .before .before .before .before .before .before .before .before .before .before .before .before .before .before .before) .pre .1 .4 ∙ sym ((c .before .before .before .before .before .before .before .before .before .residual) .given ∙ (c .before .before .before .before .before .before .before .before .before .before .before .before .before .before .before .before .before .before .before .before .before .before .before .before .before .before .before .before .before .before .before .before .before .before .before) .pre .1 .3))))  -- renew-requires
     (λ c. search known)  -- enum-known-s
     (λ c. search known)  -- enum-known-number-2
@@ -36,10 +36,10 @@ take-step-spec =
     (λ c. search known)  -- same-length-13
     (λ c. search known)  -- same-length-14
     (λ c. search known)  -- same-length-15
-    (λ c. step-on _ _ _ _ _ _ _ _ (advance-same _ _ _ _ _ _ _ _ ((c .before .before .before .before .before .before .before .before .before .before .before .before .before .before .before .before .before .before .before .before .before .before .before .before .before .before .before .before .before .before .before .before .before .before .before .before .before .before .before .before .before .before .before) .pre .1 .4) ((c .before .before .before .before .before .before .before .before .before .before .before .before .before .before .before .before .before .before .before .before .before .before .before .before .advance) .ensures)) ((c .before .before .before .before .before .before .before .before .before .before .before .before .before .before .enum-told) .given .1) _ ((c .before .before .before .before .before .before .before .before .before .before .before .before .position-vector-converged) .ensures) ((c .before .before .before .before .before .before .before .before .before .before .before .before .before .before .before .before .before .residual) .given ∙ (c .before .before .before .before .before .before .before .before .before .before .before .before .before .before .before .before .before .before .before .before .before .before .before .before .before .before .before .before .before .before .before .before .before .before .before .before .before .before .before .before .before .before .before) .pre .1 .3) ((c .before .before .before .before .before .before .before .before .before .before .before .if1) .left) _ _ (renew-same _ (record { diagonal = (c .before .before .before .before .before .before .before .before .before .before .before .before .before .before .before .before .before .before .before .before .before .before .before .before .before .before .before .before .before .before .before .before .before .before .before .before .before .before .before .before .before .before .before) .args .diagonal .now; pattern = (c .before .before .before .before .before .before .before .before .before .before .before .before .before .before .before .before .before .before .before .before .before .before .before .before .before .before .before .before .before .before .before .before .before .before .before .before .before .before .before .before .before .before .before) .args .pattern .now; order = (c .before .before .before .before .before .before .before .before .before .before .before .before .before .before .before .before .before .before .before .before .before .before .before .before .before .before .before .before .before .before .before .before .before .before .before .before .before .before .before .before .before .before .before) .args .order .now; values = (c .before .before .before .before .before .before .before .before .before .before .before .before .before .before .before .before .before .before .before .before .before .before .before .before .before .before .before .before .before .before .before .before .before .before .before .before .before .before .before .before .before .before .before) .args .values .now }) _ _ _ _ ((c .before .before .before .before .before .before .before .before .before .before .before .before .before .before .before .before .before .residual) .given ∙ (c .before .before .before .before .before .before .before .before .before .before .before .before .before .before .before .before .before .before .before .before .before .before .before .before .before .before .before .before .before .before .before .before .before .before .before .before .before .before .before .before .before .before .before) .pre .1 .3) ((c .before .before .before .before .before .before .before .renew) .ensures)) _ ((c .before .s) .given .1))  -- returns-3
+    (λ c. step-on _ _ _ _ _ _ _ _ (advance-same _ _ _ _ _ _ _ _ ((c .before .before .before .before .before .before .before .before .before .before .before .before .before .before .before .before .before .before .before .before .before .before .before .before .before .before .before .before .before .before .before .before .before .before .before .before .before .before .before .before .before .before .before) .pre .1 .4) ((c .before .before .before .before .before .before .before .before .before .before .before .before .before .before .before .before .before .before .before .before .before .before .before .before .advance) .ensures .0)) ((c .before .before .before .before .before .before .before .before .before .before .before .before .before .before .enum-told) .given .1) _ ((c .before .before .before .before .before .before .before .before .before .before .before .before .position-vector-converged) .ensures) ((c .before .before .before .before .before .before .before .before .before .before .before .before .before .before .before .before .before .residual) .given ∙ (c .before .before .before .before .before .before .before .before .before .before .before .before .before .before .before .before .before .before .before .before .before .before .before .before .before .before .before .before .before .before .before .before .before .before .before .before .before .before .before .before .before .before .before) .pre .1 .3) ((c .before .before .before .before .before .before .before .before .before .before .before .if1) .left) _ _ (renew-same _ (record { diagonal = (c .before .before .before .before .before .before .before .before .before .before .before .before .before .before .before .before .before .before .before .before .before .before .before .before .before .before .before .before .before .before .before .before .before .before .before .before .before .before .before .before .before .before .before) .args .diagonal .now; pattern = (c .before .before .before .before .before .before .before .before .before .before .before .before .before .before .before .before .before .before .before .before .before .before .before .before .before .before .before .before .before .before .before .before .before .before .before .before .before .before .before .before .before .before .before) .args .pattern .now; order = (c .before .before .before .before .before .before .before .before .before .before .before .before .before .before .before .before .before .before .before .before .before .before .before .before .before .before .before .before .before .before .before .before .before .before .before .before .before .before .before .before .before .before .before) .args .order .now; values = (c .before .before .before .before .before .before .before .before .before .before .before .before .before .before .before .before .before .before .before .before .before .before .before .before .before .before .before .before .before .before .before .before .before .before .before .before .before .before .before .before .before .before .before) .args .values .now }) _ _ _ _ ((c .before .before .before .before .before .before .before .before .before .before .before .before .before .before .before .before .before .residual) .given ∙ (c .before .before .before .before .before .before .before .before .before .before .before .before .before .before .before .before .before .before .before .before .before .before .before .before .before .before .before .before .before .before .before .before .before .before .before .before .before .before .before .before .before .before .before) .pre .1 .3) ((c .before .before .before .before .before .before .before .renew) .ensures .0)) _ ((c .before .s) .given .1))  -- returns-3
     (λ c. search known)  -- same-length-16
     (λ c. search known)  -- same-length-17
     (λ c. search known)  -- same-length-18
     (λ c. search known)  -- same-length-19
     (λ c. search known)  -- same-length-20
-    (λ c. step-out _ _ _ _ _ _ _ _ (advance-same _ _ _ _ _ _ _ _ ((c .before .before .before .before .before .before .before .before .before .before .before .before .before .before .before .before .before .before .before .before .before .before .before .before .before .before .before .before .before .before .before .before .before .before .before .before .before .before .before .before .before .before .before) .pre .1 .4) ((c .before .before .before .before .before .before .before .before .before .before .before .before .before .before .before .before .before .before .before .before .before .before .before .before .advance) .ensures)) ((c .before .before .before .before .before .before .before .before .before .before .before .before .before .before .enum-told) .given .1) _ ((c .before .before .before .before .before .before .before .before .before .before .before .before .position-vector-converged) .ensures) ((c .before .before .before .before .before .before .before .before .before .before .before .before .before .before .before .before .before .residual) .given ∙ (c .before .before .before .before .before .before .before .before .before .before .before .before .before .before .before .before .before .before .before .before .before .before .before .before .before .before .before .before .before .before .before .before .before .before .before .before .before .before .before .before .before .before .before) .pre .1 .3) ((c .before .before .before .before .before .before .before .before .before .before .before .if1) .left) _ _ (renew-same _ (record { diagonal = (c .before .before .before .before .before .before .before .before .before .before .before .before .before .before .before .before .before .before .before .before .before .before .before .before .before .before .before .before .before .before .before .before .before .before .before .before .before .before .before .before .before .before .before) .args .diagonal .now; pattern = (c .before .before .before .before .before .before .before .before .before .before .before .before .before .before .before .before .before .before .before .before .before .before .before .before .before .before .before .before .before .before .before .before .before .before .before .before .before .before .before .before .before .before .before) .args .pattern .now; order = (c .before .before .before .before .before .before .before .before .before .before .before .before .before .before .before .before .before .before .before .before .before .before .before .before .before .before .before .before .before .before .before .before .before .before .before .before .before .before .before .before .before .before .before) .args .order .now; values = (c .before .before .before .before .before .before .before .before .before .before .before .before .before .before .before .before .before .before .before .before .before .before .before .before .before .before .before .before .before .before .before .before .before .before .before .before .before .before .before .before .before .before .before) .args .values .now }) _ _ _ _ ((c .before .before .before .before .before .before .before .before .before .before .before .before .before .before .before .before .before .residual) .given ∙ (c .before .before .before .before .before .before .before .before .before .before .before .before .before .before .before .before .before .before .before .before .before .before .before .before .before .before .before .before .before .before .before .before .before .before .before .before .before .before .before .before .before .before .before) .pre .1 .3) ((c .before .before .before .before .before .before .before .renew) .ensures)) _ ((c .before .number2) .given .1)))  -- returns-4
+    (λ c. step-out _ _ _ _ _ _ _ _ (advance-same _ _ _ _ _ _ _ _ ((c .before .before .before .before .before .before .before .before .before .before .before .before .before .before .before .before .before .before .before .before .before .before .before .before .before .before .before .before .before .before .before .before .before .before .before .before .before .before .before .before .before .before .before) .pre .1 .4) ((c .before .before .before .before .before .before .before .before .before .before .before .before .before .before .before .before .before .before .before .before .before .before .before .before .advance) .ensures .0)) ((c .before .before .before .before .before .before .before .before .before .before .before .before .before .before .enum-told) .given .1) _ ((c .before .before .before .before .before .before .before .before .before .before .before .before .position-vector-converged) .ensures) ((c .before .before .before .before .before .before .before .before .before .before .before .before .before .before .before .before .before .residual) .given ∙ (c .before .before .before .before .before .before .before .before .before .before .before .before .before .before .before .before .before .before .before .before .before .before .before .before .before .before .before .before .before .before .before .before .before .before .before .before .before .before .before .before .before .before .before) .pre .1 .3) ((c .before .before .before .before .before .before .before .before .before .before .before .if1) .left) _ _ (renew-same _ (record { diagonal = (c .before .before .before .before .before .before .before .before .before .before .before .before .before .before .before .before .before .before .before .before .before .before .before .before .before .before .before .before .before .before .before .before .before .before .before .before .before .before .before .before .before .before .before) .args .diagonal .now; pattern = (c .before .before .before .before .before .before .before .before .before .before .before .before .before .before .before .before .before .before .before .before .before .before .before .before .before .before .before .before .before .before .before .before .before .before .before .before .before .before .before .before .before .before .before) .args .pattern .now; order = (c .before .before .before .before .before .before .before .before .before .before .before .before .before .before .before .before .before .before .before .before .before .before .before .before .before .before .before .before .before .before .before .before .before .before .before .before .before .before .before .before .before .before .before) .args .order .now; values = (c .before .before .before .before .before .before .before .before .before .before .before .before .before .before .before .before .before .before .before .before .before .before .before .before .before .before .before .before .before .before .before .before .before .before .before .before .before .before .before .before .before .before .before) .args .values .now }) _ _ _ _ ((c .before .before .before .before .before .before .before .before .before .before .before .before .before .before .before .before .before .residual) .given ∙ (c .before .before .before .before .before .before .before .before .before .before .before .before .before .before .before .before .before .before .before .before .before .before .before .before .before .before .before .before .before .before .before .before .before .before .before .before .before .before .before .before .before .before .before) .pre .1 .3) ((c .before .before .before .before .before .before .before .renew) .ensures .0)) _ ((c .before .number2) .given .1)))  -- returns-4

@@ -20,4 +20,4 @@ solve-factor-spec =
     (λ c. search known)  -- part-solve-end
     (λ c κs. (index-lent _ _ _ ((c .before .before .before .before .before .before .before .before .before) .pre .0), (order-lent _ _ _ ((c .before .before .before .before .before .before .before .before .before) .pre .0), (sym (columns-are _ _ _ ((c .before .before .before .before .before .before .before .before .before) .pre .0)), (c .before .before .before .before .before .before .before .before .before) .pre .1))))  -- solve-requires
     (λ c. search known)  -- same-length
-    (λ c. solved-lent _ _ _ _ _ _ ((c .before .before .solve) .ensures)))  -- returns
+    (λ c. solved-lent _ _ _ _ _ _ ((c .before .before .solve) .ensures .0)))  -- returns

@@ -27,7 +27,7 @@ build-preconditioner-spec =
     (λ c. search known)  -- same-length-2
     (λ c. search known)  -- same-length-3
     (λ c. search known)  -- same-length-4
-    (λ c. mode-factor _ _ _ _ _ _ _ ((c .before .before .before .before .before .before .before .before .before .before .before .before .before .before .before .enum-told2) .given .1) ((c .before .before .before .before .before .before .before .before .before .build-incomplete-cholesky-preconditioner) .ensures) ((c .factor-prepared) .ensures))  -- returns-2
+    (λ c. mode-factor _ _ _ _ _ _ _ ((c .before .before .before .before .before .before .before .before .before .before .before .before .before .before .before .enum-told2) .given .1) ((c .before .before .before .before .before .before .before .before .before .build-incomplete-cholesky-preconditioner) .ensures .0) ((c .before .before .before .before .before .before .before .before .before .build-incomplete-cholesky-preconditioner) .ensures .1) ((c .factor-prepared) .ensures))  -- returns-2
     (λ c. search known)  -- same-length-5
     (λ c. search known)  -- same-length-6
     (λ c. mode-blocks ((c .before .before .before .before .before .before .before .before .before .before .before .before .before .before .before .before .before .before .before .before) .args .words .now) _ _ _ _ _ _ _ _ _ _ _ ((c .before .before .before .build-block-jacobi-preconditioner) .result) _ ((c .before .before .before .before .before .before .before .before .before .before .before .before .before .before .before .before .before .before .before .before) .pre .0 .0) (blocks-lent _ _ _ ((c .before .before .before .before .before .before .before .before .before .before .before .before .before .before .before .before .before .before .before .before) .pre .1 .1) ((c .before .before .before .before .before .before .before .before .before .before .enum-told3) .given .1) .0) ((c .before .before .before .before .before .before .before .pattern2) .given ∙ blocks-lent _ _ _ ((c .before .before .before .before .before .before .before .before .before .before .before .before .before .before .before .before .before .before .before .before) .pre .1 .1) ((c .before .before .before .before .before .before .before .before .before .before .enum-told3) .given .1) .0) ((c .before .before .before .before .before .before .before .before .gather-owners) .ensures) ((c .before .before .before .before .before .before .before .before .before .before .enum-told3) .given .1) ((c .before .before .before .build-block-jacobi-preconditioner) .ensures) ((c .blocks-prepared) .ensures)))  -- returns-3

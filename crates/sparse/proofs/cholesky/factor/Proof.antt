@@ -4,9 +4,11 @@ use mathlib.Core.Path.{_≡_}
 use lib.ListN.{length}
 use Rattle.loops.proofs.Loop.{At, loops}
 use Rattle.sparse.proofs.Marks.{most-clear, rows-on, rows-out}
+use Rattle.sparse.proofs.Left.{factor-tells}
 use Rattle.sparse.specs.Cholesky.{factorRun, rowTurn}
 use Rattle.sparse.specs.Kept.{numbers, start}
 use Rattle.sparse.specs.Marks.{AtMost}
+use Rattle.sparse.specs.declared.cholesky.Factored.the-variants.{Done, Refused}
 use Rattle.sparse.proofs.cholesky.factor.Statement.{statement}
 use Rattle.sparse.proofs.cholesky.factor.Tie as tie
 
@@ -31,11 +33,11 @@ factor-spec =
     (λ c. search known)  -- same-length
     (λ c. search known)  -- same-length-2
     (λ c. search known)  -- same-length-3
-    (λ c. search known)  -- returns
+    (λ c. factor-tells Refused _ _ (search known) _ _ _ _ _ (search known) (search known))  -- returns
     (λ c. search known)  -- add-i
     (λ c. search known)  -- loop-less
     (λ c. (search known, search known, search known, search known, search known))  -- loop-again
     (λ c. search known)  -- same-length-4
     (λ c. search known)  -- same-length-5
     (λ c. search known)  -- same-length-6
-    (λ c. search known))  -- returns-2
+    (λ c. factor-tells Done _ _ (search known) _ _ _ _ _ (search known) (search known)))  -- returns-2

@@ -1,10 +1,10 @@
 -- `kapitsa_math::matrix::Mat3::checked_mul_vector` meets its contract. Assumes nothing.
 use borrow.Author.Needs.{needs}
-use Rattle.kapitsa_math.proofs.Checked.{product-checked, product-overflow, product-refused}
+use Rattle.kapitsa_math.proofs.Checked.{product-told, product-checked, product-overflow, product-refused}
 use Rattle.kapitsa_math.proofs.matrix.Mat3.checked_mul_vector.Statement.{statement}
 use Rattle.kapitsa_math.proofs.matrix.Mat3.checked_mul_vector.Tie as tie
 
-ruleset known = (product-checked, product-refused, product-overflow, needs)
+ruleset known = (product-told, product-checked, product-refused, product-overflow, needs)
 
 pub checked-mul-vector-spec : {M : Type 1} → statement M
 checked-mul-vector-spec =

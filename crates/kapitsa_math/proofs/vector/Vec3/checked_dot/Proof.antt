@@ -1,10 +1,10 @@
 -- `kapitsa_math::vector::Vec3::checked_dot` meets its contract. Assumes nothing.
 use borrow.Author.Needs.{needs}
-use Rattle.kapitsa_math.proofs.Checked.{dot-checked, dot-refused}
+use Rattle.kapitsa_math.proofs.Checked.{dot-told, dot-checked, dot-refused}
 use Rattle.kapitsa_math.proofs.vector.Vec3.checked_dot.Statement.{statement}
 use Rattle.kapitsa_math.proofs.vector.Vec3.checked_dot.Tie as tie
 
-ruleset known = (dot-checked, dot-refused, needs)
+ruleset known = (dot-told, dot-checked, dot-refused, needs)
 
 pub checked-dot-spec : {M : Type 1} → statement M
 checked-dot-spec =

@@ -1,0 +1,2 @@
+-- What the refusals tell of a table that they pass.
+pub mod Valid

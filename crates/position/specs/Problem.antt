@@ -1,0 +1,46 @@
+-- What a solve is given, as functions of the row. Positions and velocities (document 02, a) are two values of one record.
+use Prim.Native.Nat.{ℕ}
+use mathlib.Core.Bool.{Bool, false}
+use mathlib.Core.List.{List, []}
+use lib.Ieee.{Float, neg}
+use Rattle.kapitsa_joint.specs.Table.{Table, tableOf, byDimension}
+use Rattle.kapitsa_joint.specs.declared.tolerance.JointTolerance.{JointTolerance}
+use Rattle.joint_refusals.specs.Refusals.{opensOf}
+
+pub record Problem : Type 0 where
+  pub table : Table
+  pub tolerance : ℕ → Float
+  pub start : ℕ → Float  -- the residual that row i starts from
+  pub accumulated : ℕ → Float  -- the number of row i that gains its solution number
+  pub opens : ℕ → Bool  -- row i passes the opening test, refusal 5
+  pub lent : List (ℕ × Bool)  -- what is judged, after 6, of numbers that are lent to this kind of solve alone
+  pub validFirst : Bool  -- every row passes 7 before any is judged by 8 and 9; otherwise 7 to 9 run row by row
+  pub factorFirst : Bool  -- the factor stands before the count 0 test; otherwise after it
+
+-- ---- positions
+-- "Residual starts as −error."
+abbrev pub errorStart : Table → ℕ → Float
+errorStart t i = neg (t .row i .scalars .error)
+
+abbrev pub multipliers : Table → ℕ → Float
+multipliers t i = t .row i .scalars .«accumulated_multiplier»
+
+abbrev pub positionOpens : Table → ℕ → Bool
+positionOpens t i = opensOf (t .row i .scalars) (t .row i .words)
+
+-- document 01: "7 to 9 run row by row", "10 to 17 follow the count 0 test"
+abbrev pub positionProblem : Table → (ℕ → Float) → Problem
+positionProblem t tolerance = record {
+  table = t;
+  tolerance = tolerance;
+  start = errorStart t;
+  accumulated = multipliers t;
+  opens = positionOpens t;
+  lent = [];
+  validFirst = false;
+  factorFirst = false;
+}
+
+-- read out of the lent lists, with the tolerance of each row's dimension
+abbrev pub positionOf : ℕ → ℕ → List Float → List ℕ → List Float → JointTolerance → Problem
+positionOf rows bodies numbers words masses tolerance = let t = tableOf rows bodies numbers words masses in positionProblem t (byDimension tolerance t)

@@ -1,0 +1,104 @@
+-- A solve and a check look only below the counts, and at some numbers of a row not at all. Assumes nothing.
+use Prim.Native.Nat.{ℕ, _<_}
+use mathlib.Core.Path.{_≡_, refl, ap}
+use lib.Ieee.{Float, neg}
+use Rattle.kapitsa_joint.specs.Row.{jacobianOf}
+use Rattle.kapitsa_joint.specs.Table.{Table}
+use Rattle.kapitsa_joint.specs.Tolerance.{dimensionOf, toleranceOf}
+use Rattle.kapitsa_joint.specs.declared.row.ConstraintRow.{ConstraintRow}
+use Rattle.kapitsa_joint.specs.declared.tolerance.JointTolerance.{JointTolerance}
+use Rattle.joint_refusals.specs.Refusals.{wordsFitOf, isValidOf, opensOf}
+use Rattle.preconditioner.specs.declared.mode.Mode.{Mode}
+use Rattle.preconditioner.specs.declared.mode.Mode.the-variants as modes
+use Rattle.position.specs.Problem.{positionProblem}
+use Rattle.position_iteration.specs.Method.{ownerOf}
+use Rattle.check_range.specs.Closing.{closingOf}
+use Rattle.theorems.specs.Below.{RowsAlike, TablesAlike, AgreeBelow, ProblemsAgree, ClosingsAgree, LooksBelow, SameButUnread, TablesButUnread, Depends}
+use Rattle.theorems.proofs.Solves.{solve-below}
+use Rattle.theorems.proofs.Checks.{check-below}
+
+module _ (t u : Table) (a : AgreeBelow t u) where
+  tables-alike : TablesAlike t u
+  tables-alike = record {
+    rows = a .rows;
+    bodies = a .bodies;
+    row = λ i h. record {
+      fit = ap (λ (r : ConstraintRow). wordsFitOf (r .words)) (a .row i h);
+      valid = ap (isValidOf (t .bodies)) (a .row i h);
+      jacobian = ap jacobianOf (a .row i h);
+      dimension = ap (λ (r : ConstraintRow). r .words .dimension) (a .row i h);
+    };
+    mass = a .mass;
+  }
+
+  positions-agree : (mode : Mode) (tolerance other : ℕ → Float) → ((i : ℕ) → i < t .rows → other i ≡ tolerance i) → ProblemsAgree mode (positionProblem t tolerance) (positionProblem u other)
+  positions-agree mode tolerance other e = record {
+    table = tables-alike;
+    owner = λ _ i h. ap (λ (r : ConstraintRow). r .words .owner) (a .row i h);
+    tolerance = e;
+    start = λ i h. ap (λ (r : ConstraintRow). neg (r .scalars .error)) (a .row i h);
+    accumulated = λ i h. ap (λ (r : ConstraintRow). r .scalars .«accumulated_multiplier») (a .row i h);
+    opens = λ i h. ap (λ (r : ConstraintRow). opensOf (r .scalars) (r .words)) (a .row i h);
+    lent = refl;
+    validFirst = refl;
+    factorFirst = refl;
+  }
+
+  closings-agree : (listed other : ℕ → Float) → ((i : ℕ) → i < t .rows → other i ≡ listed i) → (tolerance : JointTolerance) → ClosingsAgree (closingOf t listed tolerance) (closingOf u other tolerance)
+  closings-agree listed other e tolerance = record {
+    table = tables-alike;
+    error = λ i h. ap (λ (r : ConstraintRow). r .scalars .error) (a .row i h);
+    listed = e;
+    tolerance = λ i h. ap (λ (r : ConstraintRow). toleranceOf tolerance (dimensionOf (r .words .dimension))) (a .row i h);
+  }
+
+  pub looks-below : LooksBelow t u
+  looks-below = record {
+    solves = λ tolerance other e fits mode limit. solve-below mode (positionProblem t tolerance) (positionProblem u other) (positions-agree mode tolerance other e) fits limit;
+    checks = λ listed other e fits tolerance. check-below (closingOf t listed tolerance) (closingOf u other tolerance) (closings-agree listed other e tolerance) fits;
+  }
+
+-- ---- the numbers that 4 and 7 alone read
+module _ (bodies : ℕ) (r s : ConstraintRow) (a : SameButUnread bodies r s) where
+  unread-alike : RowsAlike bodies r s
+  unfolding jacobianOf
+  unread-alike = record {
+    fit = a .four;
+    valid = a .seven;
+    jacobian = rw (a .«linear_a», a .«angular_a», a .«linear_b», a .«angular_b», a .«body_a», a .«body_b»);
+    dimension = a .dimension;
+  }
+
+  unread-opens : opensOf (s .scalars) (s .words) ≡ opensOf (r .scalars) (r .words)
+  unfolding opensOf
+  unread-opens = rw (a .«position_enabled», a .compliance, a .damping, a .«force_driven», a .«min_multiplier», a .«max_multiplier»)
+
+pub depends : (t u : Table) → TablesButUnread t u → Depends t u
+depends t u a = record {
+  solves = λ mode owners tolerance fits limit. solve-below mode (positionProblem t tolerance) (positionProblem u tolerance) (problems mode owners tolerance) fits limit;
+  checks = λ listed fits tolerance. check-below (closingOf t listed tolerance) (closingOf u listed tolerance) (closings listed tolerance) fits;
+}
+  where
+    alike : TablesAlike t u
+    alike = record { rows = a .rows; bodies = a .bodies; row = λ i h. unread-alike (t .bodies) (t .row i) (u .row i) (a .row i h); mass = a .mass }
+
+    problems : (mode : Mode) → (mode ≡ modes.BlockJacobi → (i : ℕ) → i < t .rows → ownerOf u i ≡ ownerOf t i) → (tolerance : ℕ → Float) → ProblemsAgree mode (positionProblem t tolerance) (positionProblem u tolerance)
+    problems mode owners tolerance = record {
+      table = alike;
+      owner = owners;
+      tolerance = λ i h. refl;
+      start = λ i h. ap neg (a .row i h .error);
+      accumulated = λ i h. a .row i h .«accumulated_multiplier»;
+      opens = λ i h. unread-opens (t .bodies) (t .row i) (u .row i) (a .row i h);
+      lent = refl;
+      validFirst = refl;
+      factorFirst = refl;
+    }
+
+    closings : (listed : ℕ → Float) (tolerance : JointTolerance) → ClosingsAgree (closingOf t listed tolerance) (closingOf u listed tolerance)
+    closings listed tolerance = record {
+      table = alike;
+      error = λ i h. a .row i h .error;
+      listed = λ i h. refl;
+      tolerance = λ i h. ap (λ (d : ℕ). toleranceOf tolerance (dimensionOf d)) (a .row i h .dimension);
+    }

@@ -1,0 +1,97 @@
+-- What a solve and a check read: nothing beyond the counts, and of a row not every number.
+use Prim.Native.Nat.{ℕ, _<_}
+use mathlib.Core.Bool.{Bool}
+use mathlib.Core.Path.{_≡_}
+use lib.Ieee.{Float}
+use Rattle.kapitsa_joint.specs.Row.{jacobianOf}
+use Rattle.kapitsa_joint.specs.Table.{Table}
+use Rattle.kapitsa_joint.specs.declared.row.ConstraintRow.{ConstraintRow}
+use Rattle.kapitsa_joint.specs.declared.tolerance.JointTolerance.{JointTolerance}
+use Rattle.joint_refusals.specs.Refusals.{wordsFitOf, isValidOf}
+use Rattle.preconditioner.specs.declared.mode.Mode.{Mode}
+use Rattle.preconditioner.specs.declared.mode.Mode.the-variants as modes
+use Rattle.position.specs.Problem.{Problem, positionProblem}
+use Rattle.steps.specs.Solve.{solve}
+use Rattle.position_iteration.specs.Method.{ownerOf, methodOf}
+use Rattle.check_range.specs.Closing.{Closing, closingOf}
+use Rattle.check_answer.specs.Answer.{checkOf}
+
+-- what is read of a row of any problem: by 4 and 7, by the operator and the factors, and for the maxima
+pub record RowsAlike (bodies : ℕ) (r s : ConstraintRow) : Type 0 where
+  pub fit : wordsFitOf (s .words) ≡ wordsFitOf (r .words)
+  pub valid : isValidOf bodies s ≡ isValidOf bodies r
+  pub jacobian : jacobianOf s ≡ jacobianOf r
+  pub dimension : s .words .dimension ≡ r .words .dimension
+
+-- two tables with the same counts, alike below them
+pub record TablesAlike (t u : Table) : Type 0 where
+  pub rows : u .rows ≡ t .rows
+  pub bodies : u .bodies ≡ t .bodies
+  pub row : (i : ℕ) → i < t .rows → RowsAlike (t .bodies) (t .row i) (u .row i)
+  pub mass : (b : ℕ) → b < t .bodies → u .mass b ≡ t .mass b
+
+-- and two problems of one kind, that agree in all else that a row has; mode 2 reads the owners
+pub record ProblemsAgree (mode : Mode) (p q : Problem) : Type 0 where
+  pub table : TablesAlike (p .table) (q .table)
+  pub owner : mode ≡ modes.BlockJacobi → (i : ℕ) → i < p .table .rows → ownerOf (q .table) i ≡ ownerOf (p .table) i
+  pub tolerance : (i : ℕ) → i < p .table .rows → q .tolerance i ≡ p .tolerance i
+  pub start : (i : ℕ) → i < p .table .rows → q .start i ≡ p .start i
+  pub accumulated : (i : ℕ) → i < p .table .rows → q .accumulated i ≡ p .accumulated i
+  pub opens : (i : ℕ) → i < p .table .rows → q .opens i ≡ p .opens i
+  pub lent : q .lent ≡ p .lent
+  pub validFirst : q .validFirst ≡ p .validFirst
+  pub factorFirst : q .factorFirst ≡ p .factorFirst
+
+-- and what two checks are given
+pub record ClosingsAgree (c d : Closing) : Type 0 where
+  pub table : TablesAlike (c .table) (d .table)
+  pub error : (i : ℕ) → i < c .table .rows → d .error i ≡ c .error i
+  pub listed : (i : ℕ) → i < c .table .rows → d .listed i ≡ c .listed i
+  pub tolerance : (i : ℕ) → i < c .table .rows → d .tolerance i ≡ c .tolerance i
+
+-- ---- nothing beyond the counts: two tables with the same counts, that agree below them
+pub record AgreeBelow (t u : Table) : Type 0 where
+  pub rows : u .rows ≡ t .rows
+  pub bodies : u .bodies ≡ t .bodies
+  pub row : (i : ℕ) → i < t .rows → u .row i ≡ t .row i
+  pub mass : (b : ℕ) → b < t .bodies → u .mass b ≡ t .mass b
+
+-- the answers are the same: of a solve refusal or flag, count, step and delivery, bit for bit; of a check refusal or verdict
+pub record LooksBelow (t u : Table) : Type 0 where
+  pub solves : (tolerance other : ℕ → Float) → ((i : ℕ) → i < t .rows → other i ≡ tolerance i) → (fits : Bool) (mode : Mode) (limit : ℕ)
+      → solve (methodOf fits (positionProblem u other) mode) limit ≡ solve (methodOf fits (positionProblem t tolerance) mode) limit
+  pub checks : (listed other : ℕ → Float) → ((i : ℕ) → i < t .rows → other i ≡ listed i) → (fits : Bool) (tolerance : JointTolerance) → checkOf fits (closingOf u other tolerance) ≡ checkOf fits (closingOf t listed tolerance)
+
+-- ---- not every number of a row. Document 01: "The answer depends on key, owner (modes 0 and 1), target_velocity, force_bias, impulse bounds, accumulated impulse, position_angular_a and cached mass only through refusals 4 and 7."
+-- Two rows that may differ in these alone, and that 4 and 7 judge alike
+pub record SameButUnread (bodies : ℕ) (r s : ConstraintRow) : Type 0 where
+  pub «linear_a» : s .«linear_a» ≡ r .«linear_a»
+  pub «angular_a» : s .«angular_a» ≡ r .«angular_a»
+  pub «linear_b» : s .«linear_b» ≡ r .«linear_b»
+  pub «angular_b» : s .«angular_b» ≡ r .«angular_b»
+  pub error : s .scalars .error ≡ r .scalars .error
+  pub compliance : s .scalars .compliance ≡ r .scalars .compliance
+  pub damping : s .scalars .damping ≡ r .scalars .damping
+  pub «min_multiplier» : s .scalars .«min_multiplier» ≡ r .scalars .«min_multiplier»
+  pub «max_multiplier» : s .scalars .«max_multiplier» ≡ r .scalars .«max_multiplier»
+  pub «accumulated_multiplier» : s .scalars .«accumulated_multiplier» ≡ r .scalars .«accumulated_multiplier»
+  pub dimension : s .words .dimension ≡ r .words .dimension
+  pub «body_a» : s .words .«body_a» ≡ r .words .«body_a»
+  pub «body_b» : s .words .«body_b» ≡ r .words .«body_b»
+  pub «force_driven» : s .words .«force_driven» ≡ r .words .«force_driven»
+  pub «position_enabled» : s .words .«position_enabled» ≡ r .words .«position_enabled»
+  pub four : wordsFitOf (s .words) ≡ wordsFitOf (r .words)
+  pub seven : isValidOf bodies s ≡ isValidOf bodies r
+
+-- tables of such rows with the same masses
+pub record TablesButUnread (t u : Table) : Type 0 where
+  pub rows : u .rows ≡ t .rows
+  pub bodies : u .bodies ≡ t .bodies
+  pub row : (i : ℕ) → i < t .rows → SameButUnread (t .bodies) (t .row i) (u .row i)
+  pub mass : (b : ℕ) → b < t .bodies → u .mass b ≡ t .mass b
+
+-- and the answers are the same; where mode 2 solves, the owners are
+pub record Depends (t u : Table) : Type 0 where
+  pub solves : (mode : Mode) → (mode ≡ modes.BlockJacobi → (i : ℕ) → i < t .rows → ownerOf u i ≡ ownerOf t i) → (tolerance : ℕ → Float) (fits : Bool) (limit : ℕ)
+      → solve (methodOf fits (positionProblem u tolerance) mode) limit ≡ solve (methodOf fits (positionProblem t tolerance) mode) limit
+  pub checks : (listed : ℕ → Float) (fits : Bool) (tolerance : JointTolerance) → checkOf fits (closingOf u listed tolerance) ≡ checkOf fits (closingOf t listed tolerance)
