@@ -6,3 +6,4 @@ pub mod Firsts
 pub mod Places
 pub mod Limit
 pub mod Tested
+pub mod EitherOrder

@@ -16,7 +16,7 @@ use borrow.Author.Tests.{lt-ltb, le-ltb, not-true, not-false, ltb-false}
 use Rattle.loops.specs.Run.{check}
 use Rattle.loops.specs.Every.{every}
 use Rattle.loops.specs.Cleared.{clearedWords}
-use Rattle.loops.proofs.Every.{every-iff}
+use Rattle.loops.proofs.Every.{every-iff, every-same}
 use Rattle.kapitsa_math.specs.declared.vector.Vec3.{Vec3}
 use Rattle.kapitsa_joint.specs.Mass.{massOf}
 use Rattle.kapitsa_joint.specs.declared.row.RowJacobian.{RowJacobian}
@@ -29,7 +29,7 @@ use Rattle.sparse.proofs.Rows.{row-of, one-row, seek-found, seek-none, numbers-
 use Rattle.sparse.proofs.Left.{free-past}
 use Rattle.pairs.specs.Pairs.{sharesOf, patternOf, rowPairs, pairCount, pairLimit, pairRoom, armOf, crossAt, sumOf, pairOf, pairsOf, finitePair, finitePairs}
 use Rattle.pairs.specs.Pattern.{startsIn, columnsIn}
-use Rattle.pairs.specs.Gather.{numberOf, valueIn, Valued, sharesIn, shareIn, Stored, Gathering}
+use Rattle.pairs.specs.Gather.{numberOf, valueIn, Valued, finiteBelow, sharesIn, shareIn, Stored, Gathering}
 use Rattle.pairs.specs.Answers.{pairedOf, Collected, PairsHeld, PairsFree}
 use Rattle.pairs.proofs.Parted.{restOf, starts-long, columns-long, starts-lent, columns-lent, starts-cleared, columns-cleared}
 use Rattle.pairs.specs.declared.pattern.Gathered.{Gathered}
@@ -47,6 +47,10 @@ module _ {starts columns : List ℕ} {i a b : ℕ} (row : Row starts columns i a
   pub valued-last : (values : List Float) (p : ℕ) → Valued value starts columns values p → b ≤ p → Valued value starts columns values (start starts (i + 1))
   valued-last values p h l = record { at = λ x q q1 q2 q3. h .at x q q1 q2 (omega (arith, row .to)) }
 
+  -- a row without pairs
+  pub valued-empty : (values : List Float) → Valued value starts columns values (start starts i) → a ≡ b → Valued value starts columns values (start starts (i + 1))
+  valued-empty values h e = valued-last values a (valued-first values h) (omega arith)
+
   pub valued-more : (values values′ : List Float) (p j : ℕ) (v : Float) → Valued value starts columns values p → a ≤ p → p < b → length values ≡ length columns → j ≡ getD columns p 0 → v ≡ value i j
       → values′ ≡ set values p v → Valued value starts columns values′ (p + 1)
   valued-more values values′ p j v h p1 p2 l ej ev e = rw e (record { at = λ x q q1 q2 q3. go x q q1 q2 q3 (ℕ-discrete q p) })
@@ -56,6 +60,36 @@ module _ {starts columns : List ℕ} {i a b : ℕ} (row : Row starts columns i a
           let o : x ≡ i = one-row row x p p1 p2 (omega arith) (omega arith) in
           rw (z, o, ← ej, ← ev) (getD-set-same values p v nan (omega (arith, row .inside)))
       go x q q1 q2 q3 (no z) = getD-set-other values p q v nan z ∙ h .at x q q1 q2 (omega arith)
+
+-- ---- and whether they are finite
+pub fine-none : (starts columns : List ℕ) (values : List Float) → Kept starts columns → true ≡ finiteBelow values (start starts 0)
+unfolding finiteBelow every
+fine-none starts columns values k = rw (k .begin)
+
+pub fine-end : (starts : List ℕ) (values : List Float) (i n : ℕ) (b : Bool) → b ≡ finiteBelow values (start starts i) → i ≤ n → n ≤ i → b ≡ finiteBelow values (start starts n)
+fine-end starts values i n b h l l′ = let e : i ≡ n = omega arith in rw e at h
+
+check-and : (b t : Bool) → (b && t) ≡ check b t false
+unfolding check
+check-and true t = refl
+check-and false t = refl
+
+module _ {starts columns : List ℕ} {i a b : ℕ} (row : Row starts columns i a b) (values : List Float) (f : Bool) where
+  pub fine-first : f ≡ finiteBelow values (start starts i) → f ≡ finiteBelow values a
+  fine-first h = rw (row .from) h
+
+  pub fine-last : (p : ℕ) → f ≡ finiteBelow values p → p ≤ b → b ≤ p → f ≡ finiteBelow values (start starts (i + 1))
+  fine-last p h l l′ = let e : p ≡ b = omega arith in rw (← (row .to), ← e) h
+
+  pub fine-empty : f ≡ finiteBelow values (start starts i) → a ≡ b → f ≡ finiteBelow values (start starts (i + 1))
+  fine-empty h e = fine-last a (fine-first h) (omega arith) (omega arith)
+
+  pub fine-more : (values′ : List Float) (p : ℕ) (v : Float) (t : Bool) → f ≡ finiteBelow values p → p < b → length values ≡ length columns → t ≡ finite v → values′ ≡ set values p v → (f && t) ≡ finiteBelow values′ (p + 1)
+  unfolding finiteBelow every
+  fine-more values′ p v t h l long et e =
+      let below : f ≡ every (λ q. finite (getD (set values p v) q nan)) p = h ∙ every-same _ _ p (λ q lq. ap finite (sym (getD-set-other values p q v nan (λ z. absurd (omega arith))))) in
+      let last : t ≡ finite (getD (set values p v) p nan) = et ∙ ap finite (sym (getD-set-same values p v nan (omega (arith, row .inside)))) in
+      rw (e, add-one p) (check-and f t ∙ rw (← below, ← last) refl)
 
 pub valued-end : (value : ℕ → ℕ → Float) (starts columns : List ℕ) (values : List Float) (i n : ℕ) → Valued value starts columns values (start starts i) → i ≤ n → n ≤ i → Valued value starts columns values (start starts n)
 valued-end value starts columns values i n h l l′ = let e : i ≡ n = omega arith in rw e at h
@@ -167,9 +201,6 @@ module _ (n bodies : ℕ) (jacobians : List Float) (links : List ℕ) (masses : 
   collected : Collected (compactSystem n bodies jacobians links masses) starts columns values
   collected = record { kept = stored-kept h l; pairs = stored-pairs; places = rw pattern-same (h .last ∙ h .counted) }
 
-pub finite-at : (values : List Float) (p : ℕ) (x : Float) (b : Bool) → b ≡ finite x → x ≡ getD values p nan → b ≡ finite (getD values p nan)
-finite-at values p x b e h = rw h at e
-
 -- ---- all places are finite exactly where all pairs are
 same-bool : (b c : Bool) → (b ≡ true → c ≡ true) → (c ≡ true → b ≡ true) → b ≡ c
 same-bool true c f g = sym (f refl)
@@ -185,8 +216,8 @@ module _ (L : Sparse) (starts columns : List ℕ) (values : List Float) (n : ℕ
       go (yes g) ih = (m, omega arith, g, rw (add-one m) h)
       go (no g) ih = let (i, a, b, c) = ih (omega arith) in (i, omega arith, b, c)
 
-  finite-same : every (λ q. finite (getD values q nan)) (start starts n) ≡ finitePairs L n
-  unfolding finitePairs finitePair pick numbers
+  finite-same : finiteBelow values (start starts n) ≡ finitePairs L n
+  unfolding finiteBelow finitePairs finitePair pick numbers
   finite-same = same-bool _ _ there back
     where
       pick-finite : (o : Option ℕ) → ((q : ℕ) → o ≡ some q → finite (getD values q nan) ≡ true) → finitePair (pick values o) ≡ true
@@ -253,6 +284,9 @@ pub valued-lent : (w n : ℕ) → w ≡ n → (value : ℕ → ℕ → Float) (p
     → Valued value (startsIn n pattern) (columnsIn n pattern) values (start (startsIn n pattern) n)
 valued-lent w n ew value pattern values h = rw (starts-lent w n ew pattern, columns-lent w n ew pattern, ew) at h
 
+pub fine-lent : (w n : ℕ) → w ≡ n → (pattern : List ℕ) (values : List Float) (b : Bool) → b ≡ finiteBelow values (start (take (w + 1) pattern) w) → b ≡ finiteBelow values (start (startsIn n pattern) n)
+fine-lent w n ew pattern values b h = rw (starts-lent w n ew pattern, ew) at h
+
 -- ---- the ways through `pairs`; pattern₀ is the pattern at entry
 pub pairs-free : (rows count : ℕ) (pattern₀ pattern : List ℕ) (values₀ values : List Float) → length pattern ≡ length pattern₀ → length values ≡ length values₀ → PairsFree rows count pattern₀ pattern values₀ values
 pairs-free rows count pattern₀ pattern values₀ values a b = record { columns-past = free-past (rows + 1 + count) pattern₀ pattern a; values-past = free-past count values₀ values b }
@@ -284,7 +318,7 @@ module _ (n bodies : ℕ) (jacobians : List Float) (links : List ℕ) (masses : 
   }
 
   module _ (values₀ values : List Float) (c : ℕ) (b : Bool) (t : r ≡ gathered.Done c)
-      (v : Valued (valueIn jacobians links masses) (startsIn n pattern) (columnsIn n pattern) values (start (startsIn n pattern) n)) (eb : b ≡ every (λ q. finite (getD values q nan)) c) where
+      (v : Valued (valueIn jacobians links masses) (startsIn n pattern) (columnsIn n pattern) values (start (startsIn n pattern) n)) (eb : b ≡ finiteBelow values (start (startsIn n pattern) n)) where
     held : Collected (compactSystem n bodies jacobians links masses) (startsIn n pattern) (columnsIn n pattern) values
     held = collected n bodies jacobians links masses (startsIn n pattern) (columnsIn n pattern) values c (g .done c t) (starts-long n pattern (omega arith)) v
 
@@ -293,7 +327,7 @@ module _ (n bodies : ℕ) (jacobians : List Float) (links : List ℕ) (masses : 
 
     judged : b ≡ finitePairs (pairsOf (compactSystem n bodies jacobians links masses)) n
     judged =
-        eb ∙ ap (every (λ q. finite (getD values q nan))) (sym (g .done c t .last))
+        eb
         ∙ finite-same (pairsOf (compactSystem n bodies jacobians links masses)) (startsIn n pattern) (columnsIn n pattern) values n (pairs-kept n pattern room r g pattern₀ same-long long c t) (starts-long n pattern (omega arith)) (held .pairs)
 
     pub pairs-twelve : not b ≡ true → PairsHeld (compactSystem n bodies jacobians links masses) (paired.Refused 12) values₀ (startsIn n pattern) (columnsIn n pattern) values

@@ -6,13 +6,22 @@ use mathlib.Core.List.{List}
 use mathlib.Core.Option.{Option, none, some}
 use lib.Dec.{eqb, ltb}
 use lib.ListN.{getD, set, length}
-use lib.Ieee.{Float, nan}
+use lib.Ieee.{Float, nan, binary64, add, mul}
+use lib.Ieee.Scale.{finite}
+use Rattle.loops.specs.Every.{every}
 use Rattle.loops.specs.Run.{Run, going, ended, check}
 use Rattle.loops.specs.Cleared.{plusZero}
+use Rattle.kapitsa_math.specs.declared.vector.Vec3.{Vec3}
+use Rattle.kapitsa_math.specs.Vector.{dotOf}
+use Rattle.kapitsa_math.specs.Matrix.{mulVectorOf}
 use Rattle.kapitsa_joint.specs.Mass.{massOf}
+use Rattle.kapitsa_joint.specs.declared.row.RowJacobian.{RowJacobian}
+use Rattle.kapitsa_joint.specs.declared.mass.SolverMass.{SolverMass}
 use Rattle.compact_table.specs.Compact.{compactOf}
 use Rattle.sparse.specs.Kept.{start, Rising, Missing}
-use Rattle.pairs.specs.Pairs.{rowPairs, pairCount, pairOf}
+use Rattle.pairs.specs.Pairs.{rowPairs, pairCount, sumOf, pairOf}
+use Rattle.pairs.specs.declared.arms.Arm.{Arm}
+use Rattle.pairs.specs.declared.arms.Arms.{Arms}
 use Rattle.pairs.specs.declared.cross.Crossed.{Crossed}
 use Rattle.pairs.specs.declared.cross.Crossed.the-variants as crossed
 use Rattle.pairs.specs.declared.pattern.Gathered.{Gathered}
@@ -27,6 +36,24 @@ unfoldable pub numberOf : Option Float → Float
 numberOf (some x) = x
 numberOf none = plusZero
 
+-- with what a row acts on a body, the body's response to the angular part formed
+unfoldable pub armAt : (ℕ → SolverMass) → ℕ → Vec3 → Vec3 → Arm
+armAt mass b linear angular = record { body = b; «inverse_mass» = mass b .«inverse_mass»; linear = linear; response = mulVectorOf (mass b .«inverse_inertia») angular }
+
+unfoldable pub armsOf : (ℕ → SolverMass) → RowJacobian → Arms
+armsOf mass q = record { a = armAt mass (q .«body_a») (q .«linear_a») (q .«angular_a»); b = armAt mass (q .«body_b») (q .«linear_b») (q .«angular_b») }
+
+-- the cross of what another row does at that body with the arm
+unfoldable pub metOf : Arm → Vec3 → Vec3 → Float
+metOf m linear angular = add binary64 (mul binary64 (m .«inverse_mass») (dotOf linear (m .linear))) (dotOf angular (m .response))
+
+unfoldable pub metAt : Arms → ℕ → Vec3 → Vec3 → Option Float
+metAt h b linear angular = cond (eqb (h .a .body) b) (some (metOf (h .a) linear angular)) (cond (eqb (h .b .body) b) (some (metOf (h .b) linear angular)) none)
+
+-- the value of the lower row p with the higher row whose arms are h
+unfoldable pub valueWith : Arms → RowJacobian → Float
+valueWith h p = numberOf (sumOf (metAt h (p .«body_a») (p .«linear_a») (p .«angular_a»)) (metAt h (p .«body_b») (p .«linear_b») (p .«angular_b»)))
+
 -- the value of rows i > j in the compact table
 unfoldable pub valueIn : List Float → List ℕ → List Float → ℕ → ℕ → Float
 valueIn jacobians links masses i j = numberOf (pairOf (massOf masses) (compactOf jacobians links j) (compactOf jacobians links i))
@@ -34,6 +61,10 @@ valueIn jacobians links masses i j = numberOf (pairOf (massOf masses) (compactOf
 -- each place below p has the value of its row and column
 pub record Valued (value : ℕ → ℕ → Float) (starts columns : List ℕ) (values : List Float) (p : ℕ) : Type 0 where
   pub at : (x q : ℕ) → start starts x ≤ q → q < start starts (x + 1) → q < p → getD values q nan ≡ value x (getD columns q 0)
+
+-- the values at the first p places are finite
+unfoldable pub finiteBelow : List Float → ℕ → Bool
+finiteBelow values p = every (λ q. finite (getD values q nan)) p
 
 -- ---- pattern
 

@@ -7,12 +7,11 @@ ghost use Rattle.compact_table.specs.Compact.{Linked};
 ghost use Rattle.sparse.specs.Kept.{start, Kept};
 ghost use Rattle.pairs.specs.Pairs.{patternOf, pairCount, pairRoom};
 ghost use Rattle.pairs.specs.Pattern.{startsIn, columnsIn};
-ghost use Rattle.pairs.specs.Gather.{valueIn, Valued};
+ghost use Rattle.pairs.specs.Gather.{valueIn, Valued, finiteBelow};
 ghost use Rattle.pairs.specs.Answers.{PairsHeld, PairsFree};
 use crate::pattern::Gathered;
 use crate::pattern::gather;
 use crate::values::fill_values;
-use crate::values::values_finite;
 use loops::wide;
 
 pub enum Paired {
@@ -20,7 +19,7 @@ pub enum Paired {
     Refused(u32),
 }
 
-// The values of the pairs whose starts and columns are in `pattern`.
+// The values of the pairs whose starts and columns are in `pattern`. Are all finite?
 fn fill(
     jacobians: &[f64],
     links: &[u32],
@@ -29,13 +28,14 @@ fn fill(
     bodies: usize,
     pattern: &[u32],
     values: &mut [f64],
-)
+) -> bool
     requires { ⌜ (12 * rows ≤ length (now jacobians)) × (2 * rows ≤ length (now links)) × (10 * bodies ≤ length (now masses)) ⌝ }
     requires { ⌜ Linked (now links) rows bodies ⌝ }
     requires { ⌜ length (now pattern) ≡ rows + 1 + length (now values) ⌝ }
     requires { ⌜ Kept (startsIn rows (now pattern)) (columnsIn rows (now pattern)) ⌝ }
     ensures { λ _. ⌜ Valued (valueIn (now (jacobians .entry)) (now (links .entry)) (now (masses .entry))) (startsIn rows (now (pattern .entry))) (columnsIn rows (now (pattern .entry))) (now (values .exit))
         (start (startsIn rows (now (pattern .entry))) rows) ⌝ }
+    ensures { λ r. ⌜ r ≡ finiteBelow (now (values .exit)) (start (startsIn rows (now (pattern .entry))) rows) ⌝ }
 {
     let n = wide(rows);
     let ends = n + 1;
@@ -48,7 +48,7 @@ fn fill(
         &pattern[..ends],
         &pattern[ends..],
         values,
-    );
+    )
 }
 
 // Starts and columns of the pairs in `pattern`, and their values. The answer is their number, or refusal 10, with the pattern cleared, or 12.
@@ -74,8 +74,7 @@ pub fn pairs(
         loops::clear_words(pattern);
         return Paired::Refused(10);
     };
-    fill(jacobians, links, masses, rows, bodies, pattern, values);
-    if !values_finite(values, count) {
+    if !fill(jacobians, links, masses, rows, bodies, pattern, values) {
         return Paired::Refused(12);
     }
     Paired::Done(count)

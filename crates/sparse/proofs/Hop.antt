@@ -83,6 +83,12 @@ module _ {S A : Type 0} {f : ℕ → S → Run S A} {s : S} {l : List ℕ} {a b 
   pub hop-end : {p : ℕ} {t : S} → Hops f s l a b n p t → b ≤ p → turns f s n ≡ going t
   hop-end {p} h ge = h .led n (omega arith) (λ q p1 p2. h .row .below q p1 (omega (arith, h .to))) (λ q p1 p2. absurd (omega arith))
 
+-- turns that agree on every index below m
+pub turns-same : {S A : Type 0} (f g : ℕ → S → Run S A) (s : S) (m : ℕ) → ((k : ℕ) → k < m → f k ≡ g k) → turns f s m ≡ turns g s m
+unfolding turns
+turns-same f g s zero e = refl
+turns-same f g s (suc m) e = rw (turns-same f g s m (λ k l. e k (omega arith)), e m (omega arith))
+
 pub counted : {S : Type 0} (f : ℕ → S → S) (s v : S) (n : ℕ) → turns (plain f) s n ≡ going v → v ≡ count f s n
 unfolding turns plain count
 counted f s v n h = let g = as-count n in cc

@@ -1,6 +1,6 @@
 -- The marks of a row, and the ways through the functions that make the factor. Assumes nothing.
 use Prim.Native.Nat.{ℕ, _+_, _-_, _<_, _≤_}
-use mathlib.Core.Path.{_≡_, refl, ap, sym, _∙_}
+use mathlib.Core.Path.{_≡_, refl, ap, sym, _∙_, fun-ext}
 use mathlib.Core.Bool.{Bool, true, false, not, cond}
 use mathlib.Core.List.{List}
 use mathlib.Core.Option.{Option, none, some}
@@ -11,18 +11,21 @@ use lib.ListN.{getD, set, length, length-set}
 use lib.Seq.{getD-set-same, getD-set-other}
 use lib.Ieee.{Float, nan, binary64, sub, mul, div}
 use lib.Ieee.Scale.{finite}
-use borrow.Author.Tests.{lt-ltb, le-ltb}
+use borrow.Author.Tests.{lt-ltb, le-ltb, eq-eqb, ne-eqb}
 use Rattle.loops.specs.Run.{Run, going, ended, on}
-use Rattle.loops.proofs.Loop.{check-pass, check-fail}
+use Rattle.loops.proofs.Loop.{check-pass, check-fail, on-going, on-ended}
 use Rattle.binary64.specs.Answer.{rootOf}
-use Rattle.sparse.specs.Triangle.{Sparse}
-use Rattle.sparse.specs.Cholesky.{less, lessTurn, reducedOf, quotientOf, factored, columnOf, columnTurn, factorsRun, squaresOf, fit, rootValue, Factor, pivotOf, rowTurn}
+use Rattle.sparse.specs.Triangle.{Sparse, put}
+use Rattle.sparse.specs.Count.{count}
+use Rattle.sparse.specs.Cholesky.{less, lessTurn, reducedOf, quotientOf, factored, columnOf, columnTurn, factorsRun, squaresOf, reducedRun, fit, rootValue, Factor, pivotOf, rowTurn}
 use Rattle.sparse.specs.Kept.{Rising, start, Row, numbers}
 use Rattle.sparse.specs.Marks.{AtMost, Marked, lessAt}
-use Rattle.sparse.specs.Answers.{columnOut, factorOut}
+use Rattle.sparse.specs.Answers.{columnOut, reducedOut, factorOut}
 use Rattle.sparse.specs.declared.cholesky.Factored.{Factored}
 use Rattle.sparse.specs.declared.cholesky.Factored.the-variants.{Done, Refused}
-use Rattle.sparse.proofs.Hop.{plain, Skips, rising-le}
+use Rattle.sparse.specs.declared.cholesky.Remainder.{Remainder}
+use Rattle.sparse.specs.declared.cholesky.Remainder.the-variants as remainders
+use Rattle.sparse.proofs.Hop.{plain, Skips, Hops, rising-le, hop-more, turns-same}
 use Rattle.sparse.proofs.Rows.{numbers-some, numbers-none, numbers-set}
 
 pub marked-none : (columns marks : List ℕ) (a : ℕ) → AtMost marks a → Marked columns a a marks
@@ -109,6 +112,34 @@ module _ {starts columns : List ℕ} {i a b : ℕ} (row : Row starts columns i a
   unfolding plain lessTurn less
   squares-way values p v x p1 p2 e = rw (numbers-some row values p p1 p2, e)
 
+  -- a number written at p changes nothing in the columns before
+  kept-before : (values : List Float) (p : ℕ) (x : Float) → a ≤ p → p < b → length values ≡ length columns → (k : ℕ) → k < getD columns p 0
+      → numbers starts columns (set values p x) i k ≡ numbers starts columns values i k
+  unfolding put
+  kept-before values p x p1 p2 l k h =
+      rw (numbers-set row values p x p1 p2 (omega (arith, row .inside)), ne-eqb k (getD columns p 0) (λ e. omega arith), eq-eqb i i refl)
+
+  same-before : (values values′ : List Float) (p : ℕ) → a ≤ p → p < b → length values ≡ length columns → values′ ≡ set values p (getD values′ p nan) → (k : ℕ) → k < getD columns p 0
+      → plain (lessTurn (numbers starts columns values′) i i) k ≡ plain (lessTurn (numbers starts columns values) i i) k
+  unfolding plain lessTurn
+  same-before values values′ p p1 p2 l e k lk =
+      let w : numbers starts columns values′ i k ≡ numbers starts columns values i k = ap (λ (v : List Float). numbers starts columns v i k) e ∙ kept-before values p (getD values′ p nan) p1 p2 l k lk in
+      fun-ext (λ v. rw w)
+
+  -- the factor at p is written, and its square subtracted
+  pub squares-more : (values values′ : List Float) (d v x : Float) (p : ℕ) → Hops (plain (lessTurn (numbers starts columns values) i i)) d columns a b i p v → p < b
+      → length values ≡ length columns → values′ ≡ set values p (getD values′ p nan) → x ≡ getD values′ p nan
+      → Hops (plain (lessTurn (numbers starts columns values′) i i)) d columns a b i (p + 1) (sub binary64 v (mul binary64 x x))
+  squares-more values values′ d v x p h l long e ex =
+      hop-more
+      (record {
+        from = h .from;
+        to = h .to;
+        row = h .row;
+        led = λ m le before after. turns-same _ _ d m (λ k lk. same-before values values′ p (h .from) l long e k (omega (arith, after p (omega arith) l))) ∙ h .led m le before after;
+      })
+      l (squares-way values′ p v x (h .from) l ex) (less-skip values′ i (sub binary64 v (mul binary64 x x)))
+
 -- a turn of `reduced`: row i is marked up to the place p of column j, and row j has the column at q
 module _ (starts columns : List ℕ) (values : List Float) (marks : List ℕ) (i a b j c d p q : ℕ) (v r : Float) where
   pub less-way : Row starts columns i a b → Row starts columns j c d → Marked columns a p marks → length starts ≡ length marks + 1 → a ≤ p → p < b
@@ -184,6 +215,11 @@ module _ {starts columns : List ℕ} {i a b : ℕ} (row : Row starts columns i a
         rw (numbers-some row values p p1 p2, ← eu, ew, numbers-set row values p (div binary64 v (getD pivots j nan)) p1 p2 (omega (arith, row .inside)), ← ej, ← ev)
         (check-fail _ _ _ et h refl)
 
+-- what `factor_at` writes, read back
+pub written-there : {starts columns : List ℕ} {i a b : ℕ} → Row starts columns i a b → (values values′ : List Float) (p : ℕ) (x : Float) → a ≤ p → p < b → length values ≡ length columns
+    → values′ ≡ set values p x → values′ ≡ set values p (getD values′ p nan)
+written-there row values values′ p x p1 p2 l e = let h : getD values′ p nan ≡ x = rw e (getD-set-same values p x nan (omega (arith, row .inside))) in rw h e
+
 -- the ways through a turn of `factor_row`
 module _ {f : Run Sparse Sparse} (r : Factored) (L : Sparse) (called : f ≡ columnOut r L) where
   pub turn-on : r ≡ Done → f ≡ going L
@@ -192,20 +228,40 @@ module _ {f : Run Sparse Sparse} (r : Factored) (L : Sparse) (called : f ≡ col
   pub turn-out : r ≡ Refused → f ≡ ended L
   turn-out told = called ∙ rw told
 
--- the ways through `row_at`
-module _ (pivots : List Float) (i : ℕ) (L L′ : Sparse) (r : Factored) (called : factorsRun pivots i L ≡ columnOut r L′) where
-  pub row-refused : r ≡ Refused → rowTurn i (L, pivots) ≡ ended (L′, pivots)
-  unfolding rowTurn on
-  row-refused told = rw (called, told)
+-- the ways through `factor_row`
+module _ (pivots : List Float) (i : ℕ) (L L′ : Sparse) where
+  pub reduced-out : factorsRun pivots i L ≡ ended L′ → reducedRun pivots i L ≡ ended L′
+  unfolding reducedRun
+  reduced-out e = rw e (on-ended _ _ _ refl)
 
-  module _ (x : Float) (t : Bool) (told : r ≡ Done) (ex : x ≡ squaresOf L′ i (getD pivots i nan)) (et : t ≡ fit x) where
+  pub reduced-end : (x : Float) → factorsRun pivots i L ≡ going L′ → x ≡ count (lessTurn L′ i i) (getD pivots i nan) i → reducedRun pivots i L ≡ going (L′, x)
+  unfolding reducedRun squaresOf reducedOf
+  reduced-end x e h = rw (e, h) (on-going _ _ _ refl)
+
+-- the ways through `row_at`
+row-reduced : (pivots : List Float) (i : ℕ) (L : Sparse) → rowTurn i (L, pivots) ≡ on (reducedRun pivots i L) (λ s. pivotOf pivots i (s .0) (s .1)) (λ M. ended (M, pivots))
+unfolding rowTurn reducedRun on
+row-reduced pivots i L = go (factorsRun pivots i L)
+  where
+    go : (r : Run Sparse Sparse)
+        → on r (λ M. pivotOf pivots i M (squaresOf M i (getD pivots i nan))) (λ M. ended (M, pivots))
+        ≡ on {S = Sparse × Float} (on r (λ M. going (M, squaresOf M i (getD pivots i nan))) ended) (λ s. pivotOf pivots i (s .0) (s .1)) (λ M. ended (M, pivots))
+    go (going M) = refl
+    go (ended M) = refl
+
+module _ (pivots : List Float) (i : ℕ) (L L′ : Sparse) (r : Remainder) (called : reducedRun pivots i L ≡ reducedOut r L′) where
+  pub row-refused : r ≡ remainders.Refused → rowTurn i (L, pivots) ≡ ended (L′, pivots)
+  unfolding on
+  row-refused told = row-reduced pivots i L ∙ rw (called, told)
+
+  module _ (x : Float) (t : Bool) (told : r ≡ remainders.Rest x) (et : t ≡ fit x) where
     pub row-unfit : not t ≡ true → rowTurn i (L, pivots) ≡ ended (L′, pivots)
-    unfolding rowTurn on pivotOf
-    row-unfit h = rw (called, told, ← ex) (check-fail _ _ _ et h refl)
+    unfolding on pivotOf
+    row-unfit h = row-reduced pivots i L ∙ rw (called, told) (check-fail _ _ _ et h refl)
 
     pub row-on : (y : Float) → not t ≡ false → y ≡ rootValue (rootOf x) → rowTurn i (L, pivots) ≡ going (L′, set pivots i y)
-    unfolding rowTurn on pivotOf
-    row-on y h ey = rw (called, told, ← ex, ← ey) (check-pass _ _ _ et h refl)
+    unfolding on pivotOf
+    row-on y h ey = row-reduced pivots i L ∙ rw (called, told, ← ey) (check-pass _ _ _ et h refl)
 
 -- the ways through a turn of `factor`
 module _ {f : Run Factor Factor} (r : Factored) (L : Sparse) (pivots : List Float) (called : f ≡ factorOut r L pivots) where

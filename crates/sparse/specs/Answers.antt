@@ -9,10 +9,16 @@ use Rattle.sparse.specs.Triangle.{Sparse}
 use Rattle.sparse.specs.Cholesky.{Factor}
 use Rattle.sparse.specs.declared.cholesky.Factored.{Factored}
 use Rattle.sparse.specs.declared.cholesky.Factored.the-variants as factors
+use Rattle.sparse.specs.declared.cholesky.Remainder.{Remainder}
+use Rattle.sparse.specs.declared.cholesky.Remainder.the-variants as remainders
 
 abbrev pub columnOut : Factored → Sparse → Run Sparse Sparse
 columnOut factors.Done L = going L
 columnOut factors.Refused L = ended L
+
+abbrev pub reducedOut : Remainder → Sparse → Run (Sparse × Float) Sparse
+reducedOut (remainders.Rest x) L = going (L, x)
+reducedOut remainders.Refused L = ended L
 
 abbrev pub factorOut : Factored → Sparse → List Float → Run Factor Factor
 factorOut factors.Done L pivots = going (L, pivots)

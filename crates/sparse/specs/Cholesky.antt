@@ -57,6 +57,10 @@ factorsRun pivots i L = turns (columnTurn pivots i) L i
 unfoldable pub squaresOf : Sparse → ℕ → Float → Float
 squaresOf L i d = reducedOf L i i d
 
+-- both in one: the factors of row i, and what they leave of its diagonal
+unfoldable pub reducedRun : List Float → ℕ → Sparse → Run (Sparse × Float) Sparse
+reducedRun pivots i L = on (factorsRun pivots i L) (λ M. going (M, squaresOf M i (getD pivots i nan))) ended
+
 -- refusal 13: "A pivot is not finite or at most MIN"
 unfoldable pub fit : Float → Bool
 fit x = finite x && not (le x minPositive)

@@ -1,13 +1,14 @@
 // Incomplete Cholesky on a pattern: the second half of build_incomplete_cholesky_preconditioner_into of pcg.rs.
 ghost use mathlib.Core.Path.{_≡_};
 ghost use Prim.Native.Nat.{_+_, _<_, _≤_};
-ghost use lib.ListN.{length, getD};
+ghost use lib.ListN.{length, getD, set};
+ghost use lib.Ieee.{nan};
 ghost use mathlib.Core.Bool.{true};
 ghost use Rattle.binary64.specs.Answer.{rootOf};
-ghost use Rattle.sparse.specs.Cholesky.{reducedOf, squaresOf, fit, rootValue, columnTurn, factorsRun, rowTurn, factorRun, orThirteen};
+ghost use Rattle.sparse.specs.Cholesky.{reducedOf, fit, rootValue, columnTurn, reducedRun, rowTurn, factorRun, orThirteen};
 ghost use Rattle.sparse.specs.Kept.{start, Kept, Row, numbers};
 ghost use Rattle.sparse.specs.Marks.{AtMost, Marked, lessAt};
-ghost use Rattle.sparse.specs.Answers.{columnOut, factorOut, factoredOut, FactorFree};
+ghost use Rattle.sparse.specs.Answers.{columnOut, reducedOut, factorOut, factoredOut, FactorFree};
 use crate::places::column;
 use crate::places::earlier;
 use crate::places::number;
@@ -17,6 +18,12 @@ use binary64::RootAnswer;
 
 pub enum Factored {
     Done,
+    Refused,
+}
+
+// Of a row whose factors are made: its diagonal less each squared factor.
+pub enum Remainder {
+    Rest(f64),
     Refused,
 }
 
@@ -117,6 +124,7 @@ fn factor_at(
         (numbers (now (starts .entry)) (now (columns .entry)) (now (values .entry)))
         ≡ columnOut r (numbers (now (starts .entry)) (now (columns .entry)) (now (values .exit))) ⌝ }
     ensures { λ r. ⌜ Marked (now (columns .entry)) first (p + 1) (now (marks .exit)) ⌝ }
+    ensures { λ r. ⌜ now (values .exit) ≡ set (now (values .entry)) p (getD (now (values .exit)) p nan) ⌝ }
 {
     let j = earlier(columns, i, first, end, p);
     let value = number(values, p);
@@ -129,7 +137,7 @@ fn factor_at(
     Factored::Done
 }
 
-// the factors of row `i`
+// The factors of row `i`, and its diagonal less their squares: each is subtracted when it is made.
 fn factor_row(
     starts: &[u32],
     columns: &[u32],
@@ -137,20 +145,21 @@ fn factor_row(
     pivots: &[f64],
     marks: &mut [u32],
     i: usize,
-) -> Factored
+) -> Remainder
     requires { ⌜ Kept (now starts) (now columns) ⌝ }
     requires { ⌜ length (now values) ≡ length (now columns) ⌝ }
     requires { ⌜ length (now starts) ≡ length (now marks) + 1 ⌝ }
     requires { ⌜ length (now pivots) ≡ length (now marks) ⌝ }
     requires { ⌜ i < length (now marks) ⌝ }
     requires { ⌜ AtMost (now marks) (start (now starts) i) ⌝ }
-    ensures { λ r. ⌜ factorsRun (now (pivots .entry)) i (numbers (now (starts .entry)) (now (columns .entry)) (now (values .entry)))
-        ≡ columnOut r (numbers (now (starts .entry)) (now (columns .entry)) (now (values .exit))) ⌝ }
+    ensures { λ r. ⌜ reducedRun (now (pivots .entry)) i (numbers (now (starts .entry)) (now (columns .entry)) (now (values .entry)))
+        ≡ reducedOut r (numbers (now (starts .entry)) (now (columns .entry)) (now (values .exit))) ⌝ }
     ensures { λ r. ⌜ AtMost (now (marks .exit)) (start (now (starts .entry)) (i + 1)) ⌝ }
 {
     let row = row(starts, columns, i);
     let first = row.first;
     let end = row.end;
+    let mut rest = pivots[i];
     let mut p = first;
     while p < end {
         let mark = p + 1;
@@ -166,30 +175,13 @@ fn factor_row(
             p,
             mark,
         ) else {
-            return Factored::Refused;
+            return Remainder::Refused;
         };
-        p = mark;
-    }
-    Factored::Done
-}
-
-// `value` less each squared factor of row `i`
-fn squares(value: f64, starts: &[u32], columns: &[u32], values: &[f64], i: usize) -> f64
-    requires { ⌜ Kept (now starts) (now columns) ⌝ }
-    requires { ⌜ length (now values) ≡ length (now columns) ⌝ }
-    requires { ⌜ i + 1 < length (now starts) ⌝ }
-    ensures { λ r. ⌜ r ≡ squaresOf (numbers (now (starts .entry)) (now (columns .entry)) (now (values .entry))) i value ⌝ }
-{
-    let row = row(starts, columns, i);
-    let end = row.end;
-    let mut rest = value;
-    let mut p = row.first;
-    while p < end {
         let factor = number(values, p);
         rest = rest - factor * factor;
-        p += 1;
+        p = mark;
     }
-    rest
+    Remainder::Rest(rest)
 }
 
 // row `i`: its diagonal stands in `pivots[i]`, and its pivot takes that place
@@ -211,10 +203,9 @@ fn row_at(
         ≡ factorOut r (numbers (now (starts .entry)) (now (columns .entry)) (now (values .exit))) (now (pivots .exit)) ⌝ }
     ensures { λ r. ⌜ AtMost (now (marks .exit)) (start (now (starts .entry)) (i + 1)) ⌝ }
 {
-    let Factored::Done = factor_row(starts, columns, values, pivots, marks, i) else {
+    let Remainder::Rest(rest) = factor_row(starts, columns, values, pivots, marks, i) else {
         return Factored::Refused;
     };
-    let rest = squares(pivots[i], starts, columns, values, i);
     if !is_fit(rest) {
         return Factored::Refused;
     }

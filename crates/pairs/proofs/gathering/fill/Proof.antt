@@ -4,7 +4,7 @@ use native.Mathlib.Omega.{arith}
 use borrow.Author.Needs.{needs}
 use Rattle.compact_table.proofs.Linked.{linked-same}
 use Rattle.pairs.proofs.Parted.{columns-lent-long, front-count, kept-lent}
-use Rattle.pairs.proofs.Places.{valued-lent}
+use Rattle.pairs.proofs.Places.{fine-lent, valued-lent}
 use Rattle.pairs.proofs.gathering.fill.Statement.{statement}
 use Rattle.pairs.proofs.gathering.fill.Tie as tie
 
@@ -21,4 +21,4 @@ fill-spec =
     (λ c. search needs)  -- part-fill-values-end
     (λ c κs. ((omega arith, omega arith, omega arith), (search (linked-same, needs), ((sym (front-count _ _ (omega arith)), search (columns-lent-long, needs)), search (kept-lent, needs)))))  -- fill-values-requires
     (λ c. search needs)  -- same-length
-    (λ c. search (valued-lent, needs)))  -- returns
+    (λ c. (search (valued-lent, needs), search (fine-lent, needs))))  -- returns

@@ -1,7 +1,7 @@
 -- `pairs::gathering::pairs` meets its contract. Assumes nothing.
 use native.Mathlib.Omega.{arith}
 use Rattle.loops.proofs.Loop.{loops}
-use Rattle.pairs.proofs.Places.{pairs-done, pairs-free, pairs-kept, pairs-room, pairs-ten, pairs-twelve}
+use Rattle.pairs.proofs.Places.{pairs-done, pairs-free, pairs-kept, pairs-ten, pairs-twelve}
 use Rattle.pairs.proofs.gathering.pairs.Statement.{statement}
 use Rattle.pairs.proofs.gathering.pairs.Tie as tie
 
@@ -18,7 +18,6 @@ pairs-spec =
     (λ c. search loops)  -- same-length
     (λ c. (search known, pairs-free _ _ _ _ _ _ (omega arith) (omega arith)))  -- returns
     (λ c κs. (search known, (search known, (omega arith, search known))))  -- fill-requires
-    (λ c κs. omega (arith, pairs-room _ _ _ _ ((c .before .before .before .before .before .before .before .before .before .before .before .gather) .ensures .0) ((c .before .before .before .before .before .before .before .before .before .before .before .before .before .before .before .before .before .before) .args .pattern .now) (omega arith) (omega arith) _ ((c .before .before .before .before .before .before .before .count) .given .1)))  -- values-finite-requires
     (λ c. search loops)  -- same-length-2
     (λ c. search loops)  -- same-length-3
     (λ c. (search known, pairs-free _ _ _ _ _ _ (omega arith) (omega arith)))  -- returns-2

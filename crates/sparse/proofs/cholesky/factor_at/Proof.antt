@@ -1,6 +1,6 @@
 -- `sparse::cholesky::factor_at` meets its contract. Assumes nothing.
 use Rattle.loops.proofs.Loop.{loops}
-use Rattle.sparse.proofs.Marks.{column-on, column-out, row-marks}
+use Rattle.sparse.proofs.Marks.{column-on, column-out, row-marks, written-there}
 use Rattle.sparse.proofs.cholesky.factor_at.Statement.{statement}
 use Rattle.sparse.proofs.cholesky.factor_at.Tie as tie
 
@@ -21,7 +21,7 @@ factor-at-spec =
     (λ c κs. search known)  -- is-finite-requires
     (λ c. search known)  -- same-length
     (λ c. search known)  -- same-length-2
-    (λ c. let pre = c .before .before .before .before .before .before .before .before .before .before .before .before .before .before .before .before .before .before .pre in (search (known, pre), search (known, pre)))  -- returns
+    (λ c. let pre = c .before .before .before .before .before .before .before .before .before .before .before .before .before .before .before .before .before .before .pre in (search (known, pre), (search (known, pre), search (written-there, loops, pre))))  -- returns
     (λ c. search known)  -- same-length-3
     (λ c. search known)  -- same-length-4
-    (λ c. let pre = c .before .before .before .before .before .before .before .before .before .before .before .before .before .before .before .before .before .before .pre in (search (known, pre), search (known, pre))))  -- returns-2
+    (λ c. let pre = c .before .before .before .before .before .before .before .before .before .before .before .before .before .before .before .before .before .before .pre in (search (known, pre), (search (known, pre), search (written-there, loops, pre)))))  -- returns-2

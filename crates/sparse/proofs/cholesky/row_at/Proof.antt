@@ -12,15 +12,12 @@ row-at-spec =
     tie.close
     (tie.spec
     (λ c κs. (search known, (search known, (search known, (search known, (search known, search known))))))  -- factor-row-requires
+    (λ c. search known)  -- enum-known-rest
     (λ c. search known)  -- enum-told
-    (λ c. search known)  -- enum-told-2
     (λ c. search known)  -- same-length
     (λ c. search known)  -- same-length-2
     (λ c. search known)  -- same-length-3
     (λ c. (search known, search known))  -- returns
-    (λ c. search known)  -- mul-squares
-    (λ c. search known)  -- shared-slice-read-squares
-    (λ c κs. (search known, (search known, search known)))  -- squares-requires
     (λ c κs. search known)  -- is-fit-requires
     (λ c. search known)  -- same-length-4
     (λ c. search known)  -- same-length-5
@@ -32,4 +29,4 @@ row-at-spec =
     (λ c. search known)  -- same-length-7
     (λ c. search known)  -- same-length-8
     (λ c. search known)  -- same-length-9
-    (λ c. (row-on _ _ _ _ _ ((c .before .before .before .before .before .before .before .before .before .before .before .before .factor-row) .ensures .0) _ _ ((c .before .before .before .before .before .before .enum-told) .given .1) ((c .before .before .before .squares) .ensures) ((c .before .before .is-fit) .ensures) _ ((c .before .if1) .left) ((c .pivot-root) .ensures), (c .before .before .before .before .before .before .before .before .before .before .before .before .factor-row) .ensures .1)))  -- returns-3
+    (λ c. (row-on _ _ _ _ _ ((c .before .before .before .before .before .before .before .before .before .before .factor-row) .ensures .0) _ _ ((c .before .before .before .before .rest) .given .1) ((c .before .before .is-fit) .ensures) _ ((c .before .if1) .left) ((c .pivot-root) .ensures), (c .before .before .before .before .before .before .before .before .before .before .factor-row) .ensures .1)))  -- returns-3
