@@ -1,9 +1,12 @@
 //! Writes the recorded list of `crates/binary64_recorded` to standard output: what Rust's own f64 functions give, as bits.
+//! With two words, `PROGRAM COUNT`, it lends that program, `target/bin/binary64_recorded`, lists of random patterns instead until there
+//! were COUNT of them, and tells how many differ; a differing list ends it with status 1.
 //!
 //! A record is five little-endian words of 64 bits: the bits of x; the bits of x.sqrt(), or all ones where x is a NaN or
 //! negative (refusal 19); the bits of x.abs(); 1 where x is a NaN and 2 where it is finite; and the bits of x.max(y) with y the x of
 //! the next record (of the first, after the last). A NaN's bits are written as 7ff8000000000000.
 use std::io::Write;
+use std::process::{Command, Stdio};
 
 const RECORDS: usize = 4800;
 const REFUSED: u64 = u64::MAX;
@@ -80,8 +83,7 @@ fn record(x: f64, y: f64) -> [u64; 5] {
     [x.to_bits(), root, bits(x.abs()), class, bits(x.max(y))]
 }
 
-fn main() {
-    let list = inputs();
+fn listed(list: &[u64]) -> Vec<u8> {
     let mut out = Vec::new();
     for (index, &input) in list.iter().enumerate() {
         let next = list[(index + 1) % list.len()];
@@ -89,5 +91,37 @@ fn main() {
             out.extend(word.to_le_bytes());
         }
     }
-    std::io::stdout().write_all(&out).expect("the list is written");
+    out
+}
+
+/// Half of the patterns are any 64 bits, half are above zero: of any bits half are refused.
+fn random_inputs(random: &mut Random) -> Vec<u64> {
+    (0..RECORDS).map(|index| if index % 2 == 0 { random.next() } else { random.next() % 0x7ff0_0000_0000_0000 }).collect()
+}
+
+/// The program's last number: how many records differ.
+fn differing(program: &str, list: &[u8]) -> u64 {
+    let mut child = Command::new(program).stdin(Stdio::piped()).stdout(Stdio::piped()).spawn().expect("the program starts");
+    child.stdin.take().expect("a pipe").write_all(list).expect("the program reads the list");
+    let output = child.wait_with_output().expect("the program ends");
+    let text = String::from_utf8(output.stdout).expect("the program prints text");
+    let lines: Vec<&str> = text.lines().collect();
+    assert_eq!(lines[0], format!("{RECORDS} records"));
+    lines[2].strip_suffix(" differ").expect("a tally").parse().expect("a number")
+}
+
+fn drive(program: &str, count: usize) -> bool {
+    let mut random = Random(2);
+    let lists = count.div_ceil(RECORDS);
+    let differ: u64 = (0..lists).map(|_| differing(program, &listed(&random_inputs(&mut random)))).sum();
+    println!("{} patterns, {differ} differ", lists * RECORDS);
+    differ == 0
+}
+
+fn main() {
+    let words: Vec<String> = std::env::args().skip(1).collect();
+    if let [program, count] = &words[..] {
+        std::process::exit(!drive(program, count.parse().expect("how many patterns")) as i32);
+    }
+    std::io::stdout().write_all(&listed(&inputs())).expect("the list is written");
 }
