@@ -56,7 +56,7 @@ enum { PATTERN = 0x5a };
 enum { ROWS = 3, BODIES = 3, LIMIT = 50 };
 
 struct job {
-    double numbers[27 * ROWS], masses[10 * BODIES], tolerance;
+    double numbers[27 * ROWS], masses[10 * BODIES], tolerance, shift; /* shift 0 but in shifts() */
     uint32_t words[8 * ROWS], rows, bodies;
 };
 
@@ -105,6 +105,18 @@ static struct job chain(void)
     }
     job.rows = job.bodies = 3;
     job.tolerance = 1e-9;
+    return job;
+}
+
+/* Two rows that say the same but for 2^-28 in one number: mode 1 finds a pivot of 0. */
+static struct job worn(double shift)
+{
+    struct job job = p1(-0.25, 1e-9);
+    set_row(job.numbers + 27, job.words + 8, 0, 1, 1);
+    job.numbers[27 + 1] = from_bits(0x3e30000000000000u); /* 2^-28 */
+    job.numbers[27 + 15] = -0.25;
+    job.rows = 2;
+    job.shift = shift;
     return job;
 }
 
@@ -164,7 +176,7 @@ static struct solved solve(const struct job *job, uint32_t mode, unsigned contro
     _mm_setcsr(control);
     to.refusal = kapitsa_solve_in(
         to.numbers, 27 * n, job->words, 8 * n, job->masses, 10 * b, job->tolerance, job->tolerance,
-        n, b, LIMIT, mode, to.solution, n, to.impulses, 6 * b, to.counts, to.maxima,
+        n, b, LIMIT, mode, job->shift, to.solution, n, to.impulses, 6 * b, to.counts, to.maxima,
         doubles, doubles_len, words, words_len);
     to.control = _mm_getcsr();
     _mm_setcsr(before);
@@ -212,7 +224,7 @@ static uint32_t raw_solve(const struct job *job, unsigned control, double *solut
     _mm_setcsr(control);
     uint32_t refusal = kapitsa_solve_position(
         numbers, 27 * n, job->words, 8 * n, job->masses, 10 * b, job->tolerance, job->tolerance,
-        n, b, LIMIT, KAPITSA_DIAGONAL, solution, n, impulses, 6 * b, counts, 2, maxima, 2,
+        n, b, LIMIT, KAPITSA_DIAGONAL, 0.0, solution, n, impulses, 6 * b, counts, 2, maxima, 2,
         jacobians, 12 * n, links, 2 * n, tolerances, n, diagonal, n, residual, n, pending, n,
         direction, n, product, n, body_impulses, 6 * b, NULL, 0, NULL, 0, NULL, 0);
     _mm_setcsr(before);
@@ -384,6 +396,69 @@ static void verdicts(void)
                && KEPT(two), "a verdict of another length than 1", "raw");
 }
 
+/* ---- shifts */
+
+#define SMALL_SHIFT from_bits(0x3eb0000000000000u) /* 2^-20 */
+
+/* True where the solve is refused by 25, in any mode of the processor, and has written nothing. */
+static int refused_shift(const struct job *job, uint32_t mode)
+{
+    const size_t d = kapitsa_solve_doubles(job->rows, job->bodies, mode);
+    const size_t w = kapitsa_solve_words(job->rows, job->bodies, mode);
+    for (size_t i = 0; i < CONTROLS; i++) {
+        const struct solved found = solve(job, mode, controls[i].word, exactly);
+        if (found.refusal != KAPITSA_REFUSED_SHIFT || !work_clear(d, w)
+            || memcmp(found.numbers, job->numbers, sizeof found.numbers)
+            || !(KEPT(found.solution) && KEPT(found.impulses) && KEPT(found.maxima)
+                 && KEPT(found.counts)))
+            return 0;
+    }
+    return 1;
+}
+
+static void shifts(void)
+{
+    static const uint64_t odd[] = {0x3ff0000000000001u /* above 1 */, 0x4000000000000000u,
+                                   MINUS | SMALLEST, MINUS | 0x3ff0000000000000u, INFINITE,
+                                   MINUS | INFINITE, 0x7ff8000000000000u, 0x7ff0000000000001u};
+    static const uint64_t sound[] = {0, MINUS, SMALLEST, 0x3fe0000000000000u,
+                                     0x3ff0000000000000u /* 1 */};
+    const struct job plain = worn(0.0), minus = worn(from_bits(MINUS)), little = worn(SMALL_SHIFT);
+    struct solved found = solve(&plain, KAPITSA_INCOMPLETE_CHOLESKY, KAPITSA_CONTROL, exactly);
+    expect(found.refusal == KAPITSA_REFUSED_PIVOT, "13 for near-equal rows", "shift 0");
+    found = solve(&minus, KAPITSA_INCOMPLETE_CHOLESKY, KAPITSA_CONTROL, exactly);
+    expect(found.refusal == KAPITSA_REFUSED_PIVOT, "13 for near-equal rows", "shift -0");
+    found = solve(&little, KAPITSA_INCOMPLETE_CHOLESKY, KAPITSA_CONTROL, exactly);
+    expect(found.refusal == 0 && found.counts[1] == 1, "near-equal rows", "shift 2^-20");
+    expect(says(check(&little, found.solution, KAPITSA_CONTROL, exactly), KAPITSA_CLOSED),
+           "near-equal rows are closed", "shift 2^-20");
+    alike("near-equal rows, shift 2^-20", &little, KAPITSA_INCOMPLETE_CHOLESKY);
+    for (uint32_t mode = 0; mode < 3; mode++) {
+        struct job rows = chain();
+        const struct solved wanted = solve(&rows, mode, KAPITSA_CONTROL, exactly);
+        for (size_t i = 0; i < sizeof sound / sizeof sound[0]; i++) {
+            rows.shift = from_bits(sound[i]);
+            found = solve(&rows, mode, KAPITSA_CONTROL, exactly);
+            expect(found.refusal == 0
+                   && (mode == KAPITSA_INCOMPLETE_CHOLESKY && i > 2
+                       ? memcmp(&found, &wanted, sizeof found) != 0
+                       : memcmp(&found, &wanted, sizeof found) == 0),
+                   "the bits of shift 0 but in mode 1", "a sound shift");
+        }
+        for (size_t i = 0; i < sizeof odd / sizeof odd[0]; i++) {
+            rows.shift = from_bits(odd[i]);
+            expect(refused_shift(&rows, mode), "25 in every mode", "an odd shift");
+        }
+        rows.words[7] = 1; /* spare: 4 */
+        expect(refused_shift(&rows, mode), "25 before 4", "an odd shift");
+        const struct lent short_of_one = {-1, 0};
+        expect(solve(&rows, mode, KAPITSA_CONTROL, short_of_one).refusal == KAPITSA_REFUSED_LENGTH,
+               "3 before 25", "an odd shift");
+        rows.rows = rows.bodies = 0;
+        expect(refused_shift(&rows, mode), "25 without rows", "an odd shift");
+    }
+}
+
 /* ---- work memory */
 
 static void sizes(void)
@@ -461,8 +536,8 @@ static int solve_of_nothing(uint32_t rows, uint32_t bodies, uint32_t mode, doubl
     memset(counts, PATTERN, sizeof counts);
     memset(maxima, PATTERN, sizeof maxima);
     const uint32_t found = kapitsa_solve_in(NULL, 0, NULL, 0, NULL, 0, 0.0, 0.0, rows, bodies, 0,
-                                            mode, NULL, 0, NULL, 0, counts, maxima, work, work_len,
-                                            more, more_len);
+                                            mode, 0.0, NULL, 0, NULL, 0, counts, maxima, work,
+                                            work_len, more, more_len);
     return found == refusal
         && (found ? KEPT(counts) && KEPT(maxima)
                   : counts[0] == 0 && counts[1] == 1 && all(0, maxima, sizeof maxima));
@@ -520,7 +595,7 @@ static void at_the_limits(void)
         const size_t d = kapitsa_solve_doubles(N, B, mode), w = kapitsa_solve_words(N, B, mode);
         fill_work();
         const uint32_t refusal = kapitsa_solve_in(
-            numbers, 27 * N, row_words, 8 * N, masses, 10 * B, 1e-9, 1e-9, N, B, 1, mode,
+            numbers, 27 * N, row_words, 8 * N, masses, 10 * B, 1e-9, 1e-9, N, B, 1, mode, 0.0,
             solution, N, impulses, 6 * B, counts, maxima, doubles, d, words, w);
         expect(refusal == (mode == 1 ? KAPITSA_REFUSED_PIVOT : KAPITSA_ACCEPTED)
                && work_clear(d, w), "512 rows", "solve");
@@ -547,6 +622,7 @@ int main(void)
     arguments();
     raw_modes();
     verdicts();
+    shifts();
     sizes();
     work_memory();
     empty_jobs();

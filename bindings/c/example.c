@@ -30,7 +30,7 @@ int main(void)
         return 1;
 
     uint32_t refusal = kapitsa_solve_in(
-        numbers, 27, words, 8, masses, 20, 0.001, 0.001, 1, 2, 4, KAPITSA_DIAGONAL,
+        numbers, 27, words, 8, masses, 20, 0.001, 0.001, 1, 2, 4, KAPITSA_DIAGONAL, 0.0,
         solution, 1, impulses, 12, counts, maxima,
         work_doubles, doubles_len, work_words, words_len);
     if (refusal == 0)

@@ -76,7 +76,8 @@ enum kapitsa_refusal {
     KAPITSA_REFUSED_DIRECTION = 15, /* direction times product is at most MIN */
     KAPITSA_REFUSED_STEP = 16,      /* a number in the steps is not finite */
     KAPITSA_REFUSED_RESULT = 17,    /* a final impulse or multiplier is not finite */
-    KAPITSA_REFUSED_RANGE = 18      /* check: a number neither 0 nor from 2^-150 to 2^150 in size */
+    KAPITSA_REFUSED_RANGE = 18,     /* check: a number neither 0 nor from 2^-150 to 2^150 in size */
+    KAPITSA_REFUSED_SHIFT = 25      /* the shift is not finite, below 0 or above 1; right after 3 */
 };
 
 /* MXCSR as a program starts: round to nearest, subnormal numbers kept, exceptions masked. */
@@ -126,13 +127,16 @@ enum kapitsa_refusal {
 
 /* ---- the raw functions; at their end a pointer and a length for each work slice, in order */
 
-/* Refusals 3 to 17. counts (2) gets count and flag, maxima (2) the linear and the angular residual
-   maximum; with them accumulated multipliers (in numbers), solution and impulses are written. */
+/* Refusals 3, 25 and 4 to 17. counts (2) gets count and flag, maxima (2) the linear and the angular
+   residual maximum; with them accumulated multipliers (in numbers), solution and impulses are
+   written. In mode 1 each pivot starts from diagonal * (1 + shift): 0 is the plain factor, a little
+   more lets rows pass that say almost the same and that 13 turns back. Modes 0 and 2 use no shift,
+   but it must be from 0 to 1 there too, and in a job without rows. */
 KAPITSA_MUST_USE uint32_t kapitsa_solve_position(
     double *numbers, size_t numbers_len, const uint32_t *words, size_t words_len,
     const double *masses, size_t masses_len,
     double linear_tolerance, double angular_tolerance,
-    uint32_t rows, uint32_t bodies, uint32_t limit, uint32_t mode,
+    uint32_t rows, uint32_t bodies, uint32_t limit, uint32_t mode, double shift,
     double *solution, size_t solution_len, double *impulses, size_t impulses_len,
     uint32_t *counts, size_t counts_len, double *maxima, size_t maxima_len
     KAPITSA_SOLVE_WORK(KAPITSA_TAKES_DOUBLES, KAPITSA_TAKES_WORDS));
@@ -222,7 +226,7 @@ KAPITSA_APART uint32_t kapitsa_solve_in(
     double *numbers, size_t numbers_len, const uint32_t *words, size_t words_len,
     const double *masses, size_t masses_len,
     double linear_tolerance, double angular_tolerance,
-    uint32_t rows, uint32_t bodies, uint32_t limit, uint32_t mode,
+    uint32_t rows, uint32_t bodies, uint32_t limit, uint32_t mode, double shift,
     double *solution, size_t solution_len, double *impulses, size_t impulses_len,
     uint32_t counts[2], double maxima[2],
     double *work_doubles, size_t work_doubles_len, uint32_t *work_words, size_t work_words_len)
@@ -237,7 +241,7 @@ KAPITSA_APART uint32_t kapitsa_solve_in(
     _mm_setcsr(KAPITSA_CONTROL);
     uint32_t refusal = kapitsa_solve_position(
         numbers, numbers_len, words, words_len, masses, masses_len,
-        linear_tolerance, angular_tolerance, rows, bodies, limit, mode,
+        linear_tolerance, angular_tolerance, rows, bodies, limit, mode, shift,
         solution, solution_len, impulses, impulses_len, counts, 2, maxima, 2
         KAPITSA_SOLVE_WORK(KAPITSA_LEND, KAPITSA_LEND));
     _mm_setcsr(control);

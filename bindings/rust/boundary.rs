@@ -31,6 +31,7 @@ struct Job {
     words: Vec<u32>,
     masses: Vec<f64>,
     tolerance: f64,
+    shift: f64,
 }
 
 impl Job {
@@ -74,6 +75,15 @@ fn chain() -> Job {
     job
 }
 
+/// Two rows that say the same but for 2^-28 in one number: mode 1 finds a pivot of 0.
+fn worn(shift: f64) -> Job {
+    let mut job = Job { tolerance: 1e-9, shift, ..Job::default() };
+    job.row(0, 1, 0, -0.25);
+    job.row(0, 1, 1, -0.25)[1] = 1.0 / 268_435_456.0; // 2^-28
+    (0..2).for_each(|_| job.mass(0.5, 0.0));
+    job
+}
+
 const DEFAULT: u32 = 0x1f80;
 const MODES: [(&str, u32); 7] = [
     ("default", DEFAULT),
@@ -113,8 +123,8 @@ fn outcome(job: &Job, mode: Mode, work: &mut Work) -> Outcome {
     let mut impulses = vec![0.0; 6 * (job.masses.len() / 10)];
     let mut tables = Tables { numbers: &mut numbers, words: &job.words, masses: &job.masses };
     let tolerance = Tolerance { linear_m: job.tolerance, angular_rad: job.tolerance };
-    let solved =
-        solve_position(&mut tables, tolerance, 50, mode, &mut solution, &mut impulses, work);
+    let (x, j) = (&mut solution, &mut impulses);
+    let solved = solve_position(&mut tables, tolerance, 50, mode, job.shift, x, j, work);
     let checked = closing_check(&tables, tolerance, &solution, work);
     let lists = numbers.iter().chain(&solution).chain(&impulses);
     Outcome {
@@ -157,11 +167,45 @@ fn floating_point_modes(tests: &mut Tests) {
     }
 }
 
+fn shifts(tests: &mut Tests) {
+    let mut work = Work::default();
+    let cholesky = Mode::IncompleteCholesky;
+    for shift in [0.0, -0.0] {
+        let found = outcome(&worn(shift), cholesky, &mut work);
+        tests.expect(found.solved == Err(Refusal::Pivot), "13 for near-equal rows");
+    }
+    let found = outcome(&worn(1.0 / 1_048_576.0), cholesky, &mut work); // 2^-20
+    tests.expect(found.solved.is_ok_and(|(flag, ..)| flag), "near-equal rows with a shift");
+    tests.expect(found.checked == Ok(Verdict::Closed), "near-equal rows are closed");
+    for mode in ALL {
+        let plain = outcome(&chain(), mode, &mut work);
+        for shift in [-0.0, 0.5, 1.0] {
+            let found = outcome(&Job { shift, ..chain() }, mode, &mut work);
+            let same = mode != cholesky || shift == 0.0;
+            tests.expect((found == plain) == same, "the bits of shift 0 but in mode 1");
+        }
+        let above = 1.0 + f64::EPSILON;
+        let below = -f64::from_bits(1);
+        for shift in [above, below, -1.0, f64::INFINITY, f64::NEG_INFINITY, f64::NAN] {
+            for job in [chain(), Job::default()] {
+                let job = Job { shift, ..job };
+                for (name, control) in MODES {
+                    let (found, _) = within(control, || outcome(&job, mode, &mut work));
+                    tests.expect(found.solved == Err(Refusal::Shift), &format!("25, {name}"));
+                    let mut numbers = found.numbers.iter().zip(&job.numbers);
+                    let kept = numbers.all(|(left, right)| *left == right.to_bits());
+                    tests.expect(kept, "multipliers stay after 25");
+                }
+            }
+        }
+    }
+}
+
 type Tried = (Result<u32, Refusal>, Result<Verdict, Refusal>);
 
 /// A solve in each mode, its count, and a check over zeros: numbers, words, masses, solution and
 /// impulses of these lengths.
-fn tried([numbers, words, masses, solution, impulses]: [usize; 5]) -> [Tried; 3] {
+fn tried([numbers, words, masses, solution, impulses]: [usize; 5], shift: f64) -> [Tried; 3] {
     let mut numbers = vec![0.0; numbers];
     let (words, masses) = (vec![0; words], vec![0.0; masses]);
     let (mut solution, mut impulses) = (vec![0.0; solution], vec![0.0; impulses]);
@@ -170,7 +214,7 @@ fn tried([numbers, words, masses, solution, impulses]: [usize; 5]) -> [Tried; 3]
     let mut work = Work::default();
     ALL.map(|mode| {
         let (x, j) = (&mut solution, &mut impulses);
-        let solved = solve_position(&mut tables, tolerance, 1, mode, x, j, &mut work);
+        let solved = solve_position(&mut tables, tolerance, 1, mode, shift, x, j, &mut work);
         let checked = closing_check(&tables, tolerance, &solution, &mut work);
         (solved.map(|answer| answer.iterations), checked)
     })
@@ -192,17 +236,24 @@ fn lengths(tests: &mut Tests) {
         ([27, 8, 20, 0, 12], refused, "solution and multipliers too short"),
         ([27, 8, 20, 1, 12], fitting, "one row"),
     ] {
-        tests.expect(tried(lengths) == [wanted; 3], what);
+        tests.expect(tried(lengths, 0.0) == [wanted; 3], what);
+        // 25 is right after 3.
+        let solved = if wanted == refused { refused.0 } else { Err(Refusal::Shift) };
+        tests.expect(tried(lengths, f64::NAN) == [(solved, wanted.1); 3], what);
     }
-    tests.expect(tried([27, 8, 20, 1, 11])[0].0 == Err(Refusal::Length), "impulses too short");
+    for shift in [0.0, f64::NAN] {
+        let found = tried([27, 8, 20, 1, 11], shift)[0].0;
+        tests.expect(found == Err(Refusal::Length), "impulses too short");
+    }
 }
 
 fn main() {
     let mut tests = Tests::default();
     floating_point_modes(&mut tests);
+    shifts(&mut tests);
     lengths(&mut tests);
-    let numbers = (Refusal::Length as u32, Refusal::Range as u32);
-    tests.expect(numbers == (3, 18), "the numbers of refusals");
+    let numbers = [Refusal::Length as u32, Refusal::Range as u32, Refusal::Shift as u32];
+    tests.expect(numbers == [3, 18, 25], "the numbers of refusals");
     println!("{} passed, {} failed", tests.passed, tests.failed);
     std::process::exit(i32::from(tests.failed != 0));
 }

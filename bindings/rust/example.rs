@@ -21,7 +21,7 @@ fn main() {
     let mut work = Work::default();
     let mut tables = Tables { numbers: &mut numbers, words: &words, masses: &masses };
     let answer = solve_position(
-        &mut tables, tolerance, 4, Mode::Diagonal, &mut solution, &mut impulses, &mut work,
+        &mut tables, tolerance, 4, Mode::Diagonal, 0.0, &mut solution, &mut impulses, &mut work,
     )
     .expect("P1 is accepted");
     let verdict = closing_check(&tables, tolerance, &solution, &mut work).expect("and checked");

@@ -74,6 +74,7 @@ refusals! {
     Step = 16, "a number in the steps is not finite";
     Result = 17, "a final impulse or multiplier is not finite";
     Range = 18, "check: a number neither 0 nor from 2^-150 to 2^150 in size";
+    Shift = 25, "the shift is not finite, below 0 or above 1";
 }
 
 impl fmt::Display for Refusal {
@@ -158,14 +159,17 @@ fn factor_lengths(n: usize, mode: Mode) -> (usize, usize, usize) {
 }
 
 /// Solves; multipliers (in `tables.numbers`), solution (one a row) and impulses (six a body)
-/// are written only where the answer is `Ok`. Not inlined, as the check: a compiler may move its
-/// caller's arithmetic past a change of the control word.
+/// are written only where the answer is `Ok`. In mode 1 each pivot starts from diagonal ×
+/// (1 + shift): 0 is the plain factor, a little more lets rows pass that say almost the same. The
+/// other modes use no shift, but it must be from 0 to 1 there too. Not inlined, as the check: a
+/// compiler may move its caller's arithmetic past a change of the control word.
 #[inline(never)]
 pub fn solve_position(
     tables: &mut Tables,
     tolerance: Tolerance,
     limit: u32,
     mode: Mode,
+    shift: f64,
     solution: &mut [f64],
     impulses: &mut [f64],
     work: &mut Work,
@@ -196,7 +200,8 @@ pub fn solve_position(
             tables.numbers.as_mut_ptr(), tables.numbers.len(),
             tables.words.as_ptr(), tables.words.len(),
             tables.masses.as_ptr(), tables.masses.len(),
-            tolerance.linear_m, tolerance.angular_rad, n as u32, b as u32, limit, mode as u32,
+            tolerance.linear_m, tolerance.angular_rad,
+            n as u32, b as u32, limit, mode as u32, shift,
             solution.as_mut_ptr(), solution.len(), impulses.as_mut_ptr(), impulses.len(),
             counts.as_mut_ptr(), counts.len(), maxima.as_mut_ptr(), maxima.len(),
             jacobians.as_mut_ptr(), jacobians.len(), links.as_mut_ptr(), links.len(),
@@ -301,7 +306,7 @@ unsafe extern "C" {
         numbers: *mut f64, numbers_len: usize, words: *const u32, words_len: usize,
         masses: *const f64, masses_len: usize,
         linear_tolerance: f64, angular_tolerance: f64,
-        rows: u32, bodies: u32, limit: u32, mode: u32,
+        rows: u32, bodies: u32, limit: u32, mode: u32, shift: f64,
         solution: *mut f64, solution_len: usize, impulses: *mut f64, impulses_len: usize,
         counts: *mut u32, counts_len: usize, maxima: *mut f64, maxima_len: usize,
         jacobians: *mut f64, jacobians_len: usize, links: *mut u32, links_len: usize,

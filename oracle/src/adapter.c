@@ -12,7 +12,7 @@
 void kapitsa_solve_position(
     double *numbers, size_t numbers_len, const uint32_t *words, size_t words_len,
     const double *masses, size_t masses_len, double linear_tolerance, double angular_tolerance,
-    uint32_t rows, uint32_t bodies, uint32_t limit, uint32_t mode,
+    uint32_t rows, uint32_t bodies, uint32_t limit, uint32_t mode, double shift,
     double *solution, size_t solution_len, double *impulses, size_t impulses_len,
     uint64_t *answer, size_t answer_len);
 
@@ -25,13 +25,14 @@ void kapitsa_closing_check(
 void oracle_solve_position(
     double *numbers, size_t numbers_len, const uint32_t *words, size_t words_len,
     const double *masses, size_t masses_len, double linear_tolerance, double angular_tolerance,
-    uint32_t rows, uint32_t bodies, uint32_t limit, uint32_t mode,
+    uint32_t rows, uint32_t bodies, uint32_t limit, uint32_t mode, double shift,
     double *solution, size_t solution_len, double *impulses, size_t impulses_len,
     uint64_t *answer, size_t answer_len)
 {
     kapitsa_solve_position(numbers, numbers_len, words, words_len, masses, masses_len,
                            linear_tolerance, angular_tolerance, rows, bodies, limit, mode,
-                           solution, solution_len, impulses, impulses_len, answer, answer_len);
+                           shift, solution, solution_len, impulses, impulses_len, answer,
+                           answer_len);
 }
 
 void oracle_closing_check(

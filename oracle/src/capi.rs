@@ -23,7 +23,7 @@ pub unsafe extern "C" fn kapitsa_solve_position(
     words: *const u32, words_len: usize,
     masses: *const f64, masses_len: usize,
     linear_tolerance: f64, angular_tolerance: f64,
-    rows: u32, bodies: u32, limit: u32, mode: u32,
+    rows: u32, bodies: u32, limit: u32, mode: u32, shift: f64,
     solution: *mut f64, solution_len: usize,
     impulses: *mut f64, impulses_len: usize,
     answer: *mut u64, answer_len: usize,
@@ -37,7 +37,7 @@ pub unsafe extern "C" fn kapitsa_solve_position(
         words: unsafe { from_raw_parts(words, words_len) }.to_vec(),
         masses: unsafe { from_raw_parts(masses, masses_len) }.to_vec(),
         tolerances: [linear_tolerance, angular_tolerance],
-        rows, bodies, limit, mode,
+        rows, bodies, limit, mode, shift,
     };
     answer.copy_from_slice(&solve(&job, numbers, solution, impulses));
 }
@@ -80,7 +80,7 @@ pub unsafe extern "C" fn kapitsa_closing_check(
         words: unsafe { from_raw_parts(words, words_len) }.to_vec(),
         masses: unsafe { from_raw_parts(masses, masses_len) }.to_vec(),
         tolerances: [linear_tolerance, angular_tolerance],
-        rows, bodies, limit: 0, mode: 0,
+        rows, bodies, limit: 0, mode: 0, shift: 0.0,
     };
     let list = unsafe { from_raw_parts(multipliers, multipliers_len) };
     let answer = unsafe { from_raw_parts_mut(answer, answer_len) };

@@ -32,6 +32,9 @@ fn refusals() -> Vec<Difference> {
     let mut many = Job { tolerances: [1.0; 2], limit: 1, ..Job::default() };
     (0..2).for_each(|_| many.push_mass(0.5, [0.0; 3]));
     (0..513).for_each(|_| push_x_row(&mut many, 0, 1, 0.0));
+    let mut worn = Job { mode: INCOMPLETE_CHOLESKY, shift: two(-20), ..p1() };
+    push_x_row(&mut worn, 0, 1, -0.25);
+    worn.set(1, LINEAR_A, &[1.0, two(-28), 0.0]);
     let named = |name, input, job| Difference { name, input, job };
     vec![
         named("17-bodies", "P1, inverse masses 2^-1000, multiplier the largest double", moved),
@@ -42,6 +45,8 @@ fn refusals() -> Vec<Difference> {
         named("6-no-rows", "no rows, one body of inverse mass NaN", empty),
         named("10", "mode 1, a star of 182 rows", star(182)),
         named("3", "513 rows that are closed", many),
+        named("25", "P1 with shift 1.5", Job { shift: 1.5, ..p1() }),
+        named("shift", "P1's row and one with linear_a (1, 2^-28, 0), mode 1, shift 2^-20", worn),
     ]
 }
 
@@ -85,7 +90,9 @@ pub fn run() -> bool {
     for difference in refusals().iter().chain(&methods()) {
         println!("{}: {}", difference.name, difference.input);
         println!("  Rust:        {}", rust(&difference.job));
-        println!("  document 01: {}", document(&difference.job));
+        // The Rust has no shift, nor has document 01.
+        let measure = if difference.job.shift == 0.0 { "01" } else { "02" };
+        println!("  document {measure}: {}", document(&difference.job));
     }
     true
 }

@@ -1,9 +1,9 @@
 //! The differential driver: an implementation against the judge, job by job.
 
 use crate::closing_jobs::closing_job;
-use crate::generator::{Sizes, job};
+use crate::generator::{Sizes, job, shifted};
 use crate::implementation::Implementation;
-use crate::job::{Answer, Job, MULTIPLIER, ROW_NUMBERS, Solved, same_bits};
+use crate::job::{Answer, INCOMPLETE_CHOLESKY, Job, MULTIPLIER, ROW_NUMBERS, Solved, same_bits};
 use crate::judge::judge;
 use crate::random::Random;
 use crate::tally::Tally;
@@ -16,6 +16,22 @@ const UNTOUCHED: f64 = f64::from_bits(0x7ff8_0000_5eed_5eed);
 
 /// Prints each mismatch and the closing line; true where there is none.
 pub fn run(library: &str, jobs: u64, seed: u64, home: &Path) -> Result<bool, String> {
+    drive(library, jobs, seed, home, |seed, index| job(seed, index, Sizes::Any))
+}
+
+/// The same with a shift for each job. Those of shift 0 are held to the Rust too.
+pub fn shifts(library: &str, jobs: u64, seed: u64, home: &Path) -> Result<bool, String> {
+    drive(library, jobs, seed, home, shifted)
+}
+
+/// The jobs of a seed, each as `draw` has it.
+fn drive(
+    library: &str,
+    jobs: u64,
+    seed: u64,
+    home: &Path,
+    draw: fn(u64, u64) -> Job,
+) -> Result<bool, String> {
     let implementation = Implementation::open(library)?;
     if !implementation.solves() {
         println!("no function oracle_solve_position: closing checks alone");
@@ -23,14 +39,16 @@ pub fn run(library: &str, jobs: u64, seed: u64, home: &Path) -> Result<bool, Str
     let mut mismatches = 0;
     let mut verdicts = BTreeMap::new();
     let mut solves = Tally::default();
+    let mut effect = Effect::default();
     for index in 0..jobs {
-        let job = job(seed, index, Sizes::Any);
+        let job = draw(seed, index);
         let mut random = Random::of(!seed, index);
         let (solved, found) = compare_solve(&implementation, &job, &mut random);
         solves.add(job.mode, &solved.answer);
+        effect.add(&job, &solved);
         let name = format!("{seed}-{index}");
         if !found.is_empty() {
-            println!("job {name}: {}", found.join("; "));
+            println!("job {name}, shift {:e}: {}", job.shift, found.join("; "));
             save(home, &format!("{name}.job"), &job_file::write(&job))?;
         }
         let (closing, list) = closing_job(&job, &solved, &mut random);
@@ -47,10 +65,44 @@ pub fn run(library: &str, jobs: u64, seed: u64, home: &Path) -> Result<bool, Str
     }
     if implementation.solves() {
         solves.print();
+        effect.print();
     }
     print_verdicts(&verdicts);
     println!("{jobs} jobs, {mismatches} mismatches");
     Ok(mismatches == 0)
+}
+
+/// What the shifts of the jobs come to.
+#[derive(Default)]
+struct Effect {
+    shifted: u64,
+    changed: u64,
+    instead_of_13: u64,
+}
+
+impl Effect {
+    fn add(&mut self, job: &Job, solved: &Solved) {
+        if job.shift == 0.0 {
+            return;
+        }
+        self.shifted += 1;
+        let refusal = solved.answer.refusal();
+        if job.mode != INCOMPLETE_CHOLESKY || matches!(refusal, 3 | 25) {
+            return;
+        }
+        let plain = model::solve(&Job { shift: 0.0, ..job.clone() });
+        self.changed += u64::from(!plain.same(solved));
+        self.instead_of_13 += u64::from(refusal == 0 && plain.answer.refusal() == 13);
+    }
+
+    fn print(&self) {
+        if self.shifted > 0 {
+            println!(
+                "shifts: {} other than 0, {} with another outcome than at 0, {} accepted instead of 13",
+                self.shifted, self.changed, self.instead_of_13
+            );
+        }
+    }
 }
 
 /// The check as the model has it, and as the implementation has it.

@@ -9,6 +9,7 @@ mod large;
 mod mechanism;
 mod overflows;
 mod pins;
+mod shifts;
 mod thresholds;
 
 pub use examples::{chain_along_x, examples, push_x_row};
@@ -16,6 +17,7 @@ pub use fixed::fixed;
 pub use large::star;
 pub use mechanism::{Shape, joined};
 pub use pins::pin;
+pub use shifts::shifted;
 
 use crate::job::Job;
 use crate::random::Random;

@@ -8,7 +8,7 @@ use std::ffi::{c_int, c_void};
 #[rustfmt::skip]
 type Solve = unsafe extern "C" fn(
     *mut f64, usize, *const u32, usize, *const f64, usize,
-    f64, f64, u32, u32, u32, u32,
+    f64, f64, u32, u32, u32, u32, f64,
     *mut f64, usize, *mut f64, usize, *mut u64, usize,
 );
 #[rustfmt::skip]
@@ -62,7 +62,7 @@ impl Implementation {
                 job.words.as_ptr(), job.words.len(),
                 job.masses.as_ptr(), job.masses.len(),
                 job.tolerances[0], job.tolerances[1],
-                job.rows, job.bodies, job.limit, job.mode,
+                job.rows, job.bodies, job.limit, job.mode, job.shift,
                 solution.as_mut_ptr(), solution.len(),
                 impulses.as_mut_ptr(), impulses.len(),
                 answer.as_mut_ptr(), answer.len(),

@@ -48,6 +48,8 @@ pub struct Job {
     pub bodies: u32,
     pub limit: u32,
     pub mode: u32,
+    /// Mode 1 starts each pivot from diagonal × (1 + shift). No job file has one: it is 0 there.
+    pub shift: f64,
 }
 
 impl Job {

@@ -91,5 +91,6 @@ fn read_sections(file: &[u8], rows: Section, masses: Section, trailer: usize) ->
         bodies: word(file, trailer + 4),
         limit: word(file, trailer + 8),
         mode: word(file, trailer + 12),
+        shift: 0.0,
     }
 }

@@ -35,7 +35,7 @@ pub fn rust_outcome(refusal: u32) -> Option<RustOutcome> {
 
 pub struct Judged {
     pub solved: Solved,
-    /// The job lies in the domain that document 01 compares with the Rust.
+    /// The job lies in the domain that is compared with the Rust.
     pub compared: bool,
     /// Where the reference and the model differ.
     pub dispute: Option<String>,
@@ -45,8 +45,10 @@ pub struct Judged {
 pub fn judge(job: &Job) -> Judged {
     let solved = model::solve(job);
     let refusal = solved.answer.refusal();
-    let compared =
-        job.mode <= INCOMPLETE_CHOLESKY && (refusal == 0 || rust_outcome(refusal).is_some());
+    // The Rust has no shift: with another than 0 the definition is the measure.
+    let compared = job.mode <= INCOMPLETE_CHOLESKY
+        && job.shift == 0.0
+        && (refusal == 0 || rust_outcome(refusal).is_some());
     let dispute = if compared { dispute(job, &solved) } else { None };
     Judged { solved, compared, dispute }
 }

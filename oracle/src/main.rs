@@ -27,6 +27,7 @@ use std::path::PathBuf;
 const USAGE: &str = "usage: oracle/run COMMAND
   tally [JOBS] [SEED]             outcomes of generated jobs by mode, reference against model
   drive LIBRARY [JOBS] [SEED]     an implementation (see oracle/wrap) against the judge
+  shifts LIBRARY [JOBS] [SEED]    the same with a shift for each job
   record                          makes the recorded solves in crates/solve_recorded
   replay                          judges the recorded solves anew
   cover                           counts what the recorded solves meet
@@ -63,6 +64,9 @@ fn command(words: &[&str]) -> Result<bool, String> {
     match words {
         ["tally", ..] => Ok(tally::run(number(1, 100_000)?, number(2, 1)?)),
         ["drive", library, ..] => driver::run(library, number(2, 100_000)?, number(3, 1)?, &home()),
+        ["shifts", library, ..] => {
+            driver::shifts(library, number(2, 100_000)?, number(3, 1)?, &home())
+        }
         ["record"] => recorded::make(&home()),
         ["replay"] => recorded::replay(&home()),
         ["cover"] => recorded::cover(&home()),

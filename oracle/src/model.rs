@@ -1,4 +1,4 @@
-//! The solve and the closing check, worked from document 01 alone: a second
+//! The solve and the closing check, worked from the documents alone: a second
 //! implementation, which also tells the refusal numbers that the Rust keeps to
 //! itself. Finiteness is tested on final values only: a number that is not finite
 //! never becomes finite again under +, -, × and division by a finite number.
@@ -39,7 +39,7 @@ fn attempt(job: &Job) -> Judged<Solved> {
     if table.meets(&residual) {
         return Ok(at_step_zero(job, &table, &residual));
     }
-    let preconditioner = Preconditioner::build(job.mode, &table, &diagonal)?;
+    let preconditioner = Preconditioner::build(job.mode, job.shift, &table, &diagonal)?;
     let ended = run(&table, &preconditioner, residual, job.limit)?;
     let impulses = operator::impulses(&table, &ended.solution).concat();
     pass(17, all_finite(&impulses))?;

@@ -14,7 +14,7 @@ static const uint64_t untouched = 0x5eed5eed5eed5eed;
 void oracle_solve_position(
     double *numbers, size_t numbers_len, const uint32_t *words, size_t words_len,
     const double *masses, size_t masses_len, double linear_tolerance, double angular_tolerance,
-    uint32_t rows, uint32_t bodies, uint32_t limit, uint32_t mode,
+    uint32_t rows, uint32_t bodies, uint32_t limit, uint32_t mode, double shift,
     double *solution, size_t solution_len, double *impulses, size_t impulses_len,
     uint64_t *answer, size_t answer_len)
 {
@@ -24,7 +24,7 @@ void oracle_solve_position(
     memcpy(maxima, bits, sizeof maxima);
     uint32_t refusal = kapitsa_solve_in(
         numbers, numbers_len, words, words_len, masses, masses_len, linear_tolerance,
-        angular_tolerance, rows, bodies, limit, mode, solution, solution_len, impulses,
+        angular_tolerance, rows, bodies, limit, mode, shift, solution, solution_len, impulses,
         impulses_len, counts, maxima,
         work_doubles, kapitsa_solve_doubles(rows, bodies, mode),
         work_words, kapitsa_solve_words(rows, bodies, mode));

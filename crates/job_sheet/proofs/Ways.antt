@@ -16,7 +16,8 @@ use Rattle.position_delivery.specs.Outcome.{Lent, Outcome, Answer, proposalOf, 
 use Rattle.position_delivery.specs.declared.answer.PositionPcgResult.{PositionPcgResult}
 use Rattle.position_delivery.specs.declared.answer.PositionPcg.{PositionPcg}
 use Rattle.position_delivery.specs.declared.answer.PositionPcg.the-variants as answers
-use Rattle.position.specs.Problem.{positionOf}
+use Rattle.loops.specs.Cleared.{plusZero}
+use Rattle.position_iteration.specs.Position.{positionOf}
 use Rattle.preconditioner.specs.Mode.{modeOf}
 use Rattle.joint_refusals.specs.Counts.{tableCountsFit, countsFit}
 use Rattle.work_memory.specs.Lengths as lengths
@@ -152,7 +153,7 @@ module _ (j : Job) (solution impulses : List Float) where
   refused-in (ended n) e = ap refusedListing (refused-same (ap (λ (o : Outcome). o .answer) e))
 
 module _ (t : Trailer) (numbers : List Float) (words : List ℕ) (masses solution impulses : List Float) {fits : Bool} (f : fits ≡ true) {answer : PositionPcg} {after : Lent}
-    (s : JobSolved fits (positionOf (t .rows) (t .bodies) numbers words masses (t .tolerance)) (modeOf (t .mode)) (t .limit) (t .rows) (record { numbers = numbers; solution = solution; impulses = impulses }) after answer) where
+    (s : JobSolved fits (positionOf (t .rows) (t .bodies) numbers words masses (t .tolerance) plusZero) (modeOf (t .mode) plusZero) (t .limit) (t .rows) (record { numbers = numbers; solution = solution; impulses = impulses }) after answer) where
   solved : outcomeOf (t .rows) (record { numbers = numbers; solution = solution; impulses = impulses }) (answerTo (jobWith t numbers words masses)) ≡ record { answer = answer; lent = after }
   unfolding answerTo
   solved = rw (← f) (s .answered)

@@ -8,7 +8,8 @@ use Rattle.kapitsa_joint.specs.Table.{tableOf}
 use Rattle.mass_operator.specs.Flat.{coefficients}
 use Rattle.preconditioner.specs.Mode.{modeOf}
 use Rattle.steps.specs.Solve.{solve}
-use Rattle.position.specs.Problem.{positionOf}
+use Rattle.loops.specs.Cleared.{plusZero}
+use Rattle.position_iteration.specs.Position.{positionOf}
 use Rattle.position_iteration.specs.Method.{methodOf}
 use Rattle.position_delivery.specs.Outcome.{Answer, resultOf, withMultipliers}
 use Rattle.position_delivery.specs.declared.answer.PositionPcgResult.{PositionPcgResult}
@@ -17,9 +18,9 @@ use Rattle.check_answer.specs.Answer.{numberOf, checkOf}
 use Rattle.job_file.specs.Job.{Job, jobOf}
 use Rattle.listing.specs.Listing.{listingOf, refusedListing}
 
--- Refusal 3 has passed: a file's counts and mode are judged with it, and what is lent is as long as they call for.
+-- "The job program uses shift 0" (document 02, f). Refusal 3 has passed: a file's counts and mode are judged with it, and what is lent is as long as they call for.
 unfoldable pub answerTo : Job → Answer
-answerTo j = solve (methodOf true (positionOf (j .rows) (j .bodies) (j .numbers) (j .words) (j .masses) (j .tolerance)) (modeOf (j .mode))) (j .limit)
+answerTo j = solve (methodOf true (positionOf (j .rows) (j .bodies) (j .numbers) (j .words) (j .masses) (j .tolerance) plusZero) (modeOf (j .mode) plusZero)) (j .limit)
 
 -- "the gains since error was measured; the job program gives it the solution": the verdict, or the check's refusal, on the rows as the solve leaves them
 unfoldable pub verdictIn : Job → List Float → List Float → ℕ

@@ -40,6 +40,7 @@ fn write_job(
         trailer.tolerance,
         trailer.limit,
         trailer.mode,
+        0.0,
         solution,
         impulses,
     );

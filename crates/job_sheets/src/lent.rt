@@ -42,6 +42,7 @@ fn solved(
         trailer.bodies,
         trailer.limit,
         trailer.mode,
+        0.0,
         solution,
         impulses,
         counts,

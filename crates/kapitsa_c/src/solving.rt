@@ -3,7 +3,7 @@ ghost use mathlib.Core.Path.{_≡_};
 ghost use mathlib.Core.Bool.{_&&_};
 ghost use lib.ListN.{length};
 ghost use Rattle.preconditioner.specs.Mode.{modeOf};
-ghost use Rattle.position.specs.Problem.{positionOf};
+ghost use Rattle.position_iteration.specs.Position.{positionOf};
 ghost use Rattle.work_memory.specs.Work.{workMemory};
 ghost use Rattle.work_memory.specs.Lengths.{passes3};
 ghost use Rattle.kapitsa_c.specs.Closing.{twoTolerances};
@@ -51,6 +51,7 @@ pub extern "C" fn kapitsa_solve_position(
     bodies: u32,
     limit: u32,
     mode: u32,
+    shift: f64,
     solution: &mut [f64],
     impulses: &mut [f64],
     counts: &mut [u32],
@@ -69,7 +70,7 @@ pub extern "C" fn kapitsa_solve_position(
     values: &mut [f64],
 ) -> u32
     ensures { λ r. ⌜ SolveTold (toldFits (now (counts .entry)) (now (maxima .entry)) && passes3 rows bodies mode (now (numbers .entry)) (now (words .entry)) (now (masses .entry)) (now (solution .entry)) (now (impulses .entry)) (workMemory (now (jacobians .entry)) (now (links .entry)) (now (tolerances .entry)) (now (diagonal .entry)) (now (residual .entry)) (now (pending .entry)) (now (direction .entry)) (now (product .entry)) (now («body_impulses» .entry)) (now (pattern .entry)) (now (order .entry)) (now (values .entry))))
-        (positionOf rows bodies (now (numbers .entry)) (now (words .entry)) (now (masses .entry)) (twoTolerances «linear_tolerance» «angular_tolerance»)) (modeOf mode) limit rows
+        (positionOf rows bodies (now (numbers .entry)) (now (words .entry)) (now (masses .entry)) (twoTolerances «linear_tolerance» «angular_tolerance») shift) (modeOf mode shift) limit rows
         record { numbers = now (numbers .entry); solution = now (solution .entry); impulses = now (impulses .entry) } record { numbers = now (numbers .exit); solution = now (solution .exit); impulses = now (impulses .exit) }
         (now (counts .entry)) (now (maxima .entry)) record { number = r; counts = now (counts .exit); maxima = now (maxima .exit) }
         (workMemory (now (jacobians .entry)) (now (links .entry)) (now (tolerances .entry)) (now (diagonal .entry)) (now (residual .entry)) (now (pending .entry)) (now (direction .entry)) (now (product .entry)) (now («body_impulses» .entry)) (now (pattern .entry)) (now (order .entry)) (now (values .entry)))
@@ -90,6 +91,7 @@ pub extern "C" fn kapitsa_solve_position(
         },
         limit,
         mode,
+        shift,
         solution,
         impulses,
         jacobians,

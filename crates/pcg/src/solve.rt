@@ -1,6 +1,6 @@
 // The position solve over lent tables: solve_position_pcg_prepared of pcg.rs, with every refusal of document 01.
 ghost use Rattle.preconditioner.specs.Mode.{modeOf};
-ghost use Rattle.position.specs.Problem.{positionOf};
+ghost use Rattle.position_iteration.specs.Position.{positionOf};
 ghost use Rattle.work_memory.specs.Work.{workMemory};
 ghost use Rattle.work_memory.specs.Lengths.{passes3};
 ghost use Rattle.pcg.specs.SolveHeld.{SolveHeld};
@@ -24,6 +24,7 @@ pub fn solve_position_pcg_prepared(
     tolerance: JointTolerance,
     limit: u32,
     mode: u32,
+    shift: f64,
     solution: &mut [f64],
     impulses: &mut [f64],
     jacobians: &mut [f64],
@@ -40,7 +41,7 @@ pub fn solve_position_pcg_prepared(
     values: &mut [f64],
 ) -> PositionPcg
     ensures { λ r. ⌜ SolveHeld (passes3 rows bodies mode (now (numbers .entry)) (now (words .entry)) (now (masses .entry)) (now (solution .entry)) (now (impulses .entry)) (workMemory (now (jacobians .entry)) (now (links .entry)) (now (tolerances .entry)) (now (diagonal .entry)) (now (residual .entry)) (now (pending .entry)) (now (direction .entry)) (now (product .entry)) (now («body_impulses» .entry)) (now (pattern .entry)) (now (order .entry)) (now (values .entry))))
-        (positionOf rows bodies (now (numbers .entry)) (now (words .entry)) (now (masses .entry)) tolerance) (modeOf mode) limit rows
+        (positionOf rows bodies (now (numbers .entry)) (now (words .entry)) (now (masses .entry)) tolerance shift) (modeOf mode shift) limit rows
         record { numbers = now (numbers .entry); solution = now (solution .entry); impulses = now (impulses .entry) } record { numbers = now (numbers .exit); solution = now (solution .exit); impulses = now (impulses .exit) } r
         (workMemory (now (jacobians .entry)) (now (links .entry)) (now (tolerances .entry)) (now (diagonal .entry)) (now (residual .entry)) (now (pending .entry)) (now (direction .entry)) (now (product .entry)) (now («body_impulses» .entry)) (now (pattern .entry)) (now (order .entry)) (now (values .entry)))
         (workMemory (now (jacobians .exit)) (now (links .exit)) (now (tolerances .exit)) (now (diagonal .exit)) (now (residual .exit)) (now (pending .exit)) (now (direction .exit)) (now (product .exit)) (now («body_impulses» .exit)) (now (pattern .exit)) (now (order .exit)) (now (values .exit))) ⌝ }
@@ -68,7 +69,7 @@ pub fn solve_position_pcg_prepared(
             body_impulses.len(),
         )
         & factor_fits(
-            mode_of(mode),
+            mode_of(mode, 0.0),
             rows,
             diagonal.len(),
             pattern.len(),
@@ -86,7 +87,8 @@ pub fn solve_position_pcg_prepared(
         bodies,
         tolerance,
         limit,
-        mode_of(mode),
+        mode_of(mode, shift),
+        shift,
         jacobians,
         links,
         tolerances,

@@ -3,11 +3,24 @@ use Prim.Native.Nat.{ℕ}
 use mathlib.Core.Path.{_≡_, refl}
 use lib.Ieee.{Float}
 use Rattle.loops.specs.Run.{check}
+use mathlib.Core.Bool.{Bool}
+use mathlib.Core.List.{List}
 use Rattle.loops.specs.Judge.{judged}
 use Rattle.kapitsa_joint.specs.Table.{Table}
-use Rattle.position.specs.Problem.{positionProblem}
-use Rattle.position.specs.Prepare.{rowJudged, rowsJudged}
+use Rattle.position.specs.Problem.{Problem, positionProblem, withOptions}
+use Rattle.position.specs.Prepare.{rowJudged, validJudged, diagonalsJudged, rowsJudged}
+use Rattle.position.specs.Answers.{BegunHeld}
+use Rattle.position.specs.declared.prepare.Begun.{Begun}
 
 pub position-rows : (t : Table) (tolerance : ℕ → Float) → rowsJudged (positionProblem t tolerance) ≡ judged (rowJudged (positionProblem t tolerance)) (t .rows)
 unfolding rowsJudged check
 position-rows t tolerance = refl
+
+pub options-rows : (tests : List (ℕ × Bool)) (t : Table) (tolerance : ℕ → Float) → let p = withOptions tests (positionProblem t tolerance) in rowsJudged p ≡ judged (rowJudged p) (t .rows)
+unfolding rowsJudged check
+options-rows tests t tolerance = refl
+
+-- step 0 does not look at the tests before it
+pub begun-options : (tests : List (ℕ × Bool)) (p : Problem) (a : Begun) (diagonal residual : List Float) → BegunHeld p a diagonal residual → BegunHeld (withOptions tests p) a diagonal residual
+unfolding rowsJudged validJudged diagonalsJudged rowJudged
+begun-options tests p a diagonal residual h = record { judgement = h .judgement; diagonal-is = h .diagonal-is; residual-is = h .residual-is }

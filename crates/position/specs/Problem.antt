@@ -3,8 +3,7 @@ use Prim.Native.Nat.{ℕ}
 use mathlib.Core.Bool.{Bool, false}
 use mathlib.Core.List.{List, []}
 use lib.Ieee.{Float, neg}
-use Rattle.kapitsa_joint.specs.Table.{Table, tableOf, byDimension}
-use Rattle.kapitsa_joint.specs.declared.tolerance.JointTolerance.{JointTolerance}
+use Rattle.kapitsa_joint.specs.Table.{Table}
 use Rattle.joint_refusals.specs.Refusals.{opensOf}
 
 pub record Problem : Type 0 where
@@ -12,6 +11,7 @@ pub record Problem : Type 0 where
   pub tolerance : ℕ → Float
   pub start : ℕ → Float  -- the residual that row i starts from
   pub accumulated : ℕ → Float  -- the number of row i that gains its solution number
+  pub options : List (ℕ × Bool)  -- what is judged right after 3, of what is chosen for the whole solve
   pub opens : ℕ → Bool  -- row i passes the opening test, refusal 5
   pub lent : List (ℕ × Bool)  -- what is judged, after 6, of numbers that are lent to this kind of solve alone
   pub validFirst : Bool  -- every row passes 7 before any is judged by 8 and 9; otherwise 7 to 9 run row by row
@@ -35,12 +35,23 @@ positionProblem t tolerance = record {
   tolerance = tolerance;
   start = errorStart t;
   accumulated = multipliers t;
+  options = [];
   opens = positionOpens t;
   lent = [];
   validFirst = false;
   factorFirst = false;
 }
 
--- read out of the lent lists, with the tolerance of each row's dimension
-abbrev pub positionOf : ℕ → ℕ → List Float → List ℕ → List Float → JointTolerance → Problem
-positionOf rows bodies numbers words masses tolerance = let t = tableOf rows bodies numbers words masses in positionProblem t (byDimension tolerance t)
+-- with tests right after 3
+abbrev pub withOptions : List (ℕ × Bool) → Problem → Problem
+withOptions tests p = record {
+  table = p .table;
+  tolerance = p .tolerance;
+  start = p .start;
+  accumulated = p .accumulated;
+  options = tests;
+  opens = p .opens;
+  lent = p .lent;
+  validFirst = p .validFirst;
+  factorFirst = p .factorFirst;
+}

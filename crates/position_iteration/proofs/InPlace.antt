@@ -1,8 +1,8 @@
 -- A solve refuses with the numbers of its places, each exactly there, and is accepted exactly where none turns it back. Assumes nothing.
 use Prim.Native.Nat.{_<_, ℕ}
 use mathlib.Core.Bool.{Bool, cond, false, not, true, false≢true}
-use mathlib.Core.List.{_++_}
-use mathlib.Core.Path.{_≡_, refl}
+use mathlib.Core.List.{List, [], _∷_, _++_}
+use mathlib.Core.Path.{_≡_, refl, ap, subst}
 use lib.Ieee.{Float}
 use Rattle.loops.specs.Numbers.{In, numbersOf, once, stands}
 use Rattle.loops.specs.Run.{Goes, Run, check, ended, going}
@@ -15,7 +15,8 @@ use Rattle.preconditioner.specs.Factor.{factorJudged}
 use Rattle.preconditioner.specs.declared.mode.Mode.{Mode}
 use Rattle.preconditioner.proofs.Numbers.{factor-numbers, z-numbers}
 use Rattle.recurrence.specs.Step.{Carried, Iterate}
-use Rattle.position.specs.Problem.{Problem, positionProblem}
+use Rattle.position.specs.Problem.{Problem}
+use Rattle.position_iteration.specs.Position.{shiftedProblem}
 use Rattle.position.specs.Prepare.{diagonals, diagonalsJudged, rowJudged, rowsJudged, validJudged}
 use Rattle.steps.specs.InPlace.{InPlace}
 use Rattle.steps.specs.Numbers.{Numbers, advancing, orderOf, renewing}
@@ -24,6 +25,12 @@ use Rattle.steps.proofs.InPlace as steps
 use Rattle.position_iteration.specs.Method.{beginOf, factorHere, firstOf, methodOf, openingOf, openingTests, ownerOf}
 use Rattle.position_iteration.specs.Places.{Apart, beginPlace, factorPlace, placesOf, positionPlaces}
 use Rattle.position_iteration.proofs.Parts.{advance-numbers, finish-numbers, first-numbers, renew-numbers}
+
+-- the numbers of tests that come after others
+numbers-after : (l a b : List (ℕ × Bool)) → numbersOf a ≡ numbersOf b → numbersOf (l ++ a) ≡ numbersOf (l ++ b)
+unfolding numbersOf
+numbers-after [] a b e = e
+numbers-after (t ∷ l) a b e = ap (λ (m : List ℕ). t .0 ∷ m) (numbers-after l a b e)
 
 -- ---- the numbers of step 0 and of what follows from it, with the factor before the count 0 test or after it
 abbrev Beginning : Bool → ℕ → Type 0
@@ -118,7 +125,7 @@ module _ (p : Problem) (mode : Mode) where
     -- whatever the tests answer, their numbers are the same
     opening-numbers : (limit n : ℕ) → openingOf fits p limit ≡ ended n → In n (placesOf p .opening)
     unfolding openingOf numbersOf
-    opening-numbers limit n h = judge-numbers (openingTests fits p limit) n h
+    opening-numbers limit n h = subst (λ (l : List ℕ). In n (3 ∷ l)) (numbers-after (p .options) _ _ refl) (judge-numbers (openingTests fits p limit) n h)
 
     -- each part refuses with the numbers of its place, if no number stands twice: those of `lent` are not named here
     pub problem-numbers : once (orderOf (placesOf p)) ≡ true → Numbers (methodOf fits p mode) (placesOf p)
@@ -150,12 +157,12 @@ module _ (p : Problem) (mode : Mode) where
       problem-not-zero = steps.refusal-not-zero (methodOf fits p mode) (placesOf p) limit problem-in-place (nought .0)
 
 -- ---- positions
-pub position-apart : (t : Table) (tolerance : ℕ → Float) → Apart (positionProblem t tolerance)
+pub position-apart : (t : Table) (tolerance : ℕ → Float) (shift : Float) → Apart (shiftedProblem t tolerance shift)
 unfolding once stands numbersOf
-position-apart t tolerance = record { each = refl }
+position-apart t tolerance shift = record { each = refl }
 
-module _ (fits : Bool) (t : Table) (tolerance : ℕ → Float) (mode : Mode) (limit : ℕ) where
+module _ (fits : Bool) (t : Table) (tolerance : ℕ → Float) (shift : Float) (mode : Mode) (limit : ℕ) where
   -- to be read beside document 01: the places are those of `positionPlaces`
-  pub position-in-place : InPlace (methodOf fits (positionProblem t tolerance) mode) positionPlaces limit
+  pub position-in-place : InPlace (methodOf fits (shiftedProblem t tolerance shift) mode) positionPlaces limit
   unfolding numbersOf
-  position-in-place = problem-in-place (positionProblem t tolerance) mode fits limit (position-apart t tolerance)
+  position-in-place = problem-in-place (shiftedProblem t tolerance shift) mode fits limit (position-apart t tolerance shift)

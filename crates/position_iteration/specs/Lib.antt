@@ -1,4 +1,5 @@
 pub mod Method
+pub mod Position
 pub mod Places
 pub mod Standing
 pub mod Stands

@@ -1,7 +1,7 @@
 -- The parts of a solve: document 01, "Flag, count and residuals". Everything is made from what it is given, the mode, and whether refusal 3 passes.
 use Prim.Native.Nat.{ℕ, zero, suc, _*_}
 use mathlib.Core.Bool.{Bool, not, _&&_, cond, true}
-use mathlib.Core.List.{List, [], _∷_}
+use mathlib.Core.List.{List, [], _∷_, _++_}
 use lib.Dec.{eqb}
 use lib.ListN.{getD}
 use lib.Ieee.{Float, nan, binary64, add}
@@ -43,7 +43,7 @@ tableTests t opens lent limit = (4, passes4 t) ∷ ((5, passes5 (t .rows) opens 
 
 -- fits is whether 3 passes
 abbrev pub openingTests : Bool → Problem → ℕ → List (ℕ × Bool)
-openingTests fits p limit = (3, fits) ∷ tableTests (p .table) (p .opens) (p .lent) limit
+openingTests fits p limit = (3, fits) ∷ (p .options ++ tableTests (p .table) (p .opens) (p .lent) limit)
 
 unfoldable pub openingOf : Bool → Problem → ℕ → Run Unit ℕ
 openingOf fits p limit = judge (openingTests fits p limit)

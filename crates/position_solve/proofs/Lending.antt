@@ -10,7 +10,7 @@ use lib.Ieee.{Float}
 use lib.Seq.{length-take-le}
 use borrow.Author.Tests.{leb-true, eq-eqb, not-false}
 use Rattle.loops.proofs.Both.{both}
-use Rattle.preconditioner.specs.Mode.{modeOf}
+use Rattle.preconditioner.specs.Mode.{roomMode}
 use Rattle.preconditioner.specs.declared.mode.Mode.{Mode}
 use Rattle.position.specs.Problem.{Problem}
 use Rattle.position_iteration.specs.Method.{methodOf}
@@ -39,7 +39,7 @@ counts-within n b mode numbers words masses solution impulses h =
 module _ (N B : ℕ) {n b mode : ℕ} {pattern order : List ℕ} {values : List Float} (h : (n ≤ N) × (b ≤ B)) (f : FactorRoom mode n (length pattern) (length order) (length values)) where
   pub lent-room : (j : List Float) (l : List ℕ) (t d r p x y i : List Float)
       → length j ≡ 12 * N → length l ≡ 2 * N → length t ≡ N → length d ≡ N → length r ≡ N → length p ≡ N → length x ≡ N → length y ≡ N → length i ≡ 6 * B
-      → WorkRoom (modeOf mode) n b (workMemory (take (12 * n) j) (take (2 * n) l) (take n t) (take n d) (take n r) (take n p) (take n x) (take n y) (take (6 * b) i) pattern order values)
+      → WorkRoom (roomMode mode) n b (workMemory (take (12 * n) j) (take (2 * n) l) (take n t) (take n d) (take n r) (take n p) (take n x) (take n y) (take (6 * b) i) pattern order values)
   lent-room j l t d r p x y i ej el et ed er ep ex ey ei =
       let row : (v : List Float) → length v ≡ N → length (take n v) ≡ n = λ v e. length-take-le n v (omega arith) in
       record {
@@ -48,7 +48,7 @@ module _ (N B : ℕ) {n b mode : ℕ} {pattern order : List ℕ} {values : List 
       }
 
 module _ (n b mode : ℕ) (numbers : List Float) (words : List ℕ) (masses solution impulses : List Float) (w : WorkMemory)
-    (h : jobFits n b mode (length numbers) (length words) (length masses) (length solution) (length impulses) ≡ true) (r : WorkRoom (modeOf mode) n b w) where
+    (h : jobFits n b mode (length numbers) (length words) (length masses) (length solution) (length impulses) ≡ true) (r : WorkRoom (roomMode mode) n b w) where
   fits-too : passes3 n b mode numbers words masses solution impulses w ≡ true
   unfolding jobFits passes3 vectorsFit factorFits
   fits-too =

@@ -7,7 +7,8 @@ use native.Mathlib.Omega.{arith}
 use lib.Dec.{ltb}
 use borrow.Author.Tests.{ltb-true}
 use Rattle.pairs.specs.Pairs.{pairLimit, pairRoom}
-use Rattle.preconditioner.specs.Mode.{modeOf}
+use Rattle.preconditioner.specs.Mode.{modeOf, roomMode}
+use Rattle.loops.specs.Cleared.{plusZero}
 use Rattle.preconditioner.specs.Room.{patternRoom, orderRoom, valuesRoom}
 use Rattle.preconditioner.specs.declared.mode.Mode.{Mode}
 use Rattle.preconditioner.specs.declared.mode.Mode.the-variants as modes
@@ -30,15 +31,15 @@ pairs-small n h =
 
 -- ---- what at most N rows and P pairs call for
 module _ (n N P : ℕ) (h : n ≤ N) (p : pairRoom n ≤ P) where
-  pub pattern-within : patternRoom modes.IncompleteCholesky n ≤ N + 1 + P
+  pub pattern-within : patternRoom (modes.IncompleteCholesky plusZero) n ≤ N + 1 + P
   unfolding patternRoom
   pattern-within = omega arith
 
-  pub order-within : orderRoom modes.IncompleteCholesky n ≤ N + 2 * P
+  pub order-within : orderRoom (modes.IncompleteCholesky plusZero) n ≤ N + 2 * P
   unfolding orderRoom
   order-within = omega arith
 
-  pub values-within : valuesRoom modes.IncompleteCholesky n ≤ P
+  pub values-within : valuesRoom (modes.IncompleteCholesky plusZero) n ≤ P
   unfolding valuesRoom
   values-within = p
 
@@ -52,19 +53,19 @@ module _ (n N : ℕ) (h : n ≤ N) where
   blocks-within = omega arith
 
 -- ---- the mode's memory
-mode-0 : (mode : ℕ) → mode ≡ 0 → modes.Diagonal ≡ modeOf mode
+mode-0 : (mode : ℕ) → mode ≡ 0 → modes.Diagonal ≡ roomMode mode
 unfolding modeOf
 mode-0 mode e = rw e
 
-pub mode-1 : (mode : ℕ) → mode ≡ 1 → modes.IncompleteCholesky ≡ modeOf mode
+pub mode-1 : (mode : ℕ) → mode ≡ 1 → modes.IncompleteCholesky plusZero ≡ roomMode mode
 unfolding modeOf
 mode-1 mode e = rw e
 
-pub mode-2 : (mode : ℕ) → mode ≡ 2 → modes.BlockJacobi ≡ modeOf mode
+pub mode-2 : (mode : ℕ) → mode ≡ 2 → modes.BlockJacobi ≡ roomMode mode
 unfolding modeOf
 mode-2 mode e = rw e
 
-pub factor-room : {n mode pattern order values : ℕ} {k : Mode} → k ≡ modeOf mode → pattern ≡ patternRoom k n → order ≡ orderRoom k n → values ≡ valuesRoom k n → FactorRoom mode n pattern order values
+pub factor-room : {n mode pattern order values : ℕ} {k : Mode} → k ≡ roomMode mode → pattern ≡ patternRoom k n → order ≡ orderRoom k n → values ≡ valuesRoom k n → FactorRoom mode n pattern order values
 factor-room e p o v = record { pattern-long = rw e at p; order-long = rw e at o; values-long = rw e at v }
 
 pub no-order : (n : ℕ) → 0 ≡ orderRoom modes.BlockJacobi n

@@ -2,7 +2,7 @@
 use Prim.Native.Nat.{ℕ}
 use mathlib.Core.Path.{_≡_}
 use mathlib.Core.Bool.{Bool, _&&_}
-use Rattle.preconditioner.specs.Mode.{modeOf}
+use Rattle.preconditioner.specs.Mode.{roomMode}
 use Rattle.preconditioner.specs.Room.{patternRoom, orderRoom, valuesRoom}
 use Rattle.preconditioner.specs.declared.mode.Mode.{Mode}
 use Rattle.steps.specs.Solve.{solve}
@@ -27,6 +27,6 @@ pub record JobSolved (fits : Bool) (p : Problem) (mode : Mode) (limit n : ℕ) (
 
 -- the factor's memory is as long as the mode calls for
 pub record FactorRoom (mode n pattern order values : ℕ) : Type 0 where
-  pub pattern-long : pattern ≡ patternRoom (modeOf mode) n
-  pub order-long : order ≡ orderRoom (modeOf mode) n
-  pub values-long : values ≡ valuesRoom (modeOf mode) n
+  pub pattern-long : pattern ≡ patternRoom (roomMode mode) n
+  pub order-long : order ≡ orderRoom (roomMode mode) n
+  pub values-long : values ≡ valuesRoom (roomMode mode) n

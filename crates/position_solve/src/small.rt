@@ -4,7 +4,7 @@ ghost use mathlib.Core.Bool.{true};
 ghost use Prim.Native.Nat.{_≤_};
 ghost use lib.ListN.{length};
 ghost use Rattle.preconditioner.specs.Mode.{modeOf};
-ghost use Rattle.position.specs.Problem.{positionOf};
+ghost use Rattle.position_iteration.specs.Position.{positionOf};
 ghost use Rattle.position_solve.specs.Job.{jobFits, JobSolved, FactorRoom};
 use crate::fit::job_fits;
 use kapitsa_joint::JointTolerance;
@@ -25,6 +25,7 @@ fn with_vectors(
     tolerance: JointTolerance,
     limit: u32,
     mode: u32,
+    shift: f64,
     solution: &mut [f64],
     impulses: &mut [f64],
     pattern: &mut [u32],
@@ -34,7 +35,7 @@ fn with_vectors(
     requires { ⌜ jobFits rows bodies mode (length (now numbers)) (length (now words)) (length (now masses)) (length (now solution)) (length (now impulses)) ≡ true ⌝ }
     requires { ⌜ (rows ≤ 128) × (bodies ≤ 64) ⌝ }
     requires { ⌜ FactorRoom mode rows (length (now pattern)) (length (now order)) (length (now values)) ⌝ }
-    ensures { λ r. ⌜ JobSolved true (positionOf rows bodies (now (numbers .entry)) (now (words .entry)) (now (masses .entry)) tolerance) (modeOf mode) limit rows record { numbers = now (numbers .entry); solution = now (solution .entry); impulses = now (impulses .entry) } record { numbers = now (numbers .exit); solution = now (solution .exit); impulses = now (impulses .exit) } r ⌝ }
+    ensures { λ r. ⌜ JobSolved true (positionOf rows bodies (now (numbers .entry)) (now (words .entry)) (now (masses .entry)) tolerance shift) (modeOf mode shift) limit rows record { numbers = now (numbers .entry); solution = now (solution .entry); impulses = now (impulses .entry) } record { numbers = now (numbers .exit); solution = now (solution .exit); impulses = now (impulses .exit) } r ⌝ }
 {
     let mut jacobians: [f64; 1536] = [0.0; 1536];
     let mut links: [u32; 256] = [0; 256];
@@ -59,6 +60,7 @@ fn with_vectors(
         tolerance,
         limit,
         mode,
+        shift,
         solution,
         impulses,
         &mut jacobians[..jacobian_numbers],
@@ -86,20 +88,21 @@ fn with_factor(
     tolerance: JointTolerance,
     limit: u32,
     mode: u32,
+    shift: f64,
     solution: &mut [f64],
     impulses: &mut [f64],
 ) -> PositionPcg
     requires { ⌜ jobFits rows bodies mode (length (now numbers)) (length (now words)) (length (now masses)) (length (now solution)) (length (now impulses)) ≡ true ⌝ }
     requires { ⌜ (rows ≤ 128) × (bodies ≤ 64) ⌝ }
     requires { ⌜ mode ≡ 1 ⌝ }
-    ensures { λ r. ⌜ JobSolved true (positionOf rows bodies (now (numbers .entry)) (now (words .entry)) (now (masses .entry)) tolerance) (modeOf mode) limit rows record { numbers = now (numbers .entry); solution = now (solution .entry); impulses = now (impulses .entry) } record { numbers = now (numbers .exit); solution = now (solution .exit); impulses = now (impulses .exit) } r ⌝ }
+    ensures { λ r. ⌜ JobSolved true (positionOf rows bodies (now (numbers .entry)) (now (words .entry)) (now (masses .entry)) tolerance shift) (modeOf mode shift) limit rows record { numbers = now (numbers .entry); solution = now (solution .entry); impulses = now (impulses .entry) } record { numbers = now (numbers .exit); solution = now (solution .exit); impulses = now (impulses .exit) } r ⌝ }
 {
     let mut pattern: [u32; 8257] = [0; 8257];
     let mut order: [u32; 16384] = [0; 16384];
     let mut values: [f64; 8128] = [0.0; 8128];
-    let pattern_words = pattern_room(Mode::IncompleteCholesky, rows);
-    let order_words = order_room(Mode::IncompleteCholesky, rows);
-    let value_numbers = values_room(Mode::IncompleteCholesky, rows);
+    let pattern_words = pattern_room(Mode::IncompleteCholesky(0.0), rows);
+    let order_words = order_room(Mode::IncompleteCholesky(0.0), rows);
+    let value_numbers = values_room(Mode::IncompleteCholesky(0.0), rows);
     with_vectors(
         numbers,
         words,
@@ -109,6 +112,7 @@ fn with_factor(
         tolerance,
         limit,
         mode,
+        shift,
         solution,
         impulses,
         &mut pattern[..pattern_words],
@@ -127,13 +131,14 @@ fn with_blocks(
     tolerance: JointTolerance,
     limit: u32,
     mode: u32,
+    shift: f64,
     solution: &mut [f64],
     impulses: &mut [f64],
 ) -> PositionPcg
     requires { ⌜ jobFits rows bodies mode (length (now numbers)) (length (now words)) (length (now masses)) (length (now solution)) (length (now impulses)) ≡ true ⌝ }
     requires { ⌜ (rows ≤ 128) × (bodies ≤ 64) ⌝ }
     requires { ⌜ mode ≡ 2 ⌝ }
-    ensures { λ r. ⌜ JobSolved true (positionOf rows bodies (now (numbers .entry)) (now (words .entry)) (now (masses .entry)) tolerance) (modeOf mode) limit rows record { numbers = now (numbers .entry); solution = now (solution .entry); impulses = now (impulses .entry) } record { numbers = now (numbers .exit); solution = now (solution .exit); impulses = now (impulses .exit) } r ⌝ }
+    ensures { λ r. ⌜ JobSolved true (positionOf rows bodies (now (numbers .entry)) (now (words .entry)) (now (masses .entry)) tolerance shift) (modeOf mode shift) limit rows record { numbers = now (numbers .entry); solution = now (solution .entry); impulses = now (impulses .entry) } record { numbers = now (numbers .exit); solution = now (solution .exit); impulses = now (impulses .exit) } r ⌝ }
 {
     let mut pattern: [u32; 128] = [0; 128];
     let mut order: [u32; 0] = [0; 0];
@@ -149,6 +154,7 @@ fn with_blocks(
         tolerance,
         limit,
         mode,
+        shift,
         solution,
         impulses,
         &mut pattern[..pattern_words],
@@ -167,13 +173,14 @@ fn with_diagonal(
     tolerance: JointTolerance,
     limit: u32,
     mode: u32,
+    shift: f64,
     solution: &mut [f64],
     impulses: &mut [f64],
 ) -> PositionPcg
     requires { ⌜ jobFits rows bodies mode (length (now numbers)) (length (now words)) (length (now masses)) (length (now solution)) (length (now impulses)) ≡ true ⌝ }
     requires { ⌜ (rows ≤ 128) × (bodies ≤ 64) ⌝ }
     requires { ⌜ mode ≡ 0 ⌝ }
-    ensures { λ r. ⌜ JobSolved true (positionOf rows bodies (now (numbers .entry)) (now (words .entry)) (now (masses .entry)) tolerance) (modeOf mode) limit rows record { numbers = now (numbers .entry); solution = now (solution .entry); impulses = now (impulses .entry) } record { numbers = now (numbers .exit); solution = now (solution .exit); impulses = now (impulses .exit) } r ⌝ }
+    ensures { λ r. ⌜ JobSolved true (positionOf rows bodies (now (numbers .entry)) (now (words .entry)) (now (masses .entry)) tolerance shift) (modeOf mode shift) limit rows record { numbers = now (numbers .entry); solution = now (solution .entry); impulses = now (impulses .entry) } record { numbers = now (numbers .exit); solution = now (solution .exit); impulses = now (impulses .exit) } r ⌝ }
 {
     let mut pattern: [u32; 0] = [0; 0];
     let mut order: [u32; 0] = [0; 0];
@@ -187,6 +194,7 @@ fn with_diagonal(
         tolerance,
         limit,
         mode,
+        shift,
         solution,
         impulses,
         &mut pattern,
@@ -205,11 +213,12 @@ pub fn solve_small_position(
     tolerance: JointTolerance,
     limit: u32,
     mode: u32,
+    shift: f64,
     solution: &mut [f64],
     impulses: &mut [f64],
 ) -> PositionPcg
     requires { ⌜ (rows ≤ 128) × (bodies ≤ 64) ⌝ }
-    ensures { λ r. ⌜ JobSolved (jobFits rows bodies mode (length (now (numbers .entry))) (length (now (words .entry))) (length (now (masses .entry))) (length (now (solution .entry))) (length (now (impulses .entry)))) (positionOf rows bodies (now (numbers .entry)) (now (words .entry)) (now (masses .entry)) tolerance) (modeOf mode) limit rows record { numbers = now (numbers .entry); solution = now (solution .entry); impulses = now (impulses .entry) } record { numbers = now (numbers .exit); solution = now (solution .exit); impulses = now (impulses .exit) } r ⌝ }
+    ensures { λ r. ⌜ JobSolved (jobFits rows bodies mode (length (now (numbers .entry))) (length (now (words .entry))) (length (now (masses .entry))) (length (now (solution .entry))) (length (now (impulses .entry)))) (positionOf rows bodies (now (numbers .entry)) (now (words .entry)) (now (masses .entry)) tolerance shift) (modeOf mode shift) limit rows record { numbers = now (numbers .entry); solution = now (solution .entry); impulses = now (impulses .entry) } record { numbers = now (numbers .exit); solution = now (solution .exit); impulses = now (impulses .exit) } r ⌝ }
 {
     if !job_fits(
         rows,
@@ -233,6 +242,7 @@ pub fn solve_small_position(
             tolerance,
             limit,
             mode,
+            shift,
             solution,
             impulses,
         );
@@ -247,6 +257,7 @@ pub fn solve_small_position(
             tolerance,
             limit,
             mode,
+            shift,
             solution,
             impulses,
         );
@@ -260,6 +271,7 @@ pub fn solve_small_position(
         tolerance,
         limit,
         mode,
+        shift,
         solution,
         impulses,
     )

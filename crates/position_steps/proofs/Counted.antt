@@ -19,7 +19,8 @@ use Rattle.preconditioner.specs.Room.{Memory, Roomy}
 use Rattle.preconditioner.specs.Held.{jointsIn}
 use Rattle.preconditioner.specs.declared.mode.Mode.{Mode}
 use Rattle.recurrence.specs.Step.{Iterate, Carried}
-use Rattle.position.specs.Problem.{Problem, positionProblem}
+use Rattle.position.specs.Problem.{Problem}
+use Rattle.position_iteration.specs.Position.{shiftedProblem}
 use Rattle.position.specs.Prepare.{rowsJudged, diagonals}
 use Rattle.position.specs.Residual.{meetsOf}
 use Rattle.position.specs.declared.prepare.Begun.{Begun}
@@ -48,9 +49,9 @@ module _ (p : Problem) (mode : Mode) (limit : ℕ) where
   following = followingOf mode (systemOf (p .table)) (ownerOf (p .table)) (diagonals (p .table)) (p .tolerance) limit
 
 -- of positions no factor stands before the count 0 test
-module _ (t : Table) (tolerance : ℕ → Float) (mode : Mode) (limit : ℕ) where
+module _ (t : Table) (tolerance : ℕ → Float) (shift : Float) (mode : Mode) (limit : ℕ) where
   abbrev p : Problem
-  p = positionProblem t tolerance
+  p = shiftedProblem t tolerance shift
 
   begins : beginOf p mode ≡ stepZeroOf p
   unfolding beginOf stepZeroOf factorHere check
@@ -79,12 +80,12 @@ pub start-roomy : (mode : Mode) (n : ℕ) (m : Memory) (diagonal : List Float) �
 start-roomy mode n m diagonal r e = record { diagonal-long = e ∙ r .diagonal-long; pattern-long = r .pattern-long; order-long = r .order-long; values-long = r .values-long }
 
 -- ---- `count_steps`
-module _ (numbers : List Float) (words : List ℕ) (masses : List Float) (rows bodies : ℕ) (tolerance : JointTolerance) (limit : ℕ) (mode : Mode) (a : Begun) (jacobians : List Float) (links : List ℕ) (tolerances diagonal pending residual : List Float) where
+module _ (numbers : List Float) (words : List ℕ) (masses : List Float) (rows bodies : ℕ) (tolerance : JointTolerance) (limit : ℕ) (shift : Float) (mode : Mode) (a : Begun) (jacobians : List Float) (links : List ℕ) (tolerances diagonal pending residual : List Float) where
   abbrev table : Table
   table = tableOf rows bodies numbers words masses
 
   abbrev problem : Problem
-  problem = positionProblem table (byDimension tolerance table)
+  problem = shiftedProblem table (byDimension tolerance table) shift
 
   abbrev code : ℕ → Iterate → Run (Bool × ℕ × Iterate) ℕ
   code w = followingOf mode (compactSystem rows w jacobians links masses) (jointsIn words) diagonal (tolerancesIn tolerances) limit
@@ -106,7 +107,7 @@ module _ (numbers : List Float) (words : List ℕ) (masses : List Float) (rows b
     follows (begun.Refused k) e = on-ended _ _ _ refl ∙ sym (on-ended _ _ _ refl)
 
     answers : countedOf mode problem limit ≡ iteratedOut o limit x r
-    answers = in-turn table (byDimension tolerance table) mode limit ∙ ap (λ (q : Run Iterate ℕ). next q (following problem mode limit)) (held .answered) ∙ follows a refl ∙ here
+    answers = in-turn table (byDimension tolerance table) shift mode limit ∙ ap (λ (q : Run Iterate ℕ). next q (following problem mode limit)) (held .answered) ∙ follows a refl ∙ here
 
     -- where the answer is no refusal, step 0 was none
     stands : (q : Begun) → a ≡ q → (p : Bool × ℕ × Iterate) → iteratedOut o limit x r ≡ going p → Stands table masses jacobians links

@@ -2,7 +2,7 @@
 ghost use mathlib.Core.Path.{_≡_};
 ghost use Prim.Native.Nat.{_*_, _≤_};
 ghost use lib.ListN.{length};
-ghost use Rattle.position.specs.Problem.{positionOf};
+ghost use Rattle.position_iteration.specs.Position.{positionOf};
 ghost use Rattle.position_steps.specs.Start.{StartHeld, StartFree};
 use crate::opening::Opened;
 use crate::opening::open_table;
@@ -21,6 +21,7 @@ pub fn start(
     bodies: u32,
     tolerance: JointTolerance,
     limit: u32,
+    shift: f64,
     jacobians: &mut [f64],
     links: &mut [u32],
     tolerances: &mut [f64],
@@ -30,11 +31,11 @@ pub fn start(
 ) -> Begun
     requires { ⌜ (length (now numbers) ≡ 27 * rows) × (length (now words) ≡ 8 * rows) × (10 * bodies ≤ length (now masses)) ⌝ }
     requires { ⌜ (length (now jacobians) ≡ 12 * rows) × (length (now links) ≡ 2 * rows) × (length (now tolerances) ≡ rows) × (length (now diagonal) ≡ rows) × (length (now pending) ≡ rows) × (length (now residual) ≡ rows) ⌝ }
-    ensures { λ r. ⌜ StartHeld (positionOf rows bodies (now (numbers .entry)) (now (words .entry)) (now (masses .entry)) tolerance) limit (now (masses .entry)) r
+    ensures { λ r. ⌜ StartHeld (positionOf rows bodies (now (numbers .entry)) (now (words .entry)) (now (masses .entry)) tolerance shift) limit (now (masses .entry)) r
         (now (jacobians .exit)) (now (links .exit)) (now (tolerances .exit)) (now (diagonal .exit)) (now (pending .exit)) (now (residual .exit)) ⌝ }
     ensures { λ _. ⌜ StartFree (now (jacobians .entry)) (now (links .entry)) (now (tolerances .entry)) (now (diagonal .entry)) (now (pending .entry)) (now (residual .entry)) (now (jacobians .exit)) (now (links .exit)) (now (tolerances .exit)) (now (diagonal .exit)) (now (pending .exit)) (now (residual .exit)) ⌝ }
 {
-    match open_table(numbers, words, masses, rows, bodies, limit) {
+    match open_table(numbers, words, masses, rows, bodies, limit, shift) {
         Opened::Done => {}
         Opened::Refused(number) => {
             return Begun::Refused(number);

@@ -1,5 +1,5 @@
 // From what is judged before step 0 to the step that is counted: prepare, the count 0 test, factor, steps.
-ghost use Rattle.position.specs.Problem.{positionOf};
+ghost use Rattle.position_iteration.specs.Position.{positionOf};
 ghost use Rattle.work_memory.specs.Work.{stepMemory, tableMemory, workMemory};
 ghost use Rattle.work_memory.specs.Lengths.{RowsRoom, WorkRoom};
 ghost use Rattle.position_steps.specs.Counting.{CountHeld, CountFree};
@@ -21,6 +21,7 @@ pub fn count_steps(
     tolerance: JointTolerance,
     limit: u32,
     mode: Mode,
+    shift: f64,
     jacobians: &mut [f64],
     links: &mut [u32],
     tolerances: &mut [f64],
@@ -36,7 +37,7 @@ pub fn count_steps(
 ) -> Iterated
     requires { ⌜ RowsRoom rows bodies (now numbers) (now words) (now masses) ⌝ }
     requires { ⌜ WorkRoom mode rows bodies (workMemory (now jacobians) (now links) (now tolerances) (now diagonal) (now residual) (now pending) (now direction) (now product) (now «body_impulses») (now pattern) (now order) (now values)) ⌝ }
-    ensures { λ r. ⌜ CountHeld mode (positionOf rows bodies (now (numbers .entry)) (now (words .entry)) (now (masses .entry)) tolerance) limit (now (masses .entry)) r (now (jacobians .exit)) (now (links .exit)) (now (pending .exit)) (now (residual .exit))
+    ensures { λ r. ⌜ CountHeld mode (positionOf rows bodies (now (numbers .entry)) (now (words .entry)) (now (masses .entry)) tolerance shift) limit (now (masses .entry)) r (now (jacobians .exit)) (now (links .exit)) (now (pending .exit)) (now (residual .exit))
         (stepMemory (now (tolerances .entry)) (now (diagonal .entry)) (now (direction .entry)) (now (product .entry)) (now (pattern .entry)) (now (order .entry)) (now (values .entry)))
         (stepMemory (now (tolerances .exit)) (now (diagonal .exit)) (now (direction .exit)) (now (product .exit)) (now (pattern .exit)) (now (order .exit)) (now (values .exit))) ⌝ }
     ensures { λ _. ⌜ CountFree (tableMemory (now (jacobians .entry)) (now (links .entry)) (now (residual .entry)) (now (pending .entry)) (now («body_impulses» .entry))) (tableMemory (now (jacobians .exit)) (now (links .exit)) (now (residual .exit)) (now (pending .exit)) (now («body_impulses» .exit))) ⌝ }
@@ -49,6 +50,7 @@ pub fn count_steps(
         bodies,
         tolerance,
         limit,
+        shift,
         jacobians,
         links,
         tolerances,

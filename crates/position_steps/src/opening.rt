@@ -1,6 +1,6 @@
-// Refusals 4, 5 and 6, before step 0.
+// Refusals 25, 4, 5 and 6, before step 0.
 ghost use mathlib.Core.Path.{_≡_};
-ghost use mathlib.Core.List.{[]};
+ghost use mathlib.Core.List.{[], _∷_};
 ghost use Prim.Native.Nat.{_+_, _*_, _≤_};
 ghost use lib.ListN.{length};
 ghost use Rattle.loops.specs.Judge.{judge};
@@ -9,11 +9,13 @@ ghost use Rattle.kapitsa_joint.specs.Table.{tableOf};
 ghost use Rattle.joint_refusals.specs.Refusals.{opensOf};
 ghost use Rattle.position.specs.Problem.{positionOpens};
 ghost use Rattle.position_iteration.specs.Method.{passes5, tableTests};
+ghost use Rattle.preconditioner.specs.Shift.{passes25};
 ghost use Rattle.position_steps.specs.Opening.{openedOut};
 use joint_refusals::masses_finite;
 use joint_refusals::rows_open;
 use joint_refusals::words_fit;
 use loops::wide;
+use preconditioner::shift_fits;
 
 pub enum Opened {
     Done,
@@ -41,10 +43,14 @@ pub fn open_table(
     rows: u32,
     bodies: u32,
     limit: u32,
+    shift: f64,
 ) -> Opened
     requires { ⌜ (27 * rows ≤ length (now numbers)) × (8 * rows ≤ length (now words)) × (10 * bodies ≤ length (now masses)) ⌝ }
-    ensures { λ r. ⌜ judge (tableTests (tableOf rows bodies (now (numbers .entry)) (now (words .entry)) (now (masses .entry))) (positionOpens (tableOf rows bodies (now (numbers .entry)) (now (words .entry)) (now (masses .entry)))) [] limit) ≡ openedOut r ⌝ }
+    ensures { λ r. ⌜ judge ((25, passes25 shift) ∷ tableTests (tableOf rows bodies (now (numbers .entry)) (now (words .entry)) (now (masses .entry))) (positionOpens (tableOf rows bodies (now (numbers .entry)) (now (words .entry)) (now (masses .entry)))) [] limit) ≡ openedOut r ⌝ }
 {
+    if !shift_fits(shift) {
+        return Opened::Refused(25);
+    }
     if !words_fit(words, wide(rows)) {
         return Opened::Refused(4);
     }

@@ -3,3 +3,5 @@ pub mod Applies
 pub mod Modes
 pub mod Means
 pub mod Numbers
+pub mod InPlace
+pub mod Shifted

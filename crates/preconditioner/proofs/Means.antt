@@ -29,6 +29,7 @@ use Rattle.preconditioner.specs.Factor.{blockAt, blockJudged, factorJudg
 use Rattle.preconditioner.specs.Apply.{diagonalSolveOf, blockNumbers, preconditioned, preconditionedRun}
 use Rattle.preconditioner.specs.Room.{Memory, Roomy, patternRoom, orderRoom, valuesRoom}
 use Rattle.preconditioner.specs.Held.{factorIn, Ready, Holds, holds-diagonal, holds-factor, holds-blocks, FactorBuilt, built-diagonal, built-factor, built-blocks, preparedOut, factorPrepared, blocksPrepared, zIn}
+use Rattle.preconditioner.specs.Shift.{shifted}
 use Rattle.preconditioner.specs.declared.mode.Mode.{Mode}
 use Rattle.preconditioner.specs.declared.mode.Mode.the-variants as modes
 use Rattle.preconditioner.specs.declared.apply.Preconditioner.{Preconditioner}
@@ -70,9 +71,9 @@ module _ (s : System) (owner : ℕ → ℕ) (l : List Float) where
 
 -- ---- what is built: judged as the definition says, and there where it is not refused
 module _ (s : System) (owner : ℕ → ℕ) (before after : Memory) where
-  factor-answered : (a : Built) → choleskyRun s (before .diagonal) ≡ buildOut a (factorIn (s .rows) after) (after .diagonal) → next (choleskyRun s (before .diagonal)) (λ _. going tt) ≡ preparedOut (factorPrepared a)
-  factor-answered (factors.Done count) e = on-going _ _ _ e
-  factor-answered (factors.Refused n) e = on-ended _ _ _ e
+  factor-answered : (shift : Float) (a : Built) → choleskyRun s (shifted shift (before .diagonal)) ≡ buildOut a (factorIn (s .rows) after) (after .diagonal) → next (choleskyRun s (shifted shift (before .diagonal))) (λ _. going tt) ≡ preparedOut (factorPrepared a)
+  factor-answered shift (factors.Done count) e = on-going _ _ _ e
+  factor-answered shift (factors.Refused n) e = on-ended _ _ _ e
 
   blocks-answered : (a : Blocked) → blocksRun s owner (before .values) ≡ blockedOut a (after .values) → judged (blockJudged s owner) (s .rows) ≡ preparedOut (blocksPrepared a)
   blocks-answered blocks.Done e = sym (blocks-judged s owner (before .values)) ∙ on-going _ _ _ e
@@ -81,16 +82,16 @@ module _ (s : System) (owner : ℕ → ℕ) (before after : Memory) where
   pub built-answered : (mode : Mode) (r : Prepared) → FactorBuilt s owner before after mode r → factorJudged mode s owner (before .diagonal) ≡ preparedOut r
   unfolding factorJudged
   built-answered modes.Diagonal (prepared.Done built.Diagonal) (built-diagonal e) = refl
-  built-answered modes.IncompleteCholesky r (built-factor a h _) = factor-answered a (h .answered)
+  built-answered (modes.IncompleteCholesky _) r (built-factor shift a h _) = factor-answered shift a (h .answered)
   built-answered modes.BlockJacobi r (built-blocks a e q) = blocks-answered a e
 
   module _ (p : Preconditioner) (joints : ownerIn (tabulate owner (s .rows)) ≡ owner) where
     unlike : {R : Type 0} (n : ℕ) → _≡_ {A = Prepared} (prepared.Refused n) (prepared.Done p) → R
     unlike n e = absurd (let z : _≡_ {A = ℕ} 0 1 = cc in omega arith)
 
-    factor-holds : (a : Built) → factorPrepared a ≡ prepared.Done p → choleskyRun s (before .diagonal) ≡ buildOut a (factorIn (s .rows) after) (after .diagonal) → Holds s owner (before .diagonal) after modes.IncompleteCholesky p
-    factor-holds (factors.Done count) e h = let z : built.IncompleteCholesky count ≡ p = cc in rw (← z) (holds-factor count h)
-    factor-holds (factors.Refused n) e h = unlike n e
+    factor-holds : (shift : Float) (a : Built) → factorPrepared a ≡ prepared.Done p → choleskyRun s (shifted shift (before .diagonal)) ≡ buildOut a (factorIn (s .rows) after) (after .diagonal) → Holds s owner (before .diagonal) after (modes.IncompleteCholesky shift) p
+    factor-holds shift (factors.Done count) e h = let z : built.IncompleteCholesky count ≡ p = cc in rw (← z) (holds-factor shift count h)
+    factor-holds shift (factors.Refused n) e h = unlike n e
 
     gathered : after ≡ record { diagonal = before .diagonal; pattern = tabulate owner (s .rows); order = before .order; values = after .values } → ownerIn (after .pattern) ≡ owner
     gathered q = ap (λ (m : Memory). ownerIn (m .pattern)) q ∙ joints
@@ -106,7 +107,7 @@ module _ (s : System) (owner : ℕ → ℕ) (before after : Memory) where
 
     pub built-holds : (mode : Mode) (r : Prepared) → r ≡ prepared.Done p → Roomy mode (s .rows) before → FactorBuilt s owner before after mode r → Holds s owner (before .diagonal) after mode p
     built-holds modes.Diagonal r e room (built-diagonal q) = let z : built.Diagonal ≡ p = cc in rw (← z) (holds-diagonal (ap (λ (m : Memory). m .diagonal) q))
-    built-holds modes.IncompleteCholesky r e room (built-factor a h _) = factor-holds a e (h .answered)
+    built-holds (modes.IncompleteCholesky _) r e room (built-factor shift a h _) = factor-holds shift a e (h .answered)
     built-holds modes.BlockJacobi r e room (built-blocks a h q) = blocks-hold a e h (gathered q) (block-room room)
 
     -- ---- the solves may be called with it; lent memory keeps its lengths
@@ -114,14 +115,14 @@ module _ (s : System) (owner : ℕ → ℕ) (before after : Memory) where
       diagonal-ready : (mode : Mode) → Roomy mode (s .rows) before → p ≡ built.Diagonal → Ready p (s .rows) after
       diagonal-ready mode room e = record { long = ed ∙ room .diagonal-long; factor = λ count q. absurd (let z : _≡_ {A = ℕ} 0 1 = cc in omega arith); blocks = λ q. absurd (let z : _≡_ {A = ℕ} 0 1 = cc in omega arith) }
 
-      factor-ready : (a : Built) → factorPrepared a ≡ prepared.Done p → Roomy modes.IncompleteCholesky (s .rows) before → ((count : ℕ) → a ≡ factors.Done count → Indexed (startsIn (s .rows) (after .pattern)) (columnsIn (s .rows) (after .pattern)) (after .order) (s .rows) count) → Ready p (s .rows) after
+      factor-ready : (shift : Float) (a : Built) → factorPrepared a ≡ prepared.Done p → Roomy (modes.IncompleteCholesky shift) (s .rows) before → ((count : ℕ) → a ≡ factors.Done count → Indexed (startsIn (s .rows) (after .pattern)) (columnsIn (s .rows) (after .pattern)) (after .order) (s .rows) count) → Ready p (s .rows) after
       unfolding patternRoom orderRoom valuesRoom
-      factor-ready (factors.Done c) e room h = record {
+      factor-ready shift (factors.Done c) e room h = record {
         long = ed ∙ room .diagonal-long;
         factor = λ count q. record { indexed = let z : c ≡ count = cc in rw (← z) (h c refl); pattern-long = omega (arith, ep, ev, room .pattern-long, room .values-long); order-long = omega (arith, eo, ev, room .order-long, room .values-long) };
         blocks = λ q. absurd (let z : _≡_ {A = ℕ} 0 1 = cc in omega arith);
       }
-      factor-ready (factors.Refused n) e room h = unlike n e
+      factor-ready shift (factors.Refused n) e room h = unlike n e
 
       blocks-ready : (a : Blocked) → blocksPrepared a ≡ prepared.Done p → Roomy modes.BlockJacobi (s .rows) before → blocksRun s owner (before .values) ≡ blockedOut a (after .values) → ownerIn (after .pattern) ≡ owner → Ready p (s .rows) after
       unfolding patternRoom valuesRoom
@@ -134,7 +135,7 @@ module _ (s : System) (owner : ℕ → ℕ) (before after : Memory) where
 
       pub built-ready : (mode : Mode) (r : Prepared) → r ≡ prepared.Done p → Roomy mode (s .rows) before → FactorBuilt s owner before after mode r → Ready p (s .rows) after
       built-ready modes.Diagonal r e room (built-diagonal q) = diagonal-ready modes.Diagonal room (let z : built.Diagonal ≡ p = cc in sym z)
-      built-ready modes.IncompleteCholesky r e room (built-factor a h _) = factor-ready a e room (h .indexed)
+      built-ready (modes.IncompleteCholesky _) r e room (built-factor shift a h _) = factor-ready shift a e room (h .indexed)
       built-ready modes.BlockJacobi r e room (built-blocks a h q) = blocks-ready a e room h (gathered q)
 
 -- ---- the blocks' solves read a block only where a run begins
@@ -169,7 +170,7 @@ module _ (s : System) (owner : ℕ → ℕ) (diagonal : List Float) (m : Memory)
   pub holds-same : (mode : Mode) (p : Preconditioner) → Holds s owner diagonal m mode p → zIn p (s .rows) m residual ≡ preconditioned mode s owner diagonal residual
   unfolding preconditioned preconditionedRun
   holds-same modes.Diagonal p (holds-diagonal e) = on-going _ _ _ refl ∙ rw e
-  holds-same modes.IncompleteCholesky p (holds-factor count h) = sym (on-going _ _ _ h)
+  holds-same (modes.IncompleteCholesky _) p (holds-factor shift count h) = sym (on-going _ _ _ h)
   holds-same modes.BlockJacobi p (holds-blocks o h) =
       ap (λ (f : ℕ → ℕ). orSixteen (blocksSolveRun (blockIn (m .values)) f residual (zeros (length residual)))) o
       ∙ sym (ap orSixteen (same-solves (λ i. blockNumbers (blockAt s owner i)) (blockIn (m .values)) owner residual (zeros (length residual)) (λ i l b. on-going _ _ _ (h i (rw (← long) l) b))))

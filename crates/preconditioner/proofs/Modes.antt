@@ -21,6 +21,7 @@ use Rattle.block_jacobi.specs.declared.build.Blocked.the-variants as blocks
 use Rattle.preconditioner.specs.Mode.{modeOf}
 use Rattle.preconditioner.specs.Room.{Memory, Roomy, patternRoom, orderRoom, valuesRoom}
 use Rattle.preconditioner.specs.Held.{FactorBuilt, built-diagonal, built-factor, built-blocks, factorPrepared, blocksPrepared, jointsIn}
+use Rattle.preconditioner.specs.Shift.{shifted}
 use Rattle.preconditioner.specs.declared.mode.Mode.{Mode}
 use Rattle.preconditioner.specs.declared.mode.Mode.the-variants as modes
 use Rattle.preconditioner.specs.declared.apply.Preconditioner.the-variants as built
@@ -28,19 +29,19 @@ use Rattle.preconditioner.specs.declared.prepare.Prepared.{Prepared}
 use Rattle.preconditioner.specs.declared.prepare.Prepared.the-variants as prepared
 
 -- ---- `mode_of`
-pub mode-zero : (word : ℕ) → word ≡ 0 → modes.Diagonal ≡ modeOf word
+pub mode-zero : (word : ℕ) (shift : Float) → word ≡ 0 → modes.Diagonal ≡ modeOf word shift
 unfolding modeOf
-mode-zero word e = rw e
+mode-zero word shift e = rw e
 
-pub mode-one : (word : ℕ) → word ≡ 1 → modes.IncompleteCholesky ≡ modeOf word
+pub mode-one : (word : ℕ) (shift : Float) → word ≡ 1 → modes.IncompleteCholesky shift ≡ modeOf word shift
 unfolding modeOf
-mode-one word e = rw e
+mode-one word shift e = rw e
 
-pub mode-more : (word : ℕ) → (word ≡ 0 → ⊥) → (word ≡ 1 → ⊥) → modes.BlockJacobi ≡ modeOf word
+pub mode-more : (word : ℕ) (shift : Float) → (word ≡ 0 → ⊥) → (word ≡ 1 → ⊥) → modes.BlockJacobi ≡ modeOf word shift
 unfolding modeOf
-mode-more zero h g = absurd (h refl)
-mode-more (suc zero) h g = absurd (g refl)
-mode-more (suc (suc n)) h g = refl
+mode-more zero shift h g = absurd (h refl)
+mode-more (suc zero) shift h g = absurd (g refl)
+mode-more (suc (suc n)) shift h g = refl
 
 -- ---- `factor_prepared`, `blocks_prepared`
 pub factor-done : (a : Built) (count : ℕ) → a ≡ factors.Done count → prepared.Done (built.IncompleteCholesky count) ≡ factorPrepared a
@@ -61,7 +62,7 @@ module _ (mode : Mode) (n : ℕ) where
   unfolding patternRoom orderRoom valuesRoom
   diagonal-rooms e = rw e (refl, refl, refl)
 
-  pub factor-rooms : mode ≡ modes.IncompleteCholesky → (n + 1 + pairRoom n ≡ patternRoom mode n) × (n + 2 * pairRoom n ≡ orderRoom mode n) × (pairRoom n ≡ valuesRoom mode n)
+  pub factor-rooms : {shift : Float} → mode ≡ modes.IncompleteCholesky shift → (n + 1 + pairRoom n ≡ patternRoom mode n) × (n + 2 * pairRoom n ≡ orderRoom mode n) × (pairRoom n ≡ valuesRoom mode n)
   unfolding patternRoom orderRoom valuesRoom
   factor-rooms e = rw e (refl, refl, refl)
 
@@ -69,9 +70,16 @@ module _ (mode : Mode) (n : ℕ) where
   unfolding patternRoom orderRoom valuesRoom
   block-rooms e = rw e (refl, refl, refl)
 
+-- the lengths do not depend on the shift
+pub rooms-shift : (word : ℕ) (a b : Float) (n : ℕ) → (patternRoom (modeOf word a) n ≡ patternRoom (modeOf word b) n) × (orderRoom (modeOf word a) n ≡ orderRoom (modeOf word b) n) × (valuesRoom (modeOf word a) n ≡ valuesRoom (modeOf word b) n)
+unfolding modeOf patternRoom orderRoom valuesRoom
+rooms-shift zero a b n = (refl, refl, refl)
+rooms-shift (suc zero) a b n = (refl, refl, refl)
+rooms-shift (suc (suc word)) a b n = (refl, refl, refl)
+
 -- ---- what a mode's build is lent
 module _ (mode : Mode) (n : ℕ) (m : Memory) (room : Roomy mode n m) where
-  pub factor-lent : mode ≡ modes.IncompleteCholesky → (length (m .diagonal) ≡ n) × (length (m .pattern) ≡ n + 1 + pairRoom n) × (length (m .order) ≡ n + 2 * pairRoom n) × (length (m .values) ≡ pairRoom n)
+  pub factor-lent : {shift : Float} → mode ≡ modes.IncompleteCholesky shift → (length (m .diagonal) ≡ n) × (length (m .pattern) ≡ n + 1 + pairRoom n) × (length (m .order) ≡ n + 2 * pairRoom n) × (length (m .values) ≡ pairRoom n)
   factor-lent e = let r = factor-rooms mode n e in (room .diagonal-long, room .pattern-long ∙ sym (r .0), room .order-long ∙ sym (r .1), room .values-long ∙ sym (r .2))
 
   pub blocks-lent : mode ≡ modes.BlockJacobi → (length (m .pattern) ≡ n) × (length (m .values) ≡ 36 * n)
@@ -82,10 +90,10 @@ module _ (s : System) (owner : ℕ → ℕ) (mode : Mode) (before : Memory) wher
   pub mode-diagonal : mode ≡ modes.Diagonal → FactorBuilt s owner before before mode (prepared.Done built.Diagonal)
   mode-diagonal e = rw e (built-diagonal refl)
 
-  pub mode-factor : (after : Memory) (a : Built) (r : Prepared) → mode ≡ modes.IncompleteCholesky
-      → FactorHeld s (before .diagonal) a (startsIn (s .rows) (after .pattern)) (columnsIn (s .rows) (after .pattern)) (before .order) (after .order) (before .values) (after .values) (after .diagonal)
+  pub mode-factor : (after : Memory) (a : Built) (r : Prepared) (shift : Float) {diagonal : List Float} → mode ≡ modes.IncompleteCholesky shift → diagonal ≡ shifted shift (before .diagonal)
+      → FactorHeld s diagonal a (startsIn (s .rows) (after .pattern)) (columnsIn (s .rows) (after .pattern)) (before .order) (after .order) (before .values) (after .values) (after .diagonal)
       → FactorPast (s .rows) (pairCount (patternOf s) (s .rows)) (before .pattern) (after .pattern) (before .order) (after .order) (before .values) (after .values) → r ≡ factorPrepared a → FactorBuilt s owner before after mode r
-  mode-factor after a r e h f t = rw (e, t) (built-factor a h f)
+  mode-factor after a r shift e d h f t = rw (e, t) (built-factor shift a (rw (← d) h) f)
 
 -- the joints of the rows are gathered, and the blocks built of as many rows as there are joints
 pub joints-are : (words : List ℕ) (n : ℕ) → length words ≡ 8 * n → ownerIn (tabulate (jointsIn words) n) ≡ jointsIn words

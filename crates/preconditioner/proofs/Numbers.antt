@@ -14,6 +14,7 @@ use Rattle.block_factor.specs.Blocks.{blockPivot, blockFactor, cellOf}
 use Rattle.block_factor.specs.Answers.{cellRun, blockColumnTurn, blockRowTurn, rowsRun, blockOf}
 use Rattle.preconditioner.specs.Factor.{blockAt, blockJudged, factorJudged}
 use Rattle.preconditioner.specs.Apply.{preconditioned}
+use Rattle.preconditioner.specs.Shift.{shifted}
 use Rattle.preconditioner.specs.declared.mode.Mode.{Mode}
 use Rattle.preconditioner.specs.declared.mode.Mode.the-variants as modes
 
@@ -44,7 +45,7 @@ module _ (P : ℕ → Type 0) (p10 : P 10) (p11 : P 11) (p12 : P 12) (p13 : P 13
   pub factor-numbers : (mode : Mode) (s : System) (owner : ℕ → ℕ) (diagonal : List Float) → Among P (factorJudged mode s owner diagonal)
   unfolding factorJudged blockJudged blockAt
   factor-numbers modes.Diagonal s owner diagonal = among-going P tt
-  factor-numbers modes.IncompleteCholesky s owner diagonal = among-next P _ _ (cholesky-numbers s diagonal) (λ _ _. among-going P tt)
+  factor-numbers (modes.IncompleteCholesky shift) s owner diagonal = among-next P _ _ (cholesky-numbers s (shifted shift diagonal)) (λ _ _. among-going P tt)
   factor-numbers modes.BlockJacobi s owner diagonal =
       among-judged P _ _ (λ i. among-check P _ _ _ (among-next P _ _ (block-numbers s i _) (λ _ _. among-going P tt)) (among-going P tt))
 
@@ -52,6 +53,6 @@ module _ (P : ℕ → Type 0) (p10 : P 10) (p11 : P 11) (p12 : P 12) (p13 : P 13
 pub z-numbers : (P : ℕ → Type 0) → P 16 → (mode : Mode) (s : System) (owner : ℕ → ℕ) (diagonal residual : List Float) → Goes (factorJudged mode s owner diagonal) → Among P (preconditioned mode s owner diagonal residual)
 unfolding factorJudged preconditioned
 z-numbers P p modes.Diagonal s owner diagonal residual g = among-going P _
-z-numbers P p modes.IncompleteCholesky s owner diagonal residual g =
-    let (f, e, _) = next-going (choleskyRun s diagonal) _ (g .0) .0 (g .1) in among-next P _ _ (λ n h. absurd (apart _ e h)) (λ _ _. among-answered P 16 _ p)
+z-numbers P p (modes.IncompleteCholesky shift) s owner diagonal residual g =
+    let (f, e, _) = next-going (choleskyRun s (shifted shift diagonal)) _ (g .0) .0 (g .1) in among-next P _ _ (λ n h. absurd (apart _ e h)) (λ _ _. among-answered P 16 _ p)
 z-numbers P p modes.BlockJacobi s owner diagonal residual g = among-answered P 16 _ p

@@ -12,6 +12,7 @@ use Rattle.loops.specs.Cleared.{zeros}
 use Rattle.incomplete_cholesky.specs.Build.{choleskyRun}
 use Rattle.block_jacobi.specs.Blocks.{blocksSolveRun}
 use Rattle.preconditioner.specs.Factor.{blockAt}
+use Rattle.preconditioner.specs.Shift.{shifted}
 use Rattle.preconditioner.specs.declared.mode.Mode.{Mode}
 use Rattle.preconditioner.specs.declared.mode.Mode.the-variants as modes
 use Rattle.preconditioner.specs.declared.apply.Preconditioner.{Preconditioner}
@@ -27,7 +28,7 @@ blockNumbers r = on r (λ l. l) (λ _. [])
 
 unfoldable pub preconditioned : Mode → System → (ℕ → ℕ) → List Float → List Float → Run (List Float) ℕ
 preconditioned modes.Diagonal s owner diagonal residual = going (diagonalSolveOf residual diagonal)
-preconditioned modes.IncompleteCholesky s owner diagonal residual = next (choleskyRun s diagonal) (λ f. orSixteen (solveRun (f .0) (f .1) residual (zeros (length residual))))
+preconditioned (modes.IncompleteCholesky shift) s owner diagonal residual = next (choleskyRun s (shifted shift diagonal)) (λ f. orSixteen (solveRun (f .0) (f .1) residual (zeros (length residual))))
 preconditioned modes.BlockJacobi s owner diagonal residual = orSixteen (blocksSolveRun (λ i. blockNumbers (blockAt s owner i)) owner residual (zeros (length residual)))
 
 -- the same by what was built: diagonal, L, block and owner are what the lent memory holds. A Run that has ended met 16, and carries the numbers as they then stand.

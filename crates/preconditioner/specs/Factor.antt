@@ -8,6 +8,7 @@ use Rattle.mass_operator.specs.System.{System}
 use Rattle.incomplete_cholesky.specs.Build.{choleskyRun}
 use Rattle.block_factor.specs.Answers.{blockOf}
 use Rattle.block_jacobi.specs.Runs.{begins, runLength}
+use Rattle.preconditioner.specs.Shift.{shifted}
 use Rattle.preconditioner.specs.declared.mode.Mode.{Mode}
 use Rattle.preconditioner.specs.declared.mode.Mode.the-variants as modes
 
@@ -22,5 +23,5 @@ blockJudged s owner i = check (begins owner i) (next (blockAt s owner i) (λ _. 
 -- ---- "11 to 13 ... as the Rust meets them": in mode 2 run by run
 unfoldable pub factorJudged : Mode → System → (ℕ → ℕ) → List Float → Run Unit ℕ
 factorJudged modes.Diagonal s owner diagonal = going tt
-factorJudged modes.IncompleteCholesky s owner diagonal = next (choleskyRun s diagonal) (λ _. going tt)
+factorJudged (modes.IncompleteCholesky shift) s owner diagonal = next (choleskyRun s (shifted shift diagonal)) (λ _. going tt)
 factorJudged modes.BlockJacobi s owner diagonal = judged (blockJudged s owner) (s .rows)

@@ -24,6 +24,7 @@ use Rattle.block_jacobi.specs.declared.build.Blocked.the-variants as blocks
 use Rattle.preconditioner.specs.Factor.{blockAt}
 use Rattle.preconditioner.specs.Apply.{preconditionedRun}
 use Rattle.preconditioner.specs.Room.{Memory}
+use Rattle.preconditioner.specs.Shift.{shifted}
 use Rattle.preconditioner.specs.declared.mode.Mode.{Mode}
 use Rattle.preconditioner.specs.declared.mode.Mode.the-variants as modes
 use Rattle.preconditioner.specs.declared.apply.Preconditioner.{Preconditioner}
@@ -62,7 +63,7 @@ zIn p n m residual = orSixteen (zRun p n m residual)
 -- ---- the mode's factor is there; diagonal is the one that it is made of
 pub data Holds (s : System) (owner : ℕ → ℕ) (diagonal : List Float) (m : Memory) : Mode → Preconditioner → Type 0 where
   holds-diagonal : m .diagonal ≡ diagonal → Holds s owner diagonal m modes.Diagonal built.Diagonal
-  holds-factor : (count : ℕ) → choleskyRun s diagonal ≡ going (factorIn (s .rows) m, m .diagonal) → Holds s owner diagonal m modes.IncompleteCholesky (built.IncompleteCholesky count)
+  holds-factor : (shift : Float) (count : ℕ) → choleskyRun s (shifted shift diagonal) ≡ going (factorIn (s .rows) m, m .diagonal) → Holds s owner diagonal m (modes.IncompleteCholesky shift) (built.IncompleteCholesky count)
   holds-blocks : ownerIn (m .pattern) ≡ owner → ((i : ℕ) → i < s .rows → begins owner i ≡ true → blockAt s owner i ≡ going (blockIn (m .values) i)) → Holds s owner diagonal m modes.BlockJacobi built.BlockJacobi
 
 -- the joint of each row: word 6 of its eight
@@ -89,7 +90,7 @@ blocksPrepared (blocks.Refused number) = prepared.Refused number
 -- of an answer the memory before and after: what is not the mode's is untouched
 pub data FactorBuilt (s : System) (owner : ℕ → ℕ) (before after : Memory) : Mode → Prepared → Type 0 where
   built-diagonal : after ≡ before → FactorBuilt s owner before after modes.Diagonal (prepared.Done built.Diagonal)
-  built-factor : (answer : Built) → FactorHeld s (before .diagonal) answer (startsIn (s .rows) (after .pattern)) (columnsIn (s .rows) (after .pattern)) (before .order) (after .order) (before .values) (after .values) (after .diagonal)
-      → FactorPast (s .rows) (pairCount (patternOf s) (s .rows)) (before .pattern) (after .pattern) (before .order) (after .order) (before .values) (after .values) → FactorBuilt s owner before after modes.IncompleteCholesky (factorPrepared answer)
+  built-factor : (shift : Float) (answer : Built) → FactorHeld s (shifted shift (before .diagonal)) answer (startsIn (s .rows) (after .pattern)) (columnsIn (s .rows) (after .pattern)) (before .order) (after .order) (before .values) (after .values) (after .diagonal)
+      → FactorPast (s .rows) (pairCount (patternOf s) (s .rows)) (before .pattern) (after .pattern) (before .order) (after .order) (before .values) (after .values) → FactorBuilt s owner before after (modes.IncompleteCholesky shift) (factorPrepared answer)
   built-blocks : (answer : Blocked) → blocksRun s owner (before .values) ≡ blockedOut answer (after .values) → after ≡ record { diagonal = before .diagonal; pattern = tabulate owner (s .rows); order = before .order; values = after .values }
       → FactorBuilt s owner before after modes.BlockJacobi (blocksPrepared answer)

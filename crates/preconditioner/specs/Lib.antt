@@ -1,4 +1,5 @@
 pub mod Mode
+pub mod Shift
 pub mod Room
 pub mod Factor
 pub mod Apply

@@ -20,17 +20,17 @@ pub record Memory : Type 0 where
 
 unfoldable pub patternRoom : Mode → ℕ → ℕ
 patternRoom modes.Diagonal n = 0
-patternRoom modes.IncompleteCholesky n = n + 1 + pairRoom n
+patternRoom (modes.IncompleteCholesky shift) n = n + 1 + pairRoom n
 patternRoom modes.BlockJacobi n = n
 
 unfoldable pub orderRoom : Mode → ℕ → ℕ
 orderRoom modes.Diagonal n = 0
-orderRoom modes.IncompleteCholesky n = n + 2 * pairRoom n
+orderRoom (modes.IncompleteCholesky shift) n = n + 2 * pairRoom n
 orderRoom modes.BlockJacobi n = 0
 
 unfoldable pub valuesRoom : Mode → ℕ → ℕ
 valuesRoom modes.Diagonal n = 0
-valuesRoom modes.IncompleteCholesky n = pairRoom n
+valuesRoom (modes.IncompleteCholesky shift) n = pairRoom n
 valuesRoom modes.BlockJacobi n = 36 * n
 
 -- every length is what n rows call for

@@ -9,6 +9,7 @@ ghost use Rattle.preconditioner.specs.Held.{factorPrepared, blocksPrepar
 use crate::apply::Preconditioner;
 use crate::mode::Mode;
 use crate::owner::gather_owners;
+use crate::shift::shift_diagonal;
 use block_jacobi::Blocked;
 use block_jacobi::build_block_jacobi_preconditioner;
 use incomplete_cholesky::Built;
@@ -72,7 +73,8 @@ pub fn build_preconditioner(
 {
     match mode {
         Mode::Diagonal => Prepared::Done(Preconditioner::Diagonal),
-        Mode::IncompleteCholesky => {
+        Mode::IncompleteCholesky(shift) => {
+            shift_diagonal(diagonal, shift);
             let factor = build_incomplete_cholesky_preconditioner(
                 jacobians,
                 links,

@@ -11,7 +11,7 @@ pub fn pattern_room(mode: Mode, rows: u32) -> usize
 {
     match mode {
         Mode::Diagonal => 0,
-        Mode::IncompleteCholesky => wide(rows) + 1 + wide(pair_room(rows)),
+        Mode::IncompleteCholesky(_) => wide(rows) + 1 + wide(pair_room(rows)),
         Mode::BlockJacobi => wide(rows),
     }
 }
@@ -21,7 +21,7 @@ pub fn order_room(mode: Mode, rows: u32) -> usize
 {
     match mode {
         Mode::Diagonal => 0,
-        Mode::IncompleteCholesky => wide(rows) + 2 * wide(pair_room(rows)),
+        Mode::IncompleteCholesky(_) => wide(rows) + 2 * wide(pair_room(rows)),
         Mode::BlockJacobi => 0,
     }
 }
@@ -31,7 +31,7 @@ pub fn values_room(mode: Mode, rows: u32) -> usize
 {
     match mode {
         Mode::Diagonal => 0,
-        Mode::IncompleteCholesky => wide(pair_room(rows)),
+        Mode::IncompleteCholesky(_) => wide(pair_room(rows)),
         Mode::BlockJacobi => 36 * wide(rows),
     }
 }

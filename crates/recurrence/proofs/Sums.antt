@@ -9,7 +9,7 @@ use lib.Ieee.{Float, nan, binary64, add, sub, mul}
 use Rattle.loops.specs.Cleared.{plusZero}
 use Rattle.loops.specs.Tabulate.{tabulate}
 use Rattle.recurrence.specs.Vectors.{dotTo, dotProductOf, plusScaled, lessScaled}
-use Rattle.recurrence.proofs.InPlace.{Changes, changes-end}
+use Rattle.preconditioner.proofs.InPlace.{Changes, changes-end}
 
 -- ---- `dot_product`: the first i products are summed
 pub record Dots (x y : List Float) (i : ℕ) (sum : Float) : Type 0 where

@@ -13,3 +13,4 @@ pub mod Absolute
 pub mod Most
 pub mod Factor
 pub mod Verdict
+pub mod TimesOne

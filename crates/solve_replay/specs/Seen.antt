@@ -9,7 +9,8 @@ use lib.Ieee.{Float, binary64, ofBits, toBits}
 use Rattle.kapitsa_joint.specs.declared.tolerance.JointTolerance.{JointTolerance}
 use Rattle.preconditioner.specs.Mode.{modeOf}
 use Rattle.steps.specs.Solve.{solve}
-use Rattle.position.specs.Problem.{positionOf}
+use Rattle.loops.specs.Cleared.{plusZero}
+use Rattle.position_iteration.specs.Position.{positionOf}
 use Rattle.position_iteration.specs.Method.{methodOf}
 use Rattle.position_delivery.specs.Outcome.{Lent, Outcome, outcomeOf}
 use Rattle.position_delivery.specs.declared.answer.PositionPcg.{PositionPcg}
@@ -70,7 +71,7 @@ toleranceIn h = record { «linear_m» = ofBits binary64 (h .«linear_tolerance»
 unfoldable pub solvedOf : Header → JointTolerance → List Float → List ℕ → List Float → List Float → List Float → Outcome
 solvedOf h tolerance numbers words masses solution impulses =
     outcomeOf (h .rows) (record { numbers = numbers; solution = solution; impulses = impulses })
-    (solve (methodOf (jobFits (h .rows) (h .bodies) (h .mode) (length numbers) (length words) (length masses) (length solution) (length impulses)) (positionOf (h .rows) (h .bodies) numbers words masses tolerance) (modeOf (h .mode))) (h .limit))
+    (solve (methodOf (jobFits (h .rows) (h .bodies) (h .mode) (length numbers) (length words) (length masses) (length solution) (length impulses)) (positionOf (h .rows) (h .bodies) numbers words masses tolerance plusZero) (modeOf (h .mode) plusZero)) (h .limit))
 
 unfoldable pub solvedSeen : List ℕ → ℕ → Header → List ℕ → List Float → List ℕ → List Float → List Float → List Float → Seen
 solvedSeen list at h rows numbers words masses solution impulses = let o = solvedOf h (toleranceIn h) numbers words masses solution impulses in outcomeSeen list at h rows (o .answer) (o .lent)

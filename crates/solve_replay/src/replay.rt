@@ -189,6 +189,7 @@ fn solved_seen(
         tolerance,
         header.limit,
         header.mode,
+        0.0,
         solution,
         impulses,
     );

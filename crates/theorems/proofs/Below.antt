@@ -10,7 +10,7 @@ use Rattle.kapitsa_joint.specs.declared.tolerance.JointTolerance.{JointToleranc
 use Rattle.joint_refusals.specs.Refusals.{wordsFitOf, isValidOf, opensOf}
 use Rattle.preconditioner.specs.declared.mode.Mode.{Mode}
 use Rattle.preconditioner.specs.declared.mode.Mode.the-variants as modes
-use Rattle.position.specs.Problem.{positionProblem}
+use Rattle.position_iteration.specs.Position.{shiftedProblem}
 use Rattle.position_iteration.specs.Method.{ownerOf}
 use Rattle.check_range.specs.Closing.{closingOf}
 use Rattle.theorems.specs.Below.{RowsAlike, TablesAlike, AgreeBelow, ProblemsAgree, ClosingsAgree, LooksBelow, SameButUnread, TablesButUnread, Depends}
@@ -31,14 +31,15 @@ module _ (t u : Table) (a : AgreeBelow t u) where
     mass = a .mass;
   }
 
-  positions-agree : (mode : Mode) (tolerance other : ℕ → Float) → ((i : ℕ) → i < t .rows → other i ≡ tolerance i) → ProblemsAgree mode (positionProblem t tolerance) (positionProblem u other)
-  positions-agree mode tolerance other e = record {
+  positions-agree : (shift : Float) (mode : Mode) (tolerance other : ℕ → Float) → ((i : ℕ) → i < t .rows → other i ≡ tolerance i) → ProblemsAgree mode (shiftedProblem t tolerance shift) (shiftedProblem u other shift)
+  positions-agree shift mode tolerance other e = record {
     table = tables-alike;
     owner = λ _ i h. ap (λ (r : ConstraintRow). r .words .owner) (a .row i h);
     tolerance = e;
     start = λ i h. ap (λ (r : ConstraintRow). neg (r .scalars .error)) (a .row i h);
     accumulated = λ i h. ap (λ (r : ConstraintRow). r .scalars .«accumulated_multiplier») (a .row i h);
     opens = λ i h. ap (λ (r : ConstraintRow). opensOf (r .scalars) (r .words)) (a .row i h);
+    options = refl;
     lent = refl;
     validFirst = refl;
     factorFirst = refl;
@@ -54,7 +55,7 @@ module _ (t u : Table) (a : AgreeBelow t u) where
 
   pub looks-below : LooksBelow t u
   looks-below = record {
-    solves = λ tolerance other e fits mode limit. solve-below mode (positionProblem t tolerance) (positionProblem u other) (positions-agree mode tolerance other e) fits limit;
+    solves = λ tolerance other e fits shift mode limit. solve-below mode (shiftedProblem t tolerance shift) (shiftedProblem u other shift) (positions-agree shift mode tolerance other e) fits limit;
     checks = λ listed other e fits tolerance. check-below (closingOf t listed tolerance) (closingOf u other tolerance) (closings-agree listed other e tolerance) fits;
   }
 
@@ -75,21 +76,22 @@ module _ (bodies : ℕ) (r s : ConstraintRow) (a : SameButUnread bodies r s) whe
 
 pub depends : (t u : Table) → TablesButUnread t u → Depends t u
 depends t u a = record {
-  solves = λ mode owners tolerance fits limit. solve-below mode (positionProblem t tolerance) (positionProblem u tolerance) (problems mode owners tolerance) fits limit;
+  solves = λ mode owners tolerance fits shift limit. solve-below mode (shiftedProblem t tolerance shift) (shiftedProblem u tolerance shift) (problems shift mode owners tolerance) fits limit;
   checks = λ listed fits tolerance. check-below (closingOf t listed tolerance) (closingOf u listed tolerance) (closings listed tolerance) fits;
 }
   where
     alike : TablesAlike t u
     alike = record { rows = a .rows; bodies = a .bodies; row = λ i h. unread-alike (t .bodies) (t .row i) (u .row i) (a .row i h); mass = a .mass }
 
-    problems : (mode : Mode) → (mode ≡ modes.BlockJacobi → (i : ℕ) → i < t .rows → ownerOf u i ≡ ownerOf t i) → (tolerance : ℕ → Float) → ProblemsAgree mode (positionProblem t tolerance) (positionProblem u tolerance)
-    problems mode owners tolerance = record {
+    problems : (shift : Float) (mode : Mode) → (mode ≡ modes.BlockJacobi → (i : ℕ) → i < t .rows → ownerOf u i ≡ ownerOf t i) → (tolerance : ℕ → Float) → ProblemsAgree mode (shiftedProblem t tolerance shift) (shiftedProblem u tolerance shift)
+    problems shift mode owners tolerance = record {
       table = alike;
       owner = owners;
       tolerance = λ i h. refl;
       start = λ i h. ap neg (a .row i h .error);
       accumulated = λ i h. a .row i h .«accumulated_multiplier»;
       opens = λ i h. unread-opens (t .bodies) (t .row i) (u .row i) (a .row i h);
+      options = refl;
       lent = refl;
       validFirst = refl;
       factorFirst = refl;

@@ -1,4 +1,4 @@
--- P1 to P9, sentences of document 01, and that a solve and a check look only below the counts.
+-- P1 to P9, sentences of document 01, that a solve and a check look only below the counts, and what a shift of 0 leaves as it was.
 pub mod Sheets
 pub mod Sentences
 pub mod Systems
@@ -6,3 +6,4 @@ pub mod Tables
 pub mod Solves
 pub mod Checks
 pub mod Below
+pub mod Unshifted

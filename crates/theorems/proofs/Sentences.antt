@@ -23,7 +23,9 @@ use Rattle.mass_operator.specs.Flat.{impulsesOf}
 use Rattle.mass_operator.proofs.Flat.{flat-length, flat-holds}
 use Rattle.preconditioner.specs.declared.mode.Mode.{Mode}
 use Rattle.recurrence.specs.Step.{Iterate}
-use Rattle.position.specs.Problem.{Problem, positionProblem}
+use Rattle.preconditioner.specs.Shift.{passes25}
+use Rattle.position.specs.Problem.{Problem}
+use Rattle.position_iteration.specs.Position.{shiftedProblem}
 use Rattle.position.specs.Prepare.{rowsJudged, residuals}
 use Rattle.position.specs.Residual.{meetsOf, maximaOf}
 use Rattle.steps.specs.Solve.{solve, counting}
@@ -31,12 +33,12 @@ use Rattle.steps.specs.Meaning.{Counted}
 use Rattle.position_iteration.specs.Method.{Delivered, passes5, openingOf, factorHere, beginOf, maximaIn, finishOf, methodOf}
 
 -- ---- "No rows, and no refusal 1 to 4 or 6: accepted, converged, count 0, whatever the limit."
-pub no-rows : (bodies : ℕ) (row : ℕ → ConstraintRow) (mass : ℕ → SolverMass) (tolerance : ℕ → Float) (mode : Mode) (limit : ℕ)
-    → let t : Table = record { rows = 0; bodies = bodies; row = row; mass = mass } in passes6 t ≡ true
-    → solve (methodOf true (positionProblem t tolerance) mode) limit
+pub no-rows : (bodies : ℕ) (row : ℕ → ConstraintRow) (mass : ℕ → SolverMass) (tolerance : ℕ → Float) (shift : Float) (mode : Mode) (limit : ℕ)
+    → let t : Table = record { rows = 0; bodies = bodies; row = row; mass = mass } in passes25 shift ≡ true → passes6 t ≡ true
+    → solve (methodOf true (shiftedProblem t tolerance shift) mode) limit
     ≡ going ((true, 0, record { solution = []; residual = [] }), record { accumulated = []; impulses = zeros (6 * bodies); maxima = record { linear = plusZero; angular = plusZero } })
 unfolding solve openingOf judge test check on counting beginOf rowsJudged judged turns factorHere meetsOf every residuals tabulate passes4 passes5 finishOf maximaIn maximaOf
-no-rows bodies row mass tolerance mode limit h = rw h
+no-rows bodies row mass tolerance shift mode limit g h = rw (g, h)
 
 -- ---- "If every |residual| ≤ its row's tolerance: accepted with count 0, before any factor is built": the answer has no mode in it, and no step
 abbrev start : Problem → Iterate
@@ -45,10 +47,10 @@ start p = record { solution = zeros (p .table .rows); residual = residuals (p .t
 abbrev untouched : Problem → Delivered
 untouched p = record { accumulated = tabulate (p .accumulated) (p .table .rows); impulses = zeros (6 * p .table .bodies); maxima = maximaIn (p .table) (start p) }
 
-pub count-zero : (fits : Bool) (t : Table) (tolerance : ℕ → Float) (mode : Mode) (limit : ℕ) → let p = positionProblem t tolerance in openingOf fits p limit ≡ going tt → rowsJudged p ≡ going tt
+pub count-zero : (fits : Bool) (t : Table) (tolerance : ℕ → Float) (shift : Float) (mode : Mode) (limit : ℕ) → let p = shiftedProblem t tolerance shift in openingOf fits p limit ≡ going tt → rowsJudged p ≡ going tt
     → meetsOf tolerance (start p .residual) (t .rows) ≡ true → solve (methodOf fits p mode) limit ≡ going ((true, 0, start p), untouched p)
 unfolding solve counting beginOf factorHere finishOf check on
-count-zero fits t tolerance mode limit o r m = rw (o, r, m)
+count-zero fits t tolerance shift mode limit o r m = rw (o, r, m)
 
 -- ---- "a NaN tolerance never converges a row"
 at-most-nan : (x : Float) → le x nan ≡ false

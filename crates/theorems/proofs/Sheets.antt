@@ -24,6 +24,7 @@ use Rattle.sparse.specs.Cholesky.{less, lessTurn, reducedOf, quotientOf, factor
 use Rattle.pairs.specs.Pairs.{sharesOf, patternOf, rowPairs, pairCount, armOf, crossAt, sumOf, pairOf, pairsOf, finitePair, finitePairs}
 use Rattle.incomplete_cholesky.specs.Build.{choleskyRun}
 use Rattle.preconditioner.specs.Factor.{factorJudged}
+use Rattle.preconditioner.specs.Shift.{shiftedBy, shifted, passes25}
 use Rattle.preconditioner.specs.Apply.{diagonalSolveOf, preconditioned}
 use Rattle.recurrence.specs.Vectors.{dotTo, dotProductOf, plusScaled, lessScaled}
 use Rattle.recurrence.specs.Step.{alphaOf, updatedOf, advanceOf, productFit, firstFrom, betaOf, turnedOf, renewFrom}
@@ -37,5 +38,5 @@ use Rattle.position_iteration.specs.Method.{passes5, openingOf, factorHere, beg
 use Rattle.theorems.specs.Sheets.{AllSame, sheets}
 
 pub all-same : AllSame sheets
-unfolding AllSame solve openingOf passes5 judge test check on counting beginOf judged turns rowsJudged rowJudged passes8 passes9 isLow rowDiagonal preparedDiagonal preparedResidual diagonals residuals tabulate every meetsOf firstOf factorHere factorJudged preconditioned diagonalSolveOf firstFrom productFit dotProductOf dotTo turn advanceOf alphaOf updatedOf plusScaled lessScaled renewFrom betaOf turnedOf productOf allFiniteOf valueAt responseAt responseOf impulseAt addRowOf addImpulseOf rowValueOf finishOf gainsOf maximaIn maximaOf raisedBy dimensionOf impulsesOf flatImpulses larger absolute dotOf addOf scaleOf mulVectorOf jacobianOf diagonalOf crossOf passes4 wordsFitOf opensOf passes6 massFiniteOf finiteColumnsOf isFiniteOf isValidOf bodiesBelowOf jacobiansFiniteOf scalarsFiniteOf scalarsInRangeOf neg ofBits add sub mul div le lt eq choleskyRun pairCount patternOf pairsOf pairOf finitePairs finitePair factorRun rowTurn factorsRun columnTurn columnOf factored quotientOf reducedOf lessTurn less count put pivotOf squaresOf fit rootValue rootOf sharesOf rowPairs armOf crossAt sumOf squareRoot unitsOf checkOf verdictOf closes reach reachOf radius valueOf sizeOf measuredOf radiusOf weightOf radiusFactor absOf absColumnsOf sizeOfRow sizeOfMass ofInt passes7 tableInRange rowInRange jacobianInRange vecInRange massInRange matInRange inRange
+unfolding AllSame solve openingOf passes5 judge test check on counting beginOf judged turns rowsJudged rowJudged passes8 passes9 isLow rowDiagonal preparedDiagonal preparedResidual diagonals residuals tabulate every meetsOf firstOf factorHere factorJudged shifted shiftedBy passes25 preconditioned diagonalSolveOf firstFrom productFit dotProductOf dotTo turn advanceOf alphaOf updatedOf plusScaled lessScaled renewFrom betaOf turnedOf productOf allFiniteOf valueAt responseAt responseOf impulseAt addRowOf addImpulseOf rowValueOf finishOf gainsOf maximaIn maximaOf raisedBy dimensionOf impulsesOf flatImpulses larger absolute dotOf addOf scaleOf mulVectorOf jacobianOf diagonalOf crossOf passes4 wordsFitOf opensOf passes6 massFiniteOf finiteColumnsOf isFiniteOf isValidOf bodiesBelowOf jacobiansFiniteOf scalarsFiniteOf scalarsInRangeOf neg ofBits add sub mul div le lt eq choleskyRun pairCount patternOf pairsOf pairOf finitePairs finitePair factorRun rowTurn factorsRun columnTurn columnOf factored quotientOf reducedOf lessTurn less count put pivotOf squaresOf fit rootValue rootOf sharesOf rowPairs armOf crossAt sumOf squareRoot unitsOf checkOf verdictOf closes reach reachOf radius valueOf sizeOf measuredOf radiusOf weightOf radiusFactor absOf absColumnsOf sizeOfRow sizeOfMass ofInt passes7 tableInRange rowInRange jacobianInRange vecInRange massInRange matInRange inRange
 all-same = (refl, (refl, (refl, (refl, (refl, (refl, (refl, (refl, (refl, (refl, tt))))))))))

@@ -80,6 +80,7 @@ with p q = record {
   tolerance = q .tolerance;
   start = q .start;
   accumulated = q .accumulated;
+  options = p .options;
   opens = q .opens;
   lent = p .lent;
   validFirst = p .validFirst;
@@ -207,6 +208,7 @@ module _ (mode : Mode) (p q : Problem) (w : ProblemsAgree mode p q) where
     tolerance = q .tolerance;
     start = q .start;
     accumulated = q .accumulated;
+    options = w .options i;
     opens = q .opens;
     lent = w .lent i;
     validFirst = w .validFirst i;

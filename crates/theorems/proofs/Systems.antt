@@ -26,6 +26,7 @@ use Rattle.block_jacobi.specs.Blocks.{solveTurn, blocksSolveRun}
 use Rattle.block_jacobi.proofs.RunsOf.{leading-le}
 use Rattle.preconditioner.specs.Factor.{blockAt, blockJudged, factorJudged}
 use Rattle.preconditioner.specs.Apply.{blockNumbers, preconditioned}
+use Rattle.preconditioner.specs.Shift.{shifted}
 use Rattle.preconditioner.specs.declared.mode.Mode.{Mode}
 use Rattle.preconditioner.specs.declared.mode.Mode.the-variants as modes
 
@@ -135,13 +136,13 @@ module _ (s : System) (jacobian : ℕ → RowJacobian) (mass : ℕ → SolverMas
     pub factor-same : (mode : Mode) → (mode ≡ modes.BlockJacobi → (i : ℕ) → i < s .rows → own i ≡ owner i) → (diagonal : List Float) → factorJudged mode (systemWith s jacobian mass) own diagonal ≡ factorJudged mode s owner diagonal
     unfolding factorJudged blockJudged
     factor-same modes.Diagonal e diagonal = refl
-    factor-same modes.IncompleteCholesky e diagonal = rw (cholesky-same diagonal)
+    factor-same (modes.IncompleteCholesky shift) e diagonal = rw (cholesky-same (shifted shift diagonal))
     factor-same modes.BlockJacobi e diagonal = judged-same _ _ (s .rows) (λ i k. rw (begins-same own owner (s .rows) (e refl) i k, block-at-same owner own (e refl) i))
 
     pub preconditioned-same : (mode : Mode) → (mode ≡ modes.BlockJacobi → (i : ℕ) → i < s .rows → own i ≡ owner i) → (diagonal residual : List Float) → length residual ≡ s .rows → preconditioned mode (systemWith s jacobian mass) own diagonal residual ≡ preconditioned mode s owner diagonal residual
     unfolding preconditioned blocksSolveRun solveTurn
     preconditioned-same modes.Diagonal e diagonal residual l = refl
-    preconditioned-same modes.IncompleteCholesky e diagonal residual l = rw (cholesky-same diagonal)
+    preconditioned-same (modes.IncompleteCholesky shift) e diagonal residual l = rw (cholesky-same (shifted shift diagonal))
     preconditioned-same modes.BlockJacobi e diagonal residual l =
         let f : (i : ℕ) → i < length residual → own i ≡ owner i = λ i k. e refl i (omega arith) in
         let b : _≡_ {A = ℕ → List Float} (λ i. blockNumbers (blockAt (systemWith s jacobian mass) own i)) (λ i. blockNumbers (blockAt s owner i)) = fun-ext (λ i. ap blockNumbers (block-at-same owner own (e refl) i)) in

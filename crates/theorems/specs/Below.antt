@@ -10,9 +10,10 @@ use Rattle.kapitsa_joint.specs.declared.tolerance.JointTolerance.{JointToleranc
 use Rattle.joint_refusals.specs.Refusals.{wordsFitOf, isValidOf}
 use Rattle.preconditioner.specs.declared.mode.Mode.{Mode}
 use Rattle.preconditioner.specs.declared.mode.Mode.the-variants as modes
-use Rattle.position.specs.Problem.{Problem, positionProblem}
+use Rattle.position.specs.Problem.{Problem}
 use Rattle.steps.specs.Solve.{solve}
 use Rattle.position_iteration.specs.Method.{ownerOf, methodOf}
+use Rattle.position_iteration.specs.Position.{shiftedProblem}
 use Rattle.check_range.specs.Closing.{Closing, closingOf}
 use Rattle.check_answer.specs.Answer.{checkOf}
 
@@ -37,6 +38,7 @@ pub record ProblemsAgree (mode : Mode) (p q : Problem) : Type 0 where
   pub tolerance : (i : ℕ) → i < p .table .rows → q .tolerance i ≡ p .tolerance i
   pub start : (i : ℕ) → i < p .table .rows → q .start i ≡ p .start i
   pub accumulated : (i : ℕ) → i < p .table .rows → q .accumulated i ≡ p .accumulated i
+  pub options : q .options ≡ p .options
   pub opens : (i : ℕ) → i < p .table .rows → q .opens i ≡ p .opens i
   pub lent : q .lent ≡ p .lent
   pub validFirst : q .validFirst ≡ p .validFirst
@@ -58,8 +60,8 @@ pub record AgreeBelow (t u : Table) : Type 0 where
 
 -- the answers are the same: of a solve refusal or flag, count, step and delivery, bit for bit; of a check refusal or verdict
 pub record LooksBelow (t u : Table) : Type 0 where
-  pub solves : (tolerance other : ℕ → Float) → ((i : ℕ) → i < t .rows → other i ≡ tolerance i) → (fits : Bool) (mode : Mode) (limit : ℕ)
-      → solve (methodOf fits (positionProblem u other) mode) limit ≡ solve (methodOf fits (positionProblem t tolerance) mode) limit
+  pub solves : (tolerance other : ℕ → Float) → ((i : ℕ) → i < t .rows → other i ≡ tolerance i) → (fits : Bool) (shift : Float) (mode : Mode) (limit : ℕ)
+      → solve (methodOf fits (shiftedProblem u other shift) mode) limit ≡ solve (methodOf fits (shiftedProblem t tolerance shift) mode) limit
   pub checks : (listed other : ℕ → Float) → ((i : ℕ) → i < t .rows → other i ≡ listed i) → (fits : Bool) (tolerance : JointTolerance) → checkOf fits (closingOf u other tolerance) ≡ checkOf fits (closingOf t listed tolerance)
 
 -- ---- not every number of a row. Document 01: "The answer depends on key, owner (modes 0 and 1), target_velocity, force_bias, impulse bounds, accumulated impulse, position_angular_a and cached mass only through refusals 4 and 7."
@@ -92,6 +94,6 @@ pub record TablesButUnread (t u : Table) : Type 0 where
 
 -- and the answers are the same; where mode 2 solves, the owners are
 pub record Depends (t u : Table) : Type 0 where
-  pub solves : (mode : Mode) → (mode ≡ modes.BlockJacobi → (i : ℕ) → i < t .rows → ownerOf u i ≡ ownerOf t i) → (tolerance : ℕ → Float) (fits : Bool) (limit : ℕ)
-      → solve (methodOf fits (positionProblem u tolerance) mode) limit ≡ solve (methodOf fits (positionProblem t tolerance) mode) limit
+  pub solves : (mode : Mode) → (mode ≡ modes.BlockJacobi → (i : ℕ) → i < t .rows → ownerOf u i ≡ ownerOf t i) → (tolerance : ℕ → Float) (fits : Bool) (shift : Float) (limit : ℕ)
+      → solve (methodOf fits (shiftedProblem u tolerance shift) mode) limit ≡ solve (methodOf fits (shiftedProblem t tolerance shift) mode) limit
   pub checks : (listed : ℕ → Float) (fits : Bool) (tolerance : JointTolerance) → checkOf fits (closingOf u listed tolerance) ≡ checkOf fits (closingOf t listed tolerance)

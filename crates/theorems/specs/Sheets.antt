@@ -14,7 +14,7 @@ use Rattle.kapitsa_joint.specs.declared.mass.SolverMass.{SolverMass}
 use Rattle.preconditioner.specs.declared.mode.Mode.{Mode}
 use Rattle.preconditioner.specs.declared.mode.Mode.the-variants as modes
 use Rattle.steps.specs.Solve.{solve}
-use Rattle.position.specs.Problem.{positionProblem}
+use Rattle.position_iteration.specs.Position.{shiftedProblem}
 use Rattle.position_iteration.specs.Method.{methodOf}
 use Rattle.check_range.specs.Closing.{Closing, rowError}
 use Rattle.check_measure.specs.Verdict.{radius}
@@ -85,7 +85,7 @@ noRows = record { rows = 0; bodies = 2; row = λ i. rowOn 0 1 plusZero; mass = �
 abbrev pub thousandth : Float
 thousandth = ofBits binary64 0x3f50624dd2f1a9fc
 
--- of an accepted answer flag, count, solution, multipliers and the linear residual, of a refused one its number
+-- with shift 0; of an accepted answer flag, count, solution, multipliers and the linear residual, of a refused one its number
 pub record Accepted : Type 0 where
   pub flag : Bool
   pub count : ℕ
@@ -98,7 +98,7 @@ Worked = Run Accepted ℕ
 
 abbrev pub workedOf : Table → Float → Mode → ℕ → Worked
 workedOf t tolerance mode limit =
-    on (solve (methodOf true (positionProblem t (λ i. tolerance)) mode) limit)
+    on (solve (methodOf true (shiftedProblem t (λ i. tolerance) plusZero) mode) limit)
     (λ r. going (record { flag = r .0 .0; count = r .0 .1; solution = r .0 .2 .solution; multipliers = r .1 .accumulated; residual = r .1 .maxima .linear })) ended
 
 -- P1's check: its row with the multiplier that P1 ends with
@@ -134,7 +134,7 @@ sheets =
     (going (record { flag = false; count = 1; solution = ofBits binary64 0x3fe0000000000000 ∷ (plusZero ∷ []); multipliers = ofBits binary64 0x3fe0000000000000 ∷ (plusZero ∷ []); residual = ofBits binary64 0x3fe0000000000000 }))
     -- P5: "mode 0: 15". P6: "mode 1: 13"
     ∷ (solved (workedOf twice thousandth modes.Diagonal 4) (ended 15)
-    ∷ (solved (workedOf twice thousandth modes.IncompleteCholesky 4) (ended 13)
+    ∷ (solved (workedOf twice thousandth (modes.IncompleteCholesky plusZero) 4) (ended 13)
     -- P7: "P1 with error 1e-160, tolerance 1e-170: 14"
     ∷ (solved (workedOf (one (ofBits binary64 0x1eb67e9c127b6e74)) (ofBits binary64 0x1ca3529ba7d19eaf) modes.Diagonal 4) (ended 14)
     -- P8: "limit 0: 5"

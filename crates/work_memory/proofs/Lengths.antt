@@ -8,7 +8,9 @@ use lib.ListN.{length}
 use lib.Ieee.{Float}
 use borrow.Author.Tests.{eqb-true}
 use Rattle.loops.proofs.Both.{both}
-use Rattle.preconditioner.specs.Mode.{modeOf}
+use Rattle.loops.specs.Cleared.{plusZero}
+use Rattle.preconditioner.specs.Mode.{modeOf, roomMode}
+use Rattle.preconditioner.proofs.Modes.{rooms-shift}
 use Rattle.preconditioner.specs.Room.{patternRoom, orderRoom, valuesRoom}
 use Rattle.preconditioner.specs.declared.mode.Mode.{Mode}
 use Rattle.work_memory.specs.Work.{TableMemory, WorkMemory}
@@ -16,7 +18,7 @@ use Rattle.joint_refusals.specs.Counts.{countsFit}
 use Rattle.work_memory.specs.Lengths.{tableFits, vectorsFit, factorFits, passes3, StepRoom, TableRoom, WorkRoom, RowsRoom}
 
 -- put together from its parts
-pub fits-three : (n b mode : ℕ) (numbers : List Float) (words : List ℕ) (masses solution impulses : List Float) (w : WorkMemory) (m : Mode) (c t v f : Bool) → m ≡ modeOf mode → c ≡ countsFit n b mode
+pub fits-three : (n b mode : ℕ) (numbers : List Float) (words : List ℕ) (masses solution impulses : List Float) (w : WorkMemory) (m : Mode) (c t v f : Bool) → m ≡ roomMode mode → c ≡ countsFit n b mode
     → t ≡ tableFits n b (length numbers) (length words) (length masses) (length solution) (length impulses)
     → v ≡ vectorsFit n b (length (w .table .jacobians)) (length (w .table .links)) (length (w .steps .tolerances)) (length (w .table .residual)) (length (w .table .pending)) (length (w .steps .direction)) (length (w .steps .product)) (length (w .table .bodyImpulses))
     → f ≡ factorFits m n (length (w .steps .factor .diagonal)) (length (w .steps .factor .pattern)) (length (w .steps .factor .order)) (length (w .steps .factor .values))
@@ -71,7 +73,7 @@ module _ (n b mode : ℕ) (numbers : List Float) (words : List ℕ) (masses solu
   vectors = vectorsFit n b (length (w .table .jacobians)) (length (w .table .links)) (length (w .steps .tolerances)) (length (w .table .residual)) (length (w .table .pending)) (length (w .steps .direction)) (length (w .steps .product)) (length (w .table .bodyImpulses))
 
   abbrev factor : Bool
-  factor = factorFits (modeOf mode) n (length (w .steps .factor .diagonal)) (length (w .steps .factor .pattern)) (length (w .steps .factor .order)) (length (w .steps .factor .values))
+  factor = factorFits (roomMode mode) n (length (w .steps .factor .diagonal)) (length (w .steps .factor .pattern)) (length (w .steps .factor .order)) (length (w .steps .factor .values))
 
   parts : (table ≡ true) × (vectors ≡ true) × (factor ≡ true)
   unfolding passes3
@@ -87,12 +89,13 @@ module _ (n b mode : ℕ) (numbers : List Float) (words : List ℕ) (masses solu
   pub lent-room : (length solution ≡ n) × (length impulses ≡ 6 * b)
   lent-room = let l = table-lengths n b _ _ _ _ _ (parts .0) in (l .3, l .4)
 
-  pub work-room : WorkRoom (modeOf mode) n b w
-  work-room =
+  pub work-room : (shift : Float) → WorkRoom (modeOf mode shift) n b w
+  work-room shift =
       let v = vector-lengths n b _ _ _ _ _ _ _ _ (parts .1) in
-      let f = factor-lengths (modeOf mode) n _ _ _ _ (parts .2) in
+      let f = factor-lengths (roomMode mode) n _ _ _ _ (parts .2) in
+      let (p, o, x) = rooms-shift mode plusZero shift n in
       record {
-        steps = record { tolerances-long = v .2; direction-long = v .5; product-long = v .6; factor = record { diagonal-long = f .0; pattern-long = f .1; order-long = f .2; values-long = f .3 } };
+        steps = record { tolerances-long = v .2; direction-long = v .5; product-long = v .6; factor = record { diagonal-long = f .0; pattern-long = f .1 ∙ p; order-long = f .2 ∙ o; values-long = f .3 ∙ x } };
         table = record { jacobians-long = v .0; links-long = v .1; residual-long = v .3; pending-long = v .4; body-impulses-long = v .7 };
       }
 

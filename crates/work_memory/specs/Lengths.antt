@@ -7,7 +7,7 @@ use lib.Dec.{eqb}
 use lib.ListN.{length}
 use lib.Ieee.{Float}
 use Rattle.joint_refusals.specs.Counts.{countsFit, rowsFit}
-use Rattle.preconditioner.specs.Mode.{modeOf}
+use Rattle.preconditioner.specs.Mode.{roomMode}
 use Rattle.preconditioner.specs.Room.{Roomy, patternRoom, orderRoom, valuesRoom}
 use Rattle.preconditioner.specs.declared.mode.Mode.{Mode}
 use Rattle.work_memory.specs.Work.{StepMemory, TableMemory, WorkMemory}
@@ -29,7 +29,7 @@ unfoldable pub passes3 : ℕ → ℕ → ℕ → List Float → List ℕ → Lis
 passes3 n b mode numbers words masses solution impulses w =
     ((countsFit n b mode && tableFits n b (length numbers) (length words) (length masses) (length solution) (length impulses))
     && vectorsFit n b (length (w .table .jacobians)) (length (w .table .links)) (length (w .steps .tolerances)) (length (w .table .residual)) (length (w .table .pending)) (length (w .steps .direction)) (length (w .steps .product)) (length (w .table .bodyImpulses)))
-    && factorFits (modeOf mode) n (length (w .steps .factor .diagonal)) (length (w .steps .factor .pattern)) (length (w .steps .factor .order)) (length (w .steps .factor .values))
+    && factorFits (roomMode mode) n (length (w .steps .factor .diagonal)) (length (w .steps .factor .pattern)) (length (w .steps .factor .order)) (length (w .steps .factor .values))
 
 -- ---- what refusal 3 has passed
 pub record StepRoom (mode : Mode) (n : ℕ) (m : StepMemory) : Type 0 where

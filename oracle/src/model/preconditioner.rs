@@ -27,9 +27,9 @@ pub struct Factored {
 }
 
 impl Preconditioner {
-    pub fn build(mode: u32, table: &Table, diagonal: &[f64]) -> Judged<Self> {
+    pub fn build(mode: u32, shift: f64, table: &Table, diagonal: &[f64]) -> Judged<Self> {
         let triangle = match mode {
-            INCOMPLETE_CHOLESKY => incomplete_cholesky(table, diagonal)?,
+            INCOMPLETE_CHOLESKY => incomplete_cholesky(shift, table, diagonal)?,
             BLOCK_JACOBI => block_jacobi(table)?,
             _ => return Ok(Preconditioner::Diagonal(diagonal.to_vec())),
         };
@@ -96,7 +96,8 @@ fn pairs(table: &Table) -> Vec<Vec<(usize, f64)>> {
     (0..table.rows.len()).map(of_row).collect()
 }
 
-fn incomplete_cholesky(table: &Table, diagonal: &[f64]) -> Judged<Triangle> {
+/// Each pivot starts from diagonal × (1 + shift), both rounded.
+fn incomplete_cholesky(shift: f64, table: &Table, diagonal: &[f64]) -> Judged<Triangle> {
     let pattern = pairs(table);
     pass(10, pattern.iter().map(Vec::len).sum::<usize>() <= MAX_PAIRS)?;
     pass(12, pattern.iter().flatten().all(|(_, value)| value.is_finite()))?;
@@ -104,7 +105,7 @@ fn incomplete_cholesky(table: &Table, diagonal: &[f64]) -> Judged<Triangle> {
     let mut current = vec![None; diagonal.len()];
     for (row, entries) in pattern.iter().enumerate() {
         current.fill(None);
-        let mut pivot = diagonal[row];
+        let mut pivot = diagonal[row] * (1.0 + shift);
         for &(column, value) in entries {
             let factor = less_products(value, &triangle.rows[column], &current);
             let factor = factor / triangle.roots[column];

@@ -72,9 +72,10 @@ fn is_valid(numbers: &[f64], words: &[u32], bodies: u32) -> bool {
         && numbers[CACHED_MASS] >= 0.0
 }
 
-/// Refusals 3 to 6 of a solve, in their order.
+/// Refusals 3, 25, 4, 5 and 6 of a solve, in their order.
 pub fn opening(job: &Job) -> Judged<()> {
     pass(3, job.mode <= BLOCK_JACOBI && counts_fit(job))?;
+    pass(25, shift_fits(job.shift))?;
     pass(4, words_fit(job))?;
     pass(5, job.rows == 0 || (job.limit != 0 && opens(job)))?;
     pass(6, all_finite(&job.masses))
@@ -88,6 +89,11 @@ pub fn counts_fit(job: &Job) -> bool {
         && job.numbers.len() == ROW_NUMBERS * rows
         && job.words.len() == ROW_WORDS * rows
         && job.masses.len() == MASS_NUMBERS * bodies
+}
+
+/// Refusal 25's test: from 0 to 1, −0.0 too, whatever the mode and the rows. No NaN is.
+pub fn shift_fits(shift: f64) -> bool {
+    (0.0..=1.0).contains(&shift)
 }
 
 /// Refusal 4's test.

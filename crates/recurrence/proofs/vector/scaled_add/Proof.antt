@@ -5,7 +5,7 @@ use native.Mathlib.Omega.{arith}
 use lib.Ieee.{nan}
 use lib.ListN.{length}
 use Rattle.loops.proofs.Loop.{loops}
-use Rattle.recurrence.proofs.InPlace.{Changes, changes-more, changes-none}
+use Rattle.preconditioner.proofs.InPlace.{Changes, changes-more, changes-none}
 use Rattle.recurrence.proofs.Sums.{gained, gains}
 use Rattle.recurrence.proofs.vector.scaled_add.Statement.{statement}
 use Rattle.recurrence.proofs.vector.scaled_add.Tie as tie

@@ -5,7 +5,7 @@ use native.Mathlib.Omega.{arith}
 use lib.Ieee.{nan}
 use lib.ListN.{length}
 use Rattle.loops.proofs.Loop.{loops}
-use Rattle.recurrence.proofs.InPlace.{Changes, changes-more, changes-none}
+use Rattle.preconditioner.proofs.InPlace.{Changes, changes-more, changes-none}
 use Rattle.recurrence.proofs.Sums.{turned, becomes}
 use Rattle.recurrence.proofs.vector.update_direction.Statement.{statement}
 use Rattle.recurrence.proofs.vector.update_direction.Tie as tie

@@ -1,0 +1,96 @@
+-- A shift of 0, of either sign, gives the factor that is not shifted, bit for bit; and modes 0 and 2 pay no heed to the shift. Assumes nothing.
+use Prim.Native.Nat.{ℕ, zero, suc, _+_, _*_, _<_}
+use mathlib.Core.Path.{_≡_, refl, sym, ap, _∙_, subst}
+use mathlib.Core.Bool.{Bool, true, false, cond, true≢false}
+use mathlib.Core.List.{List, [], _∷_}
+use lib.Dec.{T}
+use lib.IntN.{ℤ, pos}
+use native.Mathlib.Nat.{mul-pos}
+use native.Mathlib.Omega.{arith}
+use borrow.Author.Tests.{lt-ltb}
+use lib.ListN.{length, getD}
+use lib.Ieee.{Float, nan, inf, fin, binary64, add, mul, le, lt, fits, ofBits, ofFields, up, down}
+use lib.Ieee.Fits.{add-fits, up-pos, down-pos}
+use lib.Ieee.Scale.{finite}
+use Rattle.loops.specs.Tabulate.{tabulate}
+use Rattle.loops.proofs.Tabulate.{length-tabulate, tabulate-same, getD-tabulate}
+use Rattle.binary64.specs.SquareRoot.{unsigned}
+use Rattle.binary64.specs.Order.{minPositive}
+use Rattle.kapitsa_joint.specs.Table.{Table}
+use Rattle.mass_operator.specs.System.{System}
+use Rattle.incomplete_cholesky.specs.Build.{choleskyRun}
+use Rattle.preconditioner.specs.Mode.{modeOf}
+use Rattle.preconditioner.specs.declared.mode.Mode.{Mode}
+use Rattle.position.specs.Problem.{positionProblem, withOptions}
+use Rattle.preconditioner.specs.Shift.{one, shiftedBy, shifted, passes25}
+use Rattle.position.specs.Prepare.{rowDiagonal, passes8, isLow, preparedDiagonal, diagonals}
+use Rattle.steps.specs.Solve.{solve}
+use Rattle.position_iteration.specs.Method.{methodOf}
+use Rattle.position_iteration.specs.Position.{shiftedProblem}
+use Rattle.rounding.proofs.TimesOne.{times-one, one-more}
+
+-- ---- d × (1 + 0) is d
+one-fits : T (fits binary64 one)
+unfolding ofBits fits
+one-fits = tt
+
+once-more : (s : Bool) (d : Float) → T (fits binary64 d) → T (unsigned d) → shiftedBy (fin s 0 (pos 0)) d ≡ d
+unfolding shiftedBy
+once-more s d f u = ap (mul binary64 d) (one-more s) ∙ times-one binary64 d f u
+
+-- what is not at most MIN is above zero
+under : (m : ℕ) (k : ℤ) (n : ℕ) (d : ℤ) → 0 < n → le (fin true m k) (fin false n d) ≡ true
+unfolding le lt
+under m k n d p = let h : 0 < n * up d * down k = mul-pos (mul-pos p (up-pos d)) (down-pos k) in rw (lt-ltb 0 (m * up k * down d + n * up d * down k) (omega arith))
+
+negative : (m : ℕ) (k : ℤ) → le (fin true m k) minPositive ≡ true
+unfolding ofBits ofFields
+negative m k = under m k _ _ (omega arith)
+
+above-unsigned : (d : Float) → T (finite d) → le d minPositive ≡ false → T (unsigned d)
+unfolding unsigned
+above-unsigned nan f h = absurd f
+above-unsigned (inf s) f h = absurd f
+above-unsigned (fin false m e) f h = tt
+above-unsigned (fin true m e) f h = absurd (true≢false (sym (negative m e) ∙ h))
+
+one-unsigned : T (unsigned one)
+unfolding ofBits unsigned
+one-unsigned = tt
+
+-- ---- a (replaced) diagonal that 8 passes
+module _ (t : Table) (s : Bool) (i : ℕ) (eight : passes8 (rowDiagonal (t .mass) (t .row i)) ≡ true) where
+  kept : shiftedBy (fin s 0 (pos 0)) (preparedDiagonal t i) ≡ preparedDiagonal t i
+  unfolding preparedDiagonal isLow passes8
+  kept = go (le (rowDiagonal (t .mass) (t .row i)) minPositive) refl
+    where
+      held : T (fits binary64 (rowDiagonal (t .mass) (t .row i)))
+      held = unfold rowDiagonal in add-fits binary64 _ _
+
+      go : (b : Bool) → le (rowDiagonal (t .mass) (t .row i)) minPositive ≡ b → shiftedBy (fin s 0 (pos 0)) (cond b one (rowDiagonal (t .mass) (t .row i))) ≡ cond b one (rowDiagonal (t .mass) (t .row i))
+      go true e = once-more s one one-fits one-unsigned
+      go false e = once-more s (rowDiagonal (t .mass) (t .row i)) held (above-unsigned _ (subst T (sym eight) tt) e)
+
+-- document 02, f: "With shift 0 the Rust remains the measure"
+pub unshifted : (t : Table) (s : Bool) → ((i : ℕ) → i < t .rows → passes8 (rowDiagonal (t .mass) (t .row i)) ≡ true) → shifted (fin s 0 (pos 0)) (diagonals t) ≡ diagonals t
+unfolding shifted diagonals
+unshifted t s eight =
+    ap (tabulate (λ i. shiftedBy (fin s 0 (pos 0)) (getD (tabulate (preparedDiagonal t) (t .rows)) i nan))) (length-tabulate (preparedDiagonal t) (t .rows))
+    ∙ tabulate-same _ _ (t .rows) (λ i h. ap (shiftedBy (fin s 0 (pos 0))) (getD-tabulate (preparedDiagonal t) (t .rows) i nan h) ∙ kept t s i (eight i h))
+
+-- so the factor is that of the diagonal itself
+pub unshifted-factor : (a : System) (t : Table) (s : Bool) → ((i : ℕ) → i < t .rows → passes8 (rowDiagonal (t .mass) (t .row i)) ≡ true) → choleskyRun a (shifted (fin s 0 (pos 0)) (diagonals t)) ≡ choleskyRun a (diagonals t)
+unshifted-factor a t s eight = ap (choleskyRun a) (unshifted t s eight)
+
+-- ---- "Past 25, modes 0 and 2 pay no heed to it"
+pub no-heed : (word : ℕ) (a b : Float) → (word ≡ 1 → ⊥) → modeOf word a ≡ modeOf word b
+unfolding modeOf
+no-heed zero a b h = refl
+no-heed (suc zero) a b h = absurd (h refl)
+no-heed (suc (suc n)) a b h = refl
+
+pub shift-unheeded : (fits : Bool) (t : Table) (tolerance : ℕ → Float) (word limit : ℕ) (a b : Float) → (word ≡ 1 → ⊥) → passes25 a ≡ true → passes25 b ≡ true
+    → solve (methodOf fits (shiftedProblem t tolerance a) (modeOf word a)) limit ≡ solve (methodOf fits (shiftedProblem t tolerance b) (modeOf word b)) limit
+shift-unheeded fits t tolerance word limit a b h ea eb =
+    ap (λ (m : Mode). solve (methodOf fits (shiftedProblem t tolerance a) m) limit) (no-heed word a b h)
+    ∙ ap (λ (x : Bool). solve (methodOf fits (withOptions ((25, x) ∷ []) (positionProblem t tolerance)) (modeOf word b)) limit) (ea ∙ sym eb)

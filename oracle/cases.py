@@ -1,0 +1,313 @@
+#!/usr/bin/env python3
+"""Replays worked cases of document 02 on an implementation, and compares every bit.
+
+    python3 oracle/cases.py [FILE..] [--library SO] [--program BIN]
+
+FILE is a list of cases, one JSON object a line; its folder's README has the format. Without one,
+every *.jsonl of the folder KAPITSA_CASES is read, by default ../shared/cases seen from the
+repository's root. --library is a shared library with the functions that src/adapter.c declares:
+the port's (oracle/target/port.so, the default, made by oracle/port), or the model behind the same
+functions (oracle/target/reference_o0.so, made by oracle/build). --program is the job program, by
+default target/bin/job. Where one of them is not there, its cases are left out.
+
+Prints, for each list, how many cases of each kind are equal, which differ, and how many are left
+out and why. The exit status is 1 where one differs, or none was compared.
+"""
+
+import argparse
+import collections
+import ctypes
+import json
+import math
+import os
+import pathlib
+import re
+import struct
+import subprocess
+import sys
+
+HOME = pathlib.Path(__file__).resolve().parent
+
+# The requests of document 02 that are in place. A case is left out while it needs another.
+LANDED = {"f"}
+
+# The request that brings a kind of case.
+BROUGHT_BY = {"groups": "g", "margins": "m", "write": "e", "convert": "e", "same": "e", "sequence": "l"}
+
+ROW_NUMBERS, ROW_BYTES = 27, 248
+MULTIPLIER = 24
+TRAILER_BYTES = 48
+
+# Fills lent outputs beforehand: what stays as it was shows. The bits of a NaN with a payload.
+UNTOUCHED = 0x7FF800005EED5EED
+
+
+def bytes_of(text):
+    """Hexadecimal digits in which (n) stands for n zero bytes."""
+    return bytes.fromhex(re.sub(r"\((\d+)\)", lambda run: "00" * int(run[1]), text))
+
+
+def bits_of(text):
+    """The patterns of doubles that are written without the zeros at their end."""
+    return [int(one.ljust(16, "0"), 16) for one in text.split()]
+
+
+def double(bits):
+    return struct.unpack("<d", struct.pack("<Q", bits))[0]
+
+
+def is_odd(tolerance):
+    """Refusal 26's test: negative, NaN or infinite."""
+    return not (0.0 <= tolerance < math.inf)
+
+
+Trailer = collections.namedtuple(
+    "Trailer", "rows bodies limit mode row_offset mass_offset linear angular length layout"
+)
+
+
+def trailer_of(file):
+    return Trailer(*struct.unpack("<6I2d2I", file[-TRAILER_BYTES:]))
+
+
+class Job:
+    """A table out of its container, which is laid out like a job file; taken as it is, also where
+    counts or words are beyond what a reader would take."""
+
+    def __init__(self, container):
+        trailer = trailer_of(container)
+        self.rows, self.bodies, self.limit, self.mode = trailer[:4]
+        self.tolerances = [trailer.linear, trailer.angular]
+        mass_bytes = 104 if trailer.layout == 1 else 80
+
+        def records(offset, count, size):
+            end = min(offset + size * count, len(container) - TRAILER_BYTES)
+            return [container[at : at + size] for at in range(offset, end, size)]
+
+        rows = records(trailer.row_offset, self.rows, ROW_BYTES)
+        masses = records(trailer.mass_offset, self.bodies, mass_bytes)
+        self.numbers = b"".join(row[: 8 * ROW_NUMBERS] for row in rows)
+        self.words = b"".join(row[8 * ROW_NUMBERS :] for row in rows)
+        self.masses = b"".join(mass[:80] for mass in masses)
+        self.centres = b"".join(mass[80:] for mass in masses)
+
+
+def lent(kind, data):
+    """Memory that holds these bytes."""
+    size = ctypes.sizeof(kind)
+    return (kind * (len(data) // size)).from_buffer_copy(data)
+
+
+def bits(memory):
+    return list(struct.unpack(f"<{len(memory)}Q", bytes(memory)))
+
+
+def outputs(length):
+    return lent(ctypes.c_double, struct.pack("<Q", UNTOUCHED) * length)
+
+
+class Library:
+    """The functions of src/adapter.c. Each method gives what differs from the case."""
+
+    def __init__(self, path):
+        self.library = ctypes.CDLL(str(path))
+
+    def call(self, function, *arguments):
+        """A slice is a pointer, then its length; other arguments are as they are."""
+        passed = []
+        for one in arguments:
+            if isinstance(one, ctypes.Array):
+                passed += [one, ctypes.c_size_t(len(one))]
+            else:
+                passed.append(ctypes.c_double(one) if isinstance(one, float) else ctypes.c_uint32(one))
+        called = getattr(self.library, function)
+        called.restype = None
+        called(*passed)
+
+    def work(self):
+        """Where the library tells of its work memory, it must be 0."""
+        cleared = getattr(self.library, "oracle_work_cleared", None)
+        return [] if cleared is None or cleared() else ["work memory is not cleared"]
+
+    def solve(self, case):
+        job, expect = case.job, case.expect
+        numbers = lent(ctypes.c_double, job.numbers)
+        words, masses = lent(ctypes.c_uint32, job.words), lent(ctypes.c_double, job.masses)
+        solution, impulses = outputs(min(job.rows, 600)), outputs(6 * min(job.bodies, 600))
+        answer = (ctypes.c_uint64 * 5)(*[UNTOUCHED] * 5)
+        self.call(
+            "oracle_solve_position", numbers, words, masses, *job.tolerances,
+            job.rows, job.bodies, job.limit, job.mode, case.shift, solution, impulses, answer,
+        )  # fmt: skip
+        before = bits(lent(ctypes.c_double, job.numbers))
+        if expect["refusal"]:
+            wanted = [expect["refusal"], 0, 0, 0, 0]
+            wanted_solution, wanted_impulses = [UNTOUCHED] * len(solution), [UNTOUCHED] * len(impulses)
+        else:
+            wanted = [0, expect["count"], expect["flag"], *bits_of(expect["maxima"])]
+            wanted_solution, wanted_impulses = bits_of(expect["solution"]), bits_of(expect["impulses"])
+            before[MULTIPLIER::ROW_NUMBERS] = bits_of(expect["multipliers"])
+        return self.work() + different(
+            ("answer", list(answer), wanted),
+            ("solution", bits(solution), wanted_solution),
+            ("multipliers or row numbers", bits(numbers), before),
+            ("impulses", bits(impulses), wanted_impulses),
+        )
+
+    def verdict(self, case, tolerances):
+        """Refusal and verdict of the check by these tolerances."""
+        job = case.job
+        numbers, masses = lent(ctypes.c_double, job.numbers), lent(ctypes.c_double, job.masses)
+        words = lent(ctypes.c_uint32, job.words)
+        answer = (ctypes.c_uint64 * 2)(*[UNTOUCHED] * 2)
+        self.call(
+            "oracle_closing_check", numbers, words, masses, *tolerances,
+            job.rows, job.bodies, lent(ctypes.c_double, case.list), answer,
+        )  # fmt: skip
+        return list(answer)
+
+    def check(self, case):
+        """The verdict; where there is a gap, it is the least pair of tolerances that closes."""
+        expect = case.expect
+        found = self.verdict(case, case.job.tolerances)
+        if expect["refusal"]:
+            return self.work() + different(("answer", found, [expect["refusal"], 0]))
+        said = self.work() + different(("answer", found, [0, expect["closed"]]))
+        gap = bits_of(expect["gap"])
+        at = [double(one) for one in gap]
+        said += different(("at the gap", self.verdict(case, at), [0, 1]))
+        for place, one in enumerate(gap):
+            if one:
+                below = at[:place] + [double(one - 1)] + at[place + 1 :]
+                said += different(("a unit below the gap", self.verdict(case, below), [0, 0]))
+        return said
+
+
+class Program:
+    """The job program's own process."""
+
+    def __init__(self, path):
+        self.path = path
+
+    def program(self, case):
+        run = subprocess.run([self.path], input=case.file, capture_output=True, timeout=60)
+        return different(
+            ("text", run.stdout.decode("ascii", "replace"), printed(case.expect["text"])),
+            ("exit status", run.returncode, 0),
+        )
+
+
+def printed(text):
+    """The lines as the requests in place have them: before h `gap` holds what is `carried` then."""
+    if "h" in LANDED:
+        return text
+    lines = [line for line in text.splitlines(True) if not line.startswith("gap ")]
+    return "".join(re.sub("^carried ", "gap ", line) for line in lines)
+
+
+def different(*compared):
+    return [
+        f"{what}: {shown(found)}, wanted {shown(wanted)}"
+        for what, found, wanted in compared
+        if found != wanted
+    ]
+
+
+def shown(value):
+    if isinstance(value, list):
+        return "[" + " ".join(f"{one:x}" for one in value) + "]"
+    return repr(value)
+
+
+class Case:
+    def __init__(self, line):
+        given = json.loads(line)
+        self.name, self.op, self.expect = given["name"], given["op"], given["expect"]
+        self.job = Job(bytes_of(given["job"])) if "job" in given else None
+        self.file = bytes_of(given["file"]) if "file" in given else None
+        self.list = b"".join(struct.pack("<Q", one) for one in bits_of(given.get("list", "")))
+        self.shift = double(bits_of(given["shift"])[0]) if "shift" in given else 0.0
+        self.has_rules, self.has_shift = "rules" in given, "shift" in given
+
+    def waits_for(self):
+        """The requests that must be in place before the case can be compared. Centres can be left
+        unread, but where they bring a refusal: 6 by one lent, and perhaps 17, where new ones overflow."""
+        needs = {BROUGHT_BY[self.op]} if self.op in BROUGHT_BY else set()
+        if self.has_rules:
+            needs.add("k")
+        if self.has_shift:
+            needs.add("f")
+        if self.op == "program":
+            # A file that is too short for a trailer is refused by 1 all along.
+            trailer = trailer_of(self.file.rjust(TRAILER_BYTES, b"\0"))
+            by_centre = trailer.layout == 1 or self.expect["text"].startswith("solve 17 ")
+            needs |= {"d"} if by_centre else set()
+            needs |= {"j"} if is_odd(trailer.linear) or is_odd(trailer.angular) else set()
+        elif self.op in ("solve", "check"):
+            centres = lent(ctypes.c_double, self.job.centres)
+            by_centre = not all(map(math.isfinite, centres)) or self.expect["refusal"] == 17
+            needs |= {"d"} if by_centre else set()
+            needs |= {"j"} if any(map(is_odd, self.job.tolerances)) else set()
+        return needs - LANDED
+
+    def settle(self):
+        """A library that takes rules tells an odd tolerance by 27; 26 is the program's."""
+        if "k" in LANDED and self.op in ("solve", "check") and self.expect.get("refusal") == 26:
+            self.expect = {"refusal": 27}
+        return self
+
+
+def replay(path, by_op):
+    """Prints one list's tally; how many were compared, and how many differ."""
+    equal, left, differing = collections.Counter(), collections.Counter(), []
+    for line in path.read_text().splitlines():
+        case = Case(line).settle()
+        waits = case.waits_for()
+        if waits:
+            left[case.op, "waits for request " + ", ".join(sorted(waits))] += 1
+        elif isinstance(by_op[case.op], str):
+            left[case.op, by_op[case.op]] += 1
+        else:
+            said = by_op[case.op](case)
+            equal[case.op] += not said
+            if said:
+                differing.append((case.op, case.name, said))
+    print(f"{path.name}:")
+    for op in sorted(set(equal) | {op for op, _, _ in differing}):
+        wrong = sum(1 for one in differing if one[0] == op)
+        print(f"  {op}: {equal[op]} equal, {wrong} differ")
+    for op, name, said in differing:
+        print(f"  DIFFERS {op} {name}: {'; '.join(said)}")
+    for (op, why), count in sorted(left.items()):
+        print(f"  {op}: {count} left out: {why}")
+    return sum(equal.values()) + len(differing), len(differing)
+
+
+def main():
+    cases = pathlib.Path(os.environ.get("KAPITSA_CASES", HOME.parent.parent / "shared/cases"))
+    parser = argparse.ArgumentParser(description="Replays worked cases of document 02.")
+    parser.add_argument("files", nargs="*", type=pathlib.Path, metavar="FILE")
+    parser.add_argument("--library", type=pathlib.Path, default=HOME / "target/port.so")
+    parser.add_argument("--program", type=pathlib.Path, default=HOME.parent / "target/bin/job")
+    asked = parser.parse_args()
+    files = asked.files or sorted(cases.glob("*.jsonl"))
+    if not files:
+        sys.exit(f"oracle/cases.py: no cases in '{cases}'; set KAPITSA_CASES to their folder")
+    missing = lambda path: f"there is no '{path}'"
+    by_op = dict.fromkeys(("solve", "check"), missing(asked.library))
+    by_op["program"] = missing(asked.program)
+    if asked.library.exists():
+        library = Library(asked.library.resolve())
+        by_op.update(solve=library.solve, check=library.check)
+    if asked.program.exists():
+        by_op["program"] = Program(asked.program.resolve()).program
+    compared = wrong = 0
+    for path in files:
+        here, bad = replay(path, by_op)
+        compared, wrong = compared + here, wrong + bad
+    print(f"{compared} cases compared, {wrong} differ")
+    return 1 if wrong or not compared else 0
+
+
+if __name__ == "__main__":
+    sys.exit(main())
