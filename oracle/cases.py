@@ -29,7 +29,7 @@ import sys
 HOME = pathlib.Path(__file__).resolve().parent
 
 # The requests of document 02 that are in place. A case is left out while it needs another.
-LANDED = {"f"}
+LANDED = {"f", "j"}
 
 # The request that brings a kind of case.
 BROUGHT_BY = {"groups": "g", "margins": "m", "write": "e", "convert": "e", "same": "e", "sequence": "l"}

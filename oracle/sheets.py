@@ -6,7 +6,7 @@
 RUN is the oracle's command, `oracle/run` if none is given. Each file of the list is preceded by its
 length, 32 bits, little end first. The list: document 01's examples, the sample jobs, the first three
 of 2,000 generated files for each refusal and, where the job is accepted, for each flag and verdict,
-and files at the edges of refusals 1 and 2.
+files at the edges of refusals 1 and 2, and P1 at tolerances on both sides of 26.
 
 A length of 2^32 - 1 ends the list. A second list follows, of jobs with 8 rows and 4 bodies that go through
 the functions for C in memory for mode 1. Behind it are two files as the job program finds them, with no length:
@@ -15,6 +15,7 @@ the longest sheet there is.
 """
 
 import importlib.util
+import math
 import pathlib
 import struct
 import subprocess
@@ -24,6 +25,7 @@ import tempfile
 HERE = pathlib.Path(__file__).resolve().parent
 CRATE = HERE.parent / "crates" / "job_sheets"
 LONGEST = 8192
+LEAST = math.nextafter(0.0, 1.0)
 
 
 def kind(sheet):
@@ -99,6 +101,27 @@ def edges(make):
     yield placed(nothing, 0, 0, 48)[1:]
 
 
+def tolerances(make):
+    """P1 at tolerances that 26 lets pass and turns back; a NaN one beside 4, 5, 6 and 7, and without rows."""
+    passing = ((-0.0, 0.0), (LEAST, sys.float_info.max))
+    odd = ((-LEAST, 0.0), (0.0, -1.0), (math.inf, 0.0), (0.0, -math.inf), (math.nan, 0.0), (0.0, -math.nan))
+    rows, masses = make.p1().rows, make.p1().masses
+    beside = (
+        {"rows": rows[:216] + struct.pack("<I", 256) + rows[220:]},
+        {"limit": 0},
+        {"masses": struct.pack("<d", math.nan) + masses[8:]},
+        {"rows": rows[:228] + struct.pack("<I", 2) + rows[232:]},
+        {"rows": b""},
+        {"rows": b"", "masses": b""},
+    )
+    changes = [{"tolerances": pair} for pair in passing + odd]
+    changes += [{"tolerances": (0.001, math.nan), **change} for change in beside]
+    for change in changes:
+        job = make.p1()
+        vars(job).update(change)
+        yield job.bytes()
+
+
 def lent(make):
     """The four-bar linkage in memory for mode 1, and what is told of it where the oracle does not say."""
     for mode, told in ((1, None), (0, b"solve 3 0 0\n"), (2, b"solve 3 0 0\n")):
@@ -115,6 +138,10 @@ def lent(make):
     # within the linear tolerance from the start, and far from the angular one: count 0, closed
     job = make.four_bar()
     job.tolerances = (1.0, 1e-12)
+    yield job.bytes(), None
+    # 26 before 6
+    job.tolerances = (1.0, -LEAST)
+    job.masses = job.masses[:-8] + struct.pack("<d", make.INFINITY)
     yield job.bytes(), None
 
 
@@ -143,7 +170,7 @@ def main():
         paths = sorted((run.parent / "target" / "examples").glob("P*.job"))
         paths += sorted((HERE.parent / "samples").glob("*.job"))
         paths += generated(run, folder)
-        files = [path.read_bytes() for path in paths] + list(edges(make))
+        files = [path.read_bytes() for path in paths] + list(edges(make)) + list(tolerances(make))
         through_c, found = list(lent(make)), list(as_found(make))
         sheets = [sheet_of(run, file, folder) for file in files]
         sheets += [told or sheet_of(run, file, folder) for file, told in through_c]

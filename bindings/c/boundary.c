@@ -330,7 +330,8 @@ static void checks_in_all_modes(void)
     for (size_t i = 0; i < CONTROLS; i++) {
         expect(least_tolerance(rows, solved.solution, controls[i].word) == least,
                "the least tolerance that closes the chain", controls[i].name);
-        expect(says(check(&below, no_multipliers, controls[i].word, exactly), KAPITSA_OPEN),
+        expect(check(&below, no_multipliers, controls[i].word, exactly).refusal
+                   == KAPITSA_REFUSED_TOLERANCE,
                "a tolerance below zero", controls[i].name);
     }
 }

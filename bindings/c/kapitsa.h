@@ -77,7 +77,8 @@ enum kapitsa_refusal {
     KAPITSA_REFUSED_STEP = 16,      /* a number in the steps is not finite */
     KAPITSA_REFUSED_RESULT = 17,    /* a final impulse or multiplier is not finite */
     KAPITSA_REFUSED_RANGE = 18,     /* check: a number neither 0 nor from 2^-150 to 2^150 in size */
-    KAPITSA_REFUSED_SHIFT = 25      /* the shift is not finite, below 0 or above 1; right after 3 */
+    KAPITSA_REFUSED_SHIFT = 25,     /* the shift is not finite, below 0 or above 1; right after 3 */
+    KAPITSA_REFUSED_TOLERANCE = 26  /* a tolerance is negative, NaN or infinite; right after 4 */
 };
 
 /* MXCSR as a program starts: round to nearest, subnormal numbers kept, exceptions masked. */
@@ -127,7 +128,7 @@ enum kapitsa_refusal {
 
 /* ---- the raw functions; at their end a pointer and a length for each work slice, in order */
 
-/* Refusals 3, 25 and 4 to 17. counts (2) gets count and flag, maxima (2) the linear and the angular
+/* Refusals 3, 25, 4, 26 and 5 to 17. counts (2) gets count and flag, maxima (2) the linear and the angular
    residual maximum; with them accumulated multipliers (in numbers), solution and impulses are
    written. In mode 1 each pivot starts from diagonal * (1 + shift): 0 is the plain factor, a little
    more lets rows pass that say almost the same and that 13 turns back. Modes 0 and 2 use no shift,
@@ -141,7 +142,7 @@ KAPITSA_MUST_USE uint32_t kapitsa_solve_position(
     uint32_t *counts, size_t counts_len, double *maxima, size_t maxima_len
     KAPITSA_SOLVE_WORK(KAPITSA_TAKES_DOUBLES, KAPITSA_TAKES_WORDS));
 
-/* Refusals 3, 4, 6, 7 and 18. multipliers are the gains since the errors were measured, such as a
+/* Refusals 3, 4, 26, 6, 7 and 18. multipliers are the gains since the errors were measured, such as a
    solve's solution. verdict (1) gets KAPITSA_OPEN or KAPITSA_CLOSED. */
 KAPITSA_MUST_USE uint32_t kapitsa_closing_check(
     const double *numbers, size_t numbers_len, const uint32_t *words, size_t words_len,

@@ -155,7 +155,8 @@ fn floating_point_modes(tests: &mut Tests) {
         tests.expect(found.solved == Err(Refusal::Residual), "14 for a subnormal error");
         tests.expect(found.checked == Err(Refusal::Range), "18 for a subnormal error");
         let found = outcome(&below_zero, mode, &mut work);
-        tests.expect(found.checked == Ok(Verdict::Open), "a tolerance below zero");
+        tests.expect(found.solved == Err(Refusal::Tolerance), "26 for a tolerance below zero");
+        tests.expect(found.checked == Err(Refusal::Tolerance), "26 for a tolerance below zero, check");
         for job in [p1(-0.25, 0.001), chain(), tiny.clone(), below_zero.clone()] {
             let wanted = outcome(&job, mode, &mut work);
             for (name, control) in MODES {

@@ -75,6 +75,7 @@ refusals! {
     Result = 17, "a final impulse or multiplier is not finite";
     Range = 18, "check: a number neither 0 nor from 2^-150 to 2^150 in size";
     Shift = 25, "the shift is not finite, below 0 or above 1";
+    Tolerance = 26, "a tolerance is negative, NaN or infinite";
 }
 
 impl fmt::Display for Refusal {

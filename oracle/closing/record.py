@@ -1,14 +1,15 @@
 #!/usr/bin/env python3
 """Closing checks worked in exact rational arithmetic.
 
-Written from document 01 ("The closing check", refusals 3, 4, 6, 7, 18) alone: every operation is done on
+Written from document 01 ("The closing check", refusals 3, 4, 6, 7, 18) and 02 (26) alone: every operation is done on
 fractions, and where the document rounds, the exact result is rounded to the nearest double once. For each
 check the exact gap is formed as well, and what a verdict means is tested on it before the check is listed.
 
     cd crates/closing_recorded && ../../oracle/closing/record.py > stdin 2> stdout
 
 `stdin` is the list and `stdout` what the program must print of it. First come 1,500 drawn checks, then those that
-are not drawn: two refusals at once, the largest counts and one beyond, and tolerances at the reach.
+are not drawn: two refusals at once, the largest counts and one beyond, tolerances on both sides of 26 and at the
+reach.
 
 A check is a run of 64-bit words, little end first: its length in bytes, rows n, bodies b, the linear and the
 angular tolerance, the answer (0 open, 1 closed, else the refusal's number), 27n row numbers, 8n row words,
@@ -100,13 +101,15 @@ class Sheet:
 
 def holds(size_and_radius, tolerance):
     size, radius, _ = size_and_radius
-    if not math.isfinite(tolerance):
-        return tolerance > 0
     return rounded(size + radius) <= Fraction(tolerance)
 
 
 def passes_4(word):
     return word[0] <= 255 and all(word[i] <= 1 for i in (1, 4, 5)) and word[7] == 0
+
+
+def passes_26(tolerance):
+    return math.isfinite(tolerance) and tolerance >= 0.0
 
 
 def passes_7(row, word, bodies):
@@ -145,6 +148,8 @@ def answer(sheet):
         return 3
     if not all(map(passes_4, sheet.words)):
         return 4
+    if not all(map(passes_26, sheet.tolerances)):
+        return 26
     if not all(math.isfinite(x) for mass in sheet.masses for x in mass):
         return 6
     if not all(passes_7(row, word, bodies) for row, word in zip(sheet.numbers, sheet.words)):
@@ -158,10 +163,9 @@ def verdict(sheet):
     found = sheet.measured()
     told = [holds(each, sheet.tolerance(i)) for i, each in enumerate(found)]
     for i, (closed, (_, radius, gap)) in enumerate(zip(told, found)):
-        tolerance = sheet.tolerance(i)
-        if math.isfinite(tolerance):
-            assert not closed or gap <= Fraction(tolerance), "closed, and the exact gap is beyond its tolerance"
-            assert closed or gap + 2 * radius > Fraction(tolerance), "open, and the exact gap is well within"
+        tolerance = Fraction(sheet.tolerance(i))
+        assert not closed or gap <= tolerance, "closed, and the exact gap is beyond its tolerance"
+        assert closed or gap + 2 * radius > tolerance, "open, and the exact gap is well within"
     return 1 if all(told) else 0
 
 
@@ -275,12 +279,12 @@ def plain_sheet(rows, bodies):
 
 
 def put(listed, value):
-    """A change of a sheet: number or word `at` of its row or body `i` becomes `value`."""
+    """A change of a sheet: number or word `at` of its row or body `i`, or tolerance `i`, becomes `value`."""
 
     def change(sheet, i):
         where, at = listed
         target = getattr(sheet, where)
-        if where == "multipliers":
+        if where in ("multipliers", "tolerances"):
             target[i] = value
         else:
             target[i][at] = value
@@ -288,9 +292,12 @@ def put(listed, value):
     return change
 
 
-# What each refusal looks at and those before it do not.
+LEAST = math.nextafter(0.0, 1.0)
+
+# What each refusal looks at and those before it do not, in the order in which they are judged.
 FAULTS = {
     4: [put(("words", at), value) for at, value in ((0, 256), (1, 2), (4, 2), (5, 2), (7, 1))],
+    26: [put(("tolerances", 0), value) for value in (-LEAST, math.nan, math.inf)],
     6: [put(("masses", 0), math.nan), put(("masses", 4), math.inf), put(("masses", 9), -math.inf)],
     7: [
         put(("numbers", 6), math.nan),
@@ -324,7 +331,7 @@ def two_faults():
 
 def all_faults(sheet):
     """The first of each refusal's faults, in the last row or body, and one more at each step."""
-    for number in sorted(FAULTS, reverse=True):
+    for number in reversed(FAULTS):
         FAULTS[number][0](sheet, -1)
         assert answer(sheet) in (3, number)
         yield copy.deepcopy(sheet)
@@ -340,8 +347,8 @@ def counts():
 
 
 def without_rows():
-    """Closed at any tolerance; 3, 6 and 18 look at the masses still."""
-    for tolerances in ([math.nan, -1.0], [0.0, 0.0], [-math.inf, 1.0]):
+    """Closed at any tolerance that 26 lets pass; 3, 6 and 18 look at the masses still."""
+    for tolerances in ([math.nan, -1.0], [0.0, 0.0], [-math.inf, 1.0], [-0.0, LEAST], [1.0, math.inf], [-LEAST, 0.0]):
         sheet = plain_sheet(0, 2)
         sheet.tolerances = tolerances
         yield sheet
@@ -350,6 +357,19 @@ def without_rows():
     for fault in (FAULTS[6][1], FAULTS[18][3]):
         sheet = plain_sheet(0, 2)
         fault(sheet, 1)
+        yield sheet
+
+
+def at_26():
+    """26 by one tolerance alone, and what it lets pass: a gap of 0 closes at −0.0."""
+    passing, odd = (0.0, -0.0, LEAST, sys.float_info.max), (-LEAST, -1.0, -math.inf, math.inf, math.nan)
+    for value, place in itertools.product(passing + odd, (0, 1)):
+        sheet = plain_sheet(2, 2)
+        for row in sheet.numbers:
+            row[ERROR] = 0.0
+        sheet.multipliers = [0.0, 0.0]
+        sheet.tolerances[place] = value
+        assert answer(sheet) == (1 if value in passing else 26)
         yield sheet
 
 
@@ -390,6 +410,7 @@ def not_drawn(chance):
     yield from all_faults(plain_sheet(3, 3))
     yield from counts()
     yield from without_rows()
+    yield from at_26()
     for rows in (5, 6, 7, 8):
         for bodies in (2, 3, 4, 2):
             yield from at_own_reach(rows, bodies, [chance.uniform(-2.0, 2.0) for _ in range(40)], chance)
@@ -409,7 +430,7 @@ def words_of(sheet, told):
     return [8 * (len(words) + 1), *words]
 
 
-PRINTED = {1: "closed", 0: "open", **{number: f"refused by {number}" for number in (3, 4, 6, 7, 18)}}
+PRINTED = {1: "closed", 0: "open", **{number: f"refused by {number}" for number in (3, 4, 26, 6, 7, 18)}}
 
 
 def main():

@@ -6,7 +6,7 @@ mod slip;
 mod worked;
 
 use crate::job::{BLOCK_JACOBI, INCOMPLETE_CHOLESKY, Job, Solved};
-use crate::model::{Begun, Table, at_factor};
+use crate::model::{Begun, Table, at_factor, solve, tolerances_fit};
 use items::{Item, items};
 use slip::{SLIPS, Slip};
 use std::collections::BTreeSet;
@@ -20,6 +20,11 @@ struct Seen {
     rows: u32,
     bodies: u32,
     refusal: u32,
+    odd_tolerance: bool,
+    /// What a job that is refused by 26 would be refused by at tolerance 0.
+    else_by: u32,
+    /// A tolerance is −0.0, and the job is not refused.
+    minus_zero: bool,
     accepted: bool,
     changed: Vec<Slip>,
     not_finite: &'static str,
@@ -42,6 +47,12 @@ impl Seen {
         let refusal = solved.answer.refusal();
         let Job { mode, rows, bodies, .. } = *job;
         let mut seen = Seen { mode, rows, bodies, refusal, ..Seen::default() };
+        seen.odd_tolerance = !tolerances_fit(job);
+        let minus_zero = |value: &f64| value.to_bits() == (-0.0_f64).to_bits();
+        seen.minus_zero = refusal == 0 && job.tolerances.iter().any(minus_zero);
+        if refusal == 26 {
+            seen.else_by = solve(&Job { tolerances: [0.0; 2], ..job.clone() }).answer.refusal();
+        }
         if let Some((table, begun)) = at_factor(job) {
             seen.at_factor(job, solved, &table, &begun)?;
         }

@@ -35,6 +35,7 @@ fn refusals() -> Vec<Difference> {
     let mut worn = Job { mode: INCOMPLETE_CHOLESKY, shift: two(-20), ..p1() };
     push_x_row(&mut worn, 0, 1, -0.25);
     worn.set(1, LINEAR_A, &[1.0, two(-28), 0.0]);
+    let at = |tolerances, job: Job| Job { tolerances, ..job };
     let named = |name, input, job| Difference { name, input, job };
     vec![
         named("17-bodies", "P1, inverse masses 2^-1000, multiplier the largest double", moved),
@@ -45,6 +46,9 @@ fn refusals() -> Vec<Difference> {
         named("6-no-rows", "no rows, one body of inverse mass NaN", empty),
         named("10", "mode 1, a star of 182 rows", star(182)),
         named("3", "513 rows that are closed", many),
+        named("26-infinite", "P1, linear tolerance infinite", at([f64::INFINITY, 0.001], p1())),
+        named("26-nan", "P1, angular tolerance NaN", at([0.001, f64::NAN], p1())),
+        named("26-no-rows", "no rows, tolerances -1", at([-1.0; 2], Job::default())),
         named("25", "P1 with shift 1.5", Job { shift: 1.5, ..p1() }),
         named("shift", "P1's row and one with linear_a (1, 2^-28, 0), mode 1, shift 2^-20", worn),
     ]
@@ -64,7 +68,8 @@ fn methods() -> Vec<Difference> {
     let mut opposite = chain_along_x(0.5, &[-1.0]);
     push_x_row(&mut opposite, 0, 1, 1.0);
     let small = Job { tolerances: [1e-170; 2], ..chain_along_x(0.5, &[1e-160]) };
-    let renewal = Job { limit: 1, tolerances: [-1.0; 2], ..p1() };
+    let renewal = chain_along_x(1.0, &[two(-510), 0.0]);
+    let renewal = Job { limit: 1, tolerances: [0.0; 2], ..renewal };
     let named = |name, input, job| Difference { name, input, job };
     vec![
         named("roots", "P1, inverse masses 1, error -0.75, mode 1", roots.clone()),
@@ -82,7 +87,7 @@ fn methods() -> Vec<Difference> {
         ),
         named("threshold-14", "P7", small),
         named("threshold-15", "P5", opposite),
-        named("last-renewal", "P1, limit 1, tolerance -1", renewal),
+        named("last-renewal", "P4 with errors 2^-510 and 0, tolerance 0", renewal),
     ]
 }
 
@@ -90,8 +95,9 @@ pub fn run() -> bool {
     for difference in refusals().iter().chain(&methods()) {
         println!("{}: {}", difference.name, difference.input);
         println!("  Rust:        {}", rust(&difference.job));
-        // The Rust has no shift, nor has document 01.
-        let measure = if difference.job.shift == 0.0 { "01" } else { "02" };
+        // Neither the Rust nor document 01 has a shift or judges a tolerance.
+        let same = difference.job.shift == 0.0 && model::tolerances_fit(&difference.job);
+        let measure = if same { "01" } else { "02" };
         println!("  document {measure}: {}", document(&difference.job));
     }
     true

@@ -14,7 +14,8 @@ pub enum RustOutcome {
 }
 
 /// The one table of document 01's "Rust:": every refusal that the Rust knows, and how
-/// it tells it. Refusals that are not listed are added by document 01.
+/// it tells it. Refusals that are not listed are added by documents 01 and 02: a job that
+/// meets one of them first is not compared.
 pub const RUST_OUTCOMES: [(u32, RustOutcome); 11] = [
     (5, RustOutcome::NotAvailable),
     (7, RustOutcome::InvalidContact),

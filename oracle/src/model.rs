@@ -13,7 +13,7 @@ mod table;
 pub use algebra::{Side, Vector, cross, scaled};
 pub use closing::{closing_check, measure};
 pub use steps::Begun;
-pub use table::{Row, Table};
+pub use table::{Row, Table, tolerances_fit};
 
 use crate::job::{Answer, Job, Solved};
 use preconditioner::Preconditioner;

@@ -5,12 +5,11 @@ use mathlib.Core.Bool.{Bool, true, false, _&&_, true≢false}
 use mathlib.Core.List.{List, [], _∷_}
 use mathlib.Core.Logic.{_↔_, inl, inr}
 use native.Mathlib.Omega.{arith}
-use lib.Dec.{T, eqb, ltb}
+use lib.Dec.{T, eqb}
 use lib.IntN.{pos, _+ℤ_, _*ℤ_}
 use lib.Signed.{_≤ℤ_, _<ℤ_}
 use lib.Ieee.{Float, binary64, le, fits}
 use lib.Ieee.Scale.{finite}
-use borrow.Author.Tests.{ltb-true}
 use Rattle.loops.specs.Run.{Run, going, ended, on, check}
 use Rattle.loops.specs.Every.{every}
 use Rattle.loops.specs.Judge.{judge, AllPass, FirstToFail}
@@ -18,13 +17,13 @@ use Rattle.loops.specs.Cleared.{plusZero}
 use Rattle.loops.proofs.Both.{both}
 use Rattle.loops.proofs.Every.{every-iff, every-false}
 use Rattle.loops.proofs.Judge.{judge-going, judge-ended}
-use Rattle.loops.proofs.Ranges.{among-judge}
+use Rattle.loops.proofs.Ranges.{among-judge, listed-after}
 use Rattle.loops.proofs.Ranges as Ranges
 use Rattle.kapitsa_math.specs.Vector.{absOf}
 use Rattle.kapitsa_math.specs.declared.vector.Vec3.{Vec3}
 use Rattle.kapitsa_joint.specs.Row.{jacobianOf}
 use Rattle.kapitsa_joint.specs.Table.{Table}
-use Rattle.joint_refusals.specs.Refusals.{passes7, isValidOf}
+use Rattle.joint_refusals.specs.Refusals.{passes6, passes7, isValidOf}
 use Rattle.joint_refusals.proofs.Valid.{Bodies, valid-bodies}
 use Rattle.kapitsa_joint.specs.declared.row.RowJacobian.{RowJacobian}
 use Rattle.kapitsa_joint.specs.declared.mass.SolverMass.{SolverMass}
@@ -34,7 +33,7 @@ use Rattle.check_range.specs.Closing.{Closing}
 use Rattle.check_measure.specs.Verdict.{valueOf, sizeOf, radius, reach, within, closes}
 use Rattle.check_measure.specs.Gap.{gap, scaled, valueZ}
 use Rattle.check_refusals.specs.Judged.{tableTests, judgements}
-use Rattle.check_refusals.proofs.Judgement.{passed-7, passed-18}
+use Rattle.check_refusals.proofs.Judgement.{passed-tolerances, passed-7, passed-18}
 use Rattle.check_answer.specs.Answer.{verdictOf, checkOf, Exceeds, CheckMeaning}
 use Rattle.check_answer.specs.declared.CheckAnswer.{CheckAnswer}
 use Rattle.check_answer.specs.declared.CheckAnswer.the-variants.{Closed, Open, Refused}
@@ -43,7 +42,7 @@ use Rattle.check_measure.proofs.Values.{Listed, ListedVec, ListedRow, ListedMas
 use Rattle.check_answer.proofs.Listed.{listed}
 use Rattle.check_measure.proofs.Radius.{reach-finite, reach-least, row-closed, row-open}
 
--- ---- the numbers of a table are doubles
+-- ---- the numbers of a check are doubles
 pub record HeldVec (v : Vec3) : Type 0 where
   pub x : T (fits binary64 (v .x))
   pub y : T (fits binary64 (v .y))
@@ -67,6 +66,7 @@ pub record Held (c : Closing) : Type 0 where
   pub mass : (b : ℕ) → HeldMass (c .table .mass b)
   pub list : (i : ℕ) → T (fits binary64 (c .listed i))
   pub tolerance : (i : ℕ) → T (fits binary64 (c .tolerance i))
+  pub sure : AllPass (c .toleranceTests) → (i : ℕ) → i < c .table .rows → T (finite (c .tolerance i))  -- what passes is finite
 
 -- ---- tests taken apart
 listed-vec : (v : Vec3) → HeldVec v → vecInRange v ≡ true → ListedVec v
@@ -227,29 +227,32 @@ module _ (fits : Bool) (c : Closing) where
       unfolding AllPass
       few-of = few (p .0)
 
-      tests-of : AllPass (tableTests (c .table) (c .error) (c .listed))
+      tests-of : AllPass (tableTests c)
       unfolding AllPass
       tests-of = p .1
 
       seven-of : passes7 (c .table) ≡ true
-      seven-of = passed-7 (c .table) (c .error) (c .listed) tests-of
+      seven-of = passed-7 c tests-of
 
       eighteen-of : passes18 c ≡ true
-      eighteen-of = passed-18 (c .table) (c .error) (c .listed) tests-of
+      eighteen-of = passed-18 c tests-of
+
+      finite-of : (i : ℕ) → i < c .table .rows → T (finite (c .tolerance i))
+      finite-of = held .sure (passed-tolerances c tests-of)
 
     pub reaches-of : Verdict → (i : ℕ) → i < c .table .rows → T (finite (reach c i)) × (le plusZero (reach c i) ≡ true)
     reaches-of h = let p = passes-of h in reach-row c held (few-of p) (seven-of p) (eighteen-of p)
 
-    closed-of : checkOf fits c ≡ Closed → (i : ℕ) → i < c .table .rows → T (finite (c .tolerance i)) → pos (gap c i) ≤ℤ scaled (c .tolerance i)
+    closed-of : checkOf fits c ≡ Closed → (i : ℕ) → i < c .table .rows → pos (gap c i) ≤ℤ scaled (c .tolerance i)
     closed-of h i l =
         let p = passes-of (closed-apart h) in
-        closed-row c held (few-of p) (seven-of p) (eighteen-of p) i l (every-iff (within c) (c .table .rows) .0 (sym closes-every ∙ closed-closes c (sym (verdict-of p) ∙ h)) i l)
+        closed-row c held (few-of p) (seven-of p) (eighteen-of p) i l (every-iff (within c) (c .table .rows) .0 (sym closes-every ∙ closed-closes c (sym (verdict-of p) ∙ h)) i l) (finite-of p i l)
 
     opened-of : checkOf fits c ≡ Open → (i : ℕ) × Exceeds c i
     opened-of h =
         let p = passes-of (open-apart h) in
         let (i, l, e) = every-false (within c) (c .table .rows) (sym closes-every ∙ open-misses c (sym (verdict-of p) ∙ h)) in
-        (i, record { row = l; misses = e; exceeds = open-row c held (few-of p) (seven-of p) (eighteen-of p) i l e })
+        (i, record { row = l; misses = e; exceeds = open-row c held (few-of p) (seven-of p) (eighteen-of p) i l e (finite-of p i l) })
 
     pub means : CheckMeaning fits c (checkOf fits c)
     means = record {
@@ -278,16 +281,11 @@ means-3 {fits} c e = record {
     back n (inl h) = ap Refused (h .1)
     back n (inr h) = absurd (true≢false (sym (h .0) ∙ e))
 
--- ---- no refusal has the number of a verdict
-unfoldable numbersAbove : ℕ → List (ℕ × Bool) → Bool
-numbersAbove k [] = true
-numbersAbove k (t ∷ l) = ltb k (t .0) && numbersAbove k l
-
-listed-above : (k : ℕ) (l : List (ℕ × Bool)) → numbersAbove k l ≡ true → Ranges.Listed (λ n. k < n) l
-unfolding numbersAbove Ranges.Listed
-listed-above k [] h = tt
-listed-above k (t ∷ l) h = let (p, q) = both (ltb k (t .0)) (numbersAbove k l) h in (ltb-true k (t .0) p, listed-above k l q)
-
-pub refusal-above : (fits : Bool) (c : Closing) (n : ℕ) → FirstToFail (judgements fits c) n → 1 < n
-unfolding numbersAbove
-refusal-above fits c n h = among-judge (λ n. 1 < n) (judgements fits c) (listed-above 1 (judgements fits c) refl) n (judge-ended (judgements fits c) n .1 h)
+-- ---- no refusal has the number of a verdict, where none of the tolerances' has
+pub refusal-above : (fits : Bool) (c : Closing) → Ranges.Listed (λ n. 1 < n) (c .toleranceTests) → (n : ℕ) → FirstToFail (judgements fits c) n → 1 < n
+unfolding Ranges.Listed
+refusal-above fits c above n h =
+    let t = c .table in
+    let rest : List (ℕ × Bool) = (6, passes6 t) ∷ (7, passes7 t) ∷ (18, passes18 c) ∷ [] in
+    let last : Ranges.Listed (λ n. 1 < n) rest = (omega arith, (omega arith, (omega arith, tt))) in
+    among-judge (λ n. 1 < n) (judgements fits c) (omega arith, (omega arith, listed-after (λ n. 1 < n) (c .toleranceTests) rest above last)) n (judge-ended (judgements fits c) n .1 h)

@@ -1,4 +1,4 @@
--- The answer of the closing check, and what it means. Document 01: "Refusals here: 3, 4, 6, 7, 18", judged in this order; "No rows, and no refusal: closed."
+-- The answer of the closing check, and what it means. Document 01: "No rows, and no refusal: closed."
 use Prim.Native.Nat.{ℕ, _<_}
 use mathlib.Core.Path.{_≡_}
 use mathlib.Core.Bool.{Bool, false, true}
@@ -30,17 +30,18 @@ verdictOf c = check (closes c) Closed Open
 unfoldable pub checkOf : Bool → Closing → CheckAnswer
 checkOf fits c = on (judge (judgements fits c)) (λ _. verdictOf c) Refused
 
--- a row that is not within its tolerance: its exact gap plus twice its radius exceeds it, or it is no finite number
+-- a row that is not within its tolerance: its exact gap plus twice its radius exceeds it
 pub record Exceeds (c : Closing) (i : ℕ) : Type 0 where
   pub row : i < c .table .rows
   pub misses : within c i ≡ false
-  pub exceeds : T (finite (c .tolerance i)) → scaled (c .tolerance i) <ℤ (pos (gap c i) +ℤ pos 2 *ℤ scaled (radius c i))
+  pub exceeds : scaled (c .tolerance i) <ℤ (pos (gap c i) +ℤ pos 2 *ℤ scaled (radius c i))
 
 -- Demand 3: "the closing check gives a verdict exactly when they pass refusals 3, 4, 6 and 7 and each number refusal 18 names is zero or from 2^-150 to 2^150 in size.
 -- Whenever it says closed, each row's exact gap, over whole numbers, is within its tolerance; whenever it says open, some row's exact gap plus twice document 01's radius for that row exceeds its tolerance."
+-- Tolerances that are no finite number from 0 up get no verdict (document 02, j), so that every verdict is sure.
 pub record CheckMeaning (fits : Bool) (c : Closing) (answer : CheckAnswer) : Type 0 where
   pub verdict : ((n : ℕ) → answer ≡ Refused n → ⊥) ↔ AllPass (judgements fits c)
   pub refused : (n : ℕ) → (answer ≡ Refused n) ↔ FirstToFail (judgements fits c) n
   pub reaches : ((n : ℕ) → answer ≡ Refused n → ⊥) → (i : ℕ) → i < c .table .rows → T (finite (reach c i)) × (le plusZero (reach c i) ≡ true)
-  pub closed : answer ≡ Closed → (i : ℕ) → i < c .table .rows → T (finite (c .tolerance i)) → pos (gap c i) ≤ℤ scaled (c .tolerance i)
+  pub closed : answer ≡ Closed → (i : ℕ) → i < c .table .rows → pos (gap c i) ≤ℤ scaled (c .tolerance i)
   pub opened : answer ≡ Open → (i : ℕ) × Exceeds c i

@@ -1,14 +1,18 @@
 -- What a closing check is given: the table, and of each row its error, its number in the list and its tolerance.
 use Prim.Native.Nat.{ℕ}
+use mathlib.Core.Bool.{Bool}
+use mathlib.Core.List.{List}
 use lib.Ieee.{Float}
-use Rattle.kapitsa_joint.specs.Table.{Table, byDimension}
+use Rattle.kapitsa_joint.specs.Table.{Table}
 use Rattle.kapitsa_joint.specs.declared.tolerance.JointTolerance.{JointTolerance}
+use Rattle.joint_refusals.specs.Tolerances.{twoTolerances}
 
 pub record Closing : Type 0 where
   pub table : Table
   pub error : ℕ → Float
   pub listed : ℕ → Float
   pub tolerance : ℕ → Float
+  pub toleranceTests : List (ℕ × Bool)  -- what is judged of the tolerances, right after 4
 
 -- document 01: the rows' own errors
 abbrev pub rowError : Table → ℕ → Float
@@ -16,4 +20,6 @@ rowError t i = t .row i .scalars .error
 
 -- of positions, with the tolerance of each row's dimension
 abbrev pub closingOf : Table → (ℕ → Float) → JointTolerance → Closing
-closingOf t listed tolerance = record { table = t; error = rowError t; listed = listed; tolerance = byDimension tolerance t }
+closingOf t listed tolerance =
+    let limits = twoTolerances tolerance t in
+    record { table = t; error = rowError t; listed = listed; tolerance = limits .row; toleranceTests = limits .tests }

@@ -1,16 +1,18 @@
-// Refusals 4, 6, 7 and 18, in this order.
+// Refusals 4, 26, 6, 7 and 18, in this order.
 ghost use mathlib.Core.Path.{_≡_};
 ghost use Prim.Native.Nat.{_*_, _≤_};
 ghost use lib.ListN.{length};
 ghost use Rattle.loops.specs.Judge.{judge};
 ghost use Rattle.kapitsa_joint.specs.Table.{tableOf};
 ghost use Rattle.mass_operator.specs.Flat.{coefficients};
-ghost use Rattle.check_range.specs.Closing.{rowError};
+ghost use Rattle.check_range.specs.Closing.{closingOf};
 ghost use Rattle.check_refusals.specs.Judged.{tableTests, judgedOut};
 use check_range::table_in_range;
 use joint_refusals::masses_finite;
 use joint_refusals::rows_valid;
+use joint_refusals::tolerances_fit;
 use joint_refusals::words_fit;
+use kapitsa_joint::JointTolerance;
 
 pub enum TableJudged {
     Passed,
@@ -24,14 +26,18 @@ pub fn judge_table(
     words: &[u32],
     masses: &[f64],
     multipliers: &[f64],
+    tolerance: JointTolerance,
 ) -> TableJudged
     requires { ⌜ (27 * rows ≤ length (now numbers)) × (8 * rows ≤ length (now words)) × (10 * bodies ≤ length (now masses)) × (rows ≤ length (now multipliers)) ⌝ }
-    ensures { λ r. ⌜ judge (tableTests (tableOf rows bodies (now (numbers .entry)) (now (words .entry)) (now (masses .entry))) (rowError (tableOf rows bodies (now (numbers .entry)) (now (words .entry)) (now (masses .entry)))) (coefficients (now (multipliers .entry)))) ≡ judgedOut r ⌝ }
+    ensures { λ r. ⌜ judge (tableTests (closingOf (tableOf rows bodies (now (numbers .entry)) (now (words .entry)) (now (masses .entry))) (coefficients (now (multipliers .entry))) tolerance)) ≡ judgedOut r ⌝ }
 {
     let n = rows as usize;
     let b = bodies as usize;
     if !words_fit(words, n) {
         return TableJudged::Refused(4);
+    }
+    if !tolerances_fit(tolerance) {
+        return TableJudged::Refused(26);
     }
     if !masses_finite(masses, b) {
         return TableJudged::Refused(6);

@@ -7,28 +7,29 @@ use lib.Ieee.{Float}
 use Rattle.loops.specs.Run.{ended, on}
 use Rattle.loops.specs.Judge.{judge, AllPass}
 use Rattle.loops.proofs.Every.{every-iff}
-use Rattle.loops.proofs.Judge.{judge-going}
+use Rattle.loops.proofs.Judge.{judge-going, judge-pass}
 use Rattle.kapitsa_joint.specs.Row.{rowOf}
 use Rattle.kapitsa_joint.specs.Table.{tableOf}
+use Rattle.kapitsa_joint.specs.declared.tolerance.JointTolerance.{JointTolerance}
 use Rattle.joint_refusals.specs.Refusals.{passes7, isValidOf}
-use Rattle.check_range.specs.Closing.{Closing}
+use Rattle.check_range.specs.Closing.{Closing, closingOf}
 use Rattle.check_refusals.specs.Judged.{tableTests, judgements, judgedOut}
 use Rattle.check_refusals.specs.declared.judge.TableJudged.{TableJudged}
 use Rattle.check_refusals.specs.declared.judge.TableJudged.the-variants as judged
-use Rattle.check_refusals.proofs.Judgement.{judge-pass, passed-7}
+use Rattle.check_refusals.proofs.Judgement.{passed-7}
 use Rattle.check_answer.specs.Answer.{verdictOf, checkOf}
 use Rattle.check_answer.specs.declared.CheckAnswer.the-variants.{Refused}
 use Rattle.joint_refusals.proofs.Valid.{valid-bodies}
 use Rattle.check_answer.proofs.Meaning.{verdict-of}
 use Rattle.check_work.specs.Work.{Valid}
 
-module _ (c : Closing) {j : TableJudged} (e : judge (tableTests (c .table) (c .error) (c .listed)) ≡ judgedOut j) where
+module _ (c : Closing) {j : TableJudged} (e : judge (tableTests c) ≡ judgedOut j) where
   pub refused-judged : (n : ℕ) → j ≡ judged.Refused n → Refused n ≡ checkOf true c
   unfolding checkOf on
-  refused-judged n h = let r : judge (judgements true c) ≡ ended n = judge-pass 3 true (tableTests (c .table) (c .error) (c .listed)) refl refl (e ∙ ap judgedOut h) in rw r
+  refused-judged n h = let r : judge (judgements true c) ≡ ended n = judge-pass 3 true (tableTests c) refl refl (e ∙ ap judgedOut h) in rw r
 
-  all-judged : j ≡ judged.Passed → AllPass (tableTests (c .table) (c .error) (c .listed))
-  all-judged h = judge-going (tableTests (c .table) (c .error) (c .listed)) .0 (e ∙ ap judgedOut h)
+  all-judged : j ≡ judged.Passed → AllPass (tableTests c)
+  all-judged h = judge-going (tableTests c) .0 (e ∙ ap judgedOut h)
 
   pub passed-judged : j ≡ judged.Passed → checkOf true c ≡ verdictOf c
   unfolding AllPass
@@ -43,11 +44,11 @@ valid-of rows bodies numbers words masses h = record {
   apart = λ i l. valid-bodies bodies (rowOf numbers words i) (every-iff (λ i. isValidOf bodies (rowOf numbers words i)) rows .0 h i l) .apart;
 }
 
-pub valid-judged : (rows bodies : ℕ) (numbers : List Float) (words : List ℕ) (masses : List Float) (error listed : ℕ → Float) {j : TableJudged}
-    → judge (tableTests (tableOf rows bodies numbers words masses) error listed) ≡ judgedOut j → j ≡ judged.Passed → Valid rows bodies numbers words
-valid-judged rows bodies numbers words masses error listed e h =
-    let t = tableOf rows bodies numbers words masses in
-    valid-of rows bodies numbers words masses (passed-7 t error listed (judge-going (tableTests t error listed) .0 (e ∙ ap judgedOut h)))
+pub valid-judged : (rows bodies : ℕ) (numbers : List Float) (words : List ℕ) (masses : List Float) (listed : ℕ → Float) (tolerance : JointTolerance) {j : TableJudged}
+    → judge (tableTests (closingOf (tableOf rows bodies numbers words masses) listed tolerance)) ≡ judgedOut j → j ≡ judged.Passed → Valid rows bodies numbers words
+valid-judged rows bodies numbers words masses listed tolerance e h =
+    let c = closingOf (tableOf rows bodies numbers words masses) listed tolerance in
+    valid-of rows bodies numbers words masses (passed-7 c (judge-going (tableTests c) .0 (e ∙ ap judgedOut h)))
 
 pub valid-same : {n m b : ℕ} {numbers : List Float} {words : List ℕ} → m ≡ n → Valid n b numbers words → Valid m b numbers words
 valid-same e v = rw e v

@@ -53,7 +53,7 @@ fn judged_check(
     requires { ⌜ rows ≤ 512 ⌝ }
     ensures { λ r. ⌜ r ≡ checkOf true (closingOf (tableOf rows bodies (now (numbers .entry)) (now (words .entry)) (now (masses .entry))) (coefficients (now (multipliers .entry))) tolerance) ⌝ }
 {
-    let judged = judge_table(rows, bodies, numbers, words, masses, multipliers);
+    let judged = judge_table(rows, bodies, numbers, words, masses, multipliers, tolerance);
     match judged {
         TableJudged::Refused(number) => {
             return CheckAnswer::Refused(number);
@@ -78,7 +78,7 @@ fn judged_check(
     verdict(rows_close(words, values, tolerance, rows as usize))
 }
 
-// Are the joints closed by these multipliers, the gains since the errors were measured? Refusals 3, 4, 6, 7 and 18.
+// Are the joints closed by these multipliers, the gains since the errors were measured? Refusals 3, 4, 26, 6, 7 and 18.
 // What is given is only read; the work memory is +0.0 (integers 0) afterwards, except after refusal 3, which writes nothing.
 pub fn closing_check(
     rows: u32,

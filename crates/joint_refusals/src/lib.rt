@@ -1,6 +1,7 @@
-// Refusals 3 (of the counts) to 7 of document 01 over the lent tables, each judged by itself: true where it does not apply.
+// Refusals 3 (of the counts) to 7 and 26 over the lent tables, each judged by itself: true where it does not apply.
 pub mod counts; // counts.rt: of the counts and the mode
 pub mod judge; // judge.rt: of one row or mass, and of a whole table
+pub mod tolerances; // tolerances.rt: of the two tolerances
 
 pub use counts::counts_fit;
 pub use counts::table_counts_fit;
@@ -9,3 +10,4 @@ pub use judge::masses_finite;
 pub use judge::rows_open;
 pub use judge::rows_valid;
 pub use judge::words_fit;
+pub use tolerances::tolerances_fit;

@@ -15,8 +15,8 @@ use Rattle.check_answer.specs.declared.CheckAnswer.the-variants.{Closed, Open, 
 use Rattle.check_work.specs.Work.{CheckMemory, After}
 
 -- the two tolerances of a call from C
-abbrev pub twoTolerances : Float → Float → JointTolerance
-twoTolerances linear angular = record { «linear_m» = linear; «angular_rad» = angular }
+abbrev pub tolerancePair : Float → Float → JointTolerance
+tolerancePair linear angular = record { «linear_m» = linear; «angular_rad» = angular }
 
 pub record VerdictTold : Type 0 where
   pub number : ℕ

@@ -7,7 +7,7 @@ ghost use Rattle.mass_operator.specs.Flat.{coefficients};
 ghost use Rattle.check_range.specs.Closing.{closingOf};
 ghost use Rattle.check_refusals.specs.Refusals.{passes3, tableLengths};
 ghost use Rattle.check_work.specs.Work.{memoryOf, workLengths};
-ghost use Rattle.kapitsa_c.specs.Closing.{twoTolerances, verdictFits, verdictTold, CheckTold};
+ghost use Rattle.kapitsa_c.specs.Closing.{tolerancePair, verdictFits, verdictTold, CheckTold};
 use check_answer::CheckAnswer;
 use closing_check::closing_check;
 use kapitsa_joint::JointTolerance;
@@ -59,7 +59,7 @@ pub extern "C" fn kapitsa_closing_check(
     sizes: &mut [f64],
 ) -> u32
     ensures { λ r. ⌜ CheckTold (verdictFits (now (verdict .entry)) && passes3 rows bodies (tableLengths (now (numbers .entry)) (now (words .entry)) (now (masses .entry)) (now (multipliers .entry))) (workLengths (memoryOf (now (jacobians .entry)) (now (links .entry)) (now («mass_sizes» .entry)) (now («multiplier_sizes» .entry)) (now (impulses .entry)) (now (values .entry)) (now (sizes .entry)))))
-        (closingOf (tableOf rows bodies (now (numbers .entry)) (now (words .entry)) (now (masses .entry))) (coefficients (now (multipliers .entry))) (twoTolerances «linear_tolerance» «angular_tolerance»))
+        (closingOf (tableOf rows bodies (now (numbers .entry)) (now (words .entry)) (now (masses .entry))) (coefficients (now (multipliers .entry))) (tolerancePair «linear_tolerance» «angular_tolerance»))
         (now (verdict .entry)) record { number = r; verdict = now (verdict .exit) }
         (memoryOf (now (jacobians .entry)) (now (links .entry)) (now («mass_sizes» .entry)) (now («multiplier_sizes» .entry)) (now (impulses .entry)) (now (values .entry)) (now (sizes .entry)))
         (memoryOf (now (jacobians .exit)) (now (links .exit)) (now («mass_sizes» .exit)) (now («multiplier_sizes» .exit)) (now (impulses .exit)) (now (values .exit)) (now (sizes .exit))) ⌝ }

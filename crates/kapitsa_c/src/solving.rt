@@ -6,7 +6,7 @@ ghost use Rattle.preconditioner.specs.Mode.{modeOf};
 ghost use Rattle.position_iteration.specs.Position.{positionOf};
 ghost use Rattle.work_memory.specs.Work.{workMemory};
 ghost use Rattle.work_memory.specs.Lengths.{passes3};
-ghost use Rattle.kapitsa_c.specs.Closing.{twoTolerances};
+ghost use Rattle.kapitsa_c.specs.Closing.{tolerancePair};
 ghost use Rattle.kapitsa_c.specs.Solving.{toldOf, toldFits, SolveTold};
 use kapitsa_joint::JointTolerance;
 use pcg::solve_position_pcg_prepared;
@@ -70,7 +70,7 @@ pub extern "C" fn kapitsa_solve_position(
     values: &mut [f64],
 ) -> u32
     ensures { λ r. ⌜ SolveTold (toldFits (now (counts .entry)) (now (maxima .entry)) && passes3 rows bodies mode (now (numbers .entry)) (now (words .entry)) (now (masses .entry)) (now (solution .entry)) (now (impulses .entry)) (workMemory (now (jacobians .entry)) (now (links .entry)) (now (tolerances .entry)) (now (diagonal .entry)) (now (residual .entry)) (now (pending .entry)) (now (direction .entry)) (now (product .entry)) (now («body_impulses» .entry)) (now (pattern .entry)) (now (order .entry)) (now (values .entry))))
-        (positionOf rows bodies (now (numbers .entry)) (now (words .entry)) (now (masses .entry)) (twoTolerances «linear_tolerance» «angular_tolerance») shift) (modeOf mode shift) limit rows
+        (positionOf rows bodies (now (numbers .entry)) (now (words .entry)) (now (masses .entry)) (tolerancePair «linear_tolerance» «angular_tolerance») shift) (modeOf mode shift) limit rows
         record { numbers = now (numbers .entry); solution = now (solution .entry); impulses = now (impulses .entry) } record { numbers = now (numbers .exit); solution = now (solution .exit); impulses = now (impulses .exit) }
         (now (counts .entry)) (now (maxima .entry)) record { number = r; counts = now (counts .exit); maxima = now (maxima .exit) }
         (workMemory (now (jacobians .entry)) (now (links .entry)) (now (tolerances .entry)) (now (diagonal .entry)) (now (residual .entry)) (now (pending .entry)) (now (direction .entry)) (now (product .entry)) (now («body_impulses» .entry)) (now (pattern .entry)) (now (order .entry)) (now (values .entry)))

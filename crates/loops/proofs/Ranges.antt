@@ -2,7 +2,7 @@
 use Prim.Native.Nat.{ℕ, zero, suc}
 use mathlib.Core.Path.{_≡_, refl, subst}
 use mathlib.Core.Bool.{Bool, true, false, cond}
-use mathlib.Core.List.{List, [], _∷_}
+use mathlib.Core.List.{List, [], _∷_, _++_}
 use mathlib.Core.Logic.{⊎-elim}
 use Rattle.loops.specs.Run.{Run, going, ended, on, next, check, turns}
 use Rattle.loops.specs.Judge.{test, judge, judged}
@@ -16,6 +16,11 @@ Among P r = (n : ℕ) → r ≡ ended n → P n
 unfoldable pub Listed : (ℕ → Type 0) → List (ℕ × Bool) → Type 0
 Listed P [] = Unit
 Listed P (t ∷ l) = P (t .0) × Listed P l
+
+pub listed-after : (P : ℕ → Type 0) (l m : List (ℕ × Bool)) → Listed P l → Listed P m → Listed P (l ++ m)
+unfolding Listed
+listed-after P [] m p q = q
+listed-after P (t ∷ l) m p q = (p .0, listed-after P l m (p .1) q)
 
 module _ {S : Type 0} (P : ℕ → Type 0) where
   pub among-going : (s : S) → Among {S = S} P (going s)

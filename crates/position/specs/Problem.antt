@@ -12,6 +12,7 @@ pub record Problem : Type 0 where
   pub start : ℕ → Float  -- the residual that row i starts from
   pub accumulated : ℕ → Float  -- the number of row i that gains its solution number
   pub options : List (ℕ × Bool)  -- what is judged right after 3, of what is chosen for the whole solve
+  pub toleranceTests : List (ℕ × Bool)  -- what is judged of the tolerances, right after 4
   pub opens : ℕ → Bool  -- row i passes the opening test, refusal 5
   pub lent : List (ℕ × Bool)  -- what is judged, after 6, of numbers that are lent to this kind of solve alone
   pub validFirst : Bool  -- every row passes 7 before any is judged by 8 and 9; otherwise 7 to 9 run row by row
@@ -36,20 +37,22 @@ positionProblem t tolerance = record {
   start = errorStart t;
   accumulated = multipliers t;
   options = [];
+  toleranceTests = [];
   opens = positionOpens t;
   lent = [];
   validFirst = false;
   factorFirst = false;
 }
 
--- with tests right after 3
-abbrev pub withOptions : List (ℕ × Bool) → Problem → Problem
-withOptions tests p = record {
+-- with tests right after 3 and right after 4
+abbrev pub withTests : List (ℕ × Bool) → List (ℕ × Bool) → Problem → Problem
+withTests options toleranceTests p = record {
   table = p .table;
   tolerance = p .tolerance;
   start = p .start;
   accumulated = p .accumulated;
-  options = tests;
+  options = options;
+  toleranceTests = toleranceTests;
   opens = p .opens;
   lent = p .lent;
   validFirst = p .validFirst;

@@ -10,6 +10,8 @@ use Rattle.loops.proofs.Inverse.{next-going}
 use Rattle.loops.proofs.Numbers.{judge-numbers}
 use Rattle.loops.proofs.Ranges.{Among, Listed, among-check, among-going, among-judge, among-judged, among-next}
 use Rattle.kapitsa_joint.specs.Table.{Table}
+use Rattle.kapitsa_joint.specs.declared.tolerance.JointTolerance.{JointTolerance}
+use Rattle.joint_refusals.specs.Tolerances.{twoTolerances}
 use Rattle.mass_operator.specs.System.{systemOf}
 use Rattle.preconditioner.specs.Factor.{factorJudged}
 use Rattle.preconditioner.specs.declared.mode.Mode.{Mode}
@@ -22,7 +24,7 @@ use Rattle.steps.specs.InPlace.{InPlace}
 use Rattle.steps.specs.Numbers.{Numbers, advancing, orderOf, renewing}
 use Rattle.steps.specs.Solve.{solve}
 use Rattle.steps.proofs.InPlace as steps
-use Rattle.position_iteration.specs.Method.{beginOf, factorHere, firstOf, methodOf, openingOf, openingTests, ownerOf}
+use Rattle.position_iteration.specs.Method.{beginOf, factorHere, firstOf, methodOf, openingOf, openingTests, tableTests, ownerOf}
 use Rattle.position_iteration.specs.Places.{Apart, beginPlace, factorPlace, placesOf, positionPlaces}
 use Rattle.position_iteration.proofs.Parts.{advance-numbers, finish-numbers, first-numbers, renew-numbers}
 
@@ -125,7 +127,9 @@ module _ (p : Problem) (mode : Mode) where
     -- whatever the tests answer, their numbers are the same
     opening-numbers : (limit n : ℕ) → openingOf fits p limit ≡ ended n → In n (placesOf p .opening)
     unfolding openingOf numbersOf
-    opening-numbers limit n h = subst (λ (l : List ℕ). In n (3 ∷ l)) (numbers-after (p .options) _ _ refl) (judge-numbers (openingTests fits p limit) n h)
+    opening-numbers limit n h =
+        let tables : numbersOf (tableTests p limit) ≡ numbersOf (tableTests p 0) = ap (λ (l : List ℕ). 4 ∷ l) (numbers-after (p .toleranceTests) _ _ refl) in
+        subst (λ (l : List ℕ). In n (3 ∷ l)) (numbers-after (p .options) (tableTests p limit) (tableTests p 0) tables) (judge-numbers (openingTests fits p limit) n h)
 
     -- each part refuses with the numbers of its place, if no number stands twice: those of `lent` are not named here
     pub problem-numbers : once (orderOf (placesOf p)) ≡ true → Numbers (methodOf fits p mode) (placesOf p)
@@ -157,12 +161,12 @@ module _ (p : Problem) (mode : Mode) where
       problem-not-zero = steps.refusal-not-zero (methodOf fits p mode) (placesOf p) limit problem-in-place (nought .0)
 
 -- ---- positions
-pub position-apart : (t : Table) (tolerance : ℕ → Float) (shift : Float) → Apart (shiftedProblem t tolerance shift)
+pub position-apart : (t : Table) (tolerance : JointTolerance) (shift : Float) → Apart (shiftedProblem t (twoTolerances tolerance t) shift)
 unfolding once stands numbersOf
 position-apart t tolerance shift = record { each = refl }
 
-module _ (fits : Bool) (t : Table) (tolerance : ℕ → Float) (shift : Float) (mode : Mode) (limit : ℕ) where
+module _ (fits : Bool) (t : Table) (tolerance : JointTolerance) (shift : Float) (mode : Mode) (limit : ℕ) where
   -- to be read beside document 01: the places are those of `positionPlaces`
-  pub position-in-place : InPlace (methodOf fits (shiftedProblem t tolerance shift) mode) positionPlaces limit
+  pub position-in-place : InPlace (methodOf fits (shiftedProblem t (twoTolerances tolerance t) shift) mode) positionPlaces limit
   unfolding numbersOf
-  position-in-place = problem-in-place (shiftedProblem t tolerance shift) mode fits limit (position-apart t tolerance shift)
+  position-in-place = problem-in-place (shiftedProblem t (twoTolerances tolerance t) shift) mode fits limit (position-apart t tolerance shift)

@@ -37,13 +37,16 @@ ownerOf t i = t .row i .words .owner
 unfoldable pub passes5 : ℕ → (ℕ → Bool) → ℕ → Bool
 passes5 rows opens limit = cond (eqb rows 0) true (not (eqb limit 0) && every opens rows)
 
--- once 3 has passed, in this order
-abbrev pub tableTests : Table → (ℕ → Bool) → List (ℕ × Bool) → ℕ → List (ℕ × Bool)
-tableTests t opens lent limit = (4, passes4 t) ∷ ((5, passes5 (t .rows) opens limit) ∷ ((6, passes6 t) ∷ lent))
+-- once 3 has passed: first what is chosen, then, in this order
+abbrev pub tableTests : Problem → ℕ → List (ℕ × Bool)
+tableTests p limit = let t = p .table in (4, passes4 t) ∷ (p .toleranceTests ++ ((5, passes5 (t .rows) (p .opens) limit) ∷ ((6, passes6 t) ∷ p .lent)))
+
+abbrev pub afterThree : Problem → ℕ → List (ℕ × Bool)
+afterThree p limit = p .options ++ tableTests p limit
 
 -- fits is whether 3 passes
 abbrev pub openingTests : Bool → Problem → ℕ → List (ℕ × Bool)
-openingTests fits p limit = (3, fits) ∷ (p .options ++ tableTests (p .table) (p .opens) (p .lent) limit)
+openingTests fits p limit = (3, fits) ∷ afterThree p limit
 
 unfoldable pub openingOf : Bool → Problem → ℕ → Run Unit ℕ
 openingOf fits p limit = judge (openingTests fits p limit)

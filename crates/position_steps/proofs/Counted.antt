@@ -12,6 +12,7 @@ use Rattle.loops.proofs.Tabulate.{getD-tabulate}
 use Rattle.kapitsa_joint.specs.Row.{rowOf, wordsOf}
 use Rattle.kapitsa_joint.specs.Table.{Table, tableOf, byDimension, tolerancesIn}
 use Rattle.kapitsa_joint.specs.declared.tolerance.JointTolerance.{JointTolerance}
+use Rattle.joint_refusals.specs.Tolerances.{Tolerances, twoTolerances}
 use Rattle.mass_operator.specs.System.{System, systemOf, compactSystem}
 use Rattle.preconditioner.specs.Factor.{factorJudged}
 use Rattle.preconditioner.specs.Apply.{preconditioned}
@@ -49,9 +50,12 @@ module _ (p : Problem) (mode : Mode) (limit : ℕ) where
   following = followingOf mode (systemOf (p .table)) (ownerOf (p .table)) (diagonals (p .table)) (p .tolerance) limit
 
 -- of positions no factor stands before the count 0 test
-module _ (t : Table) (tolerance : ℕ → Float) (shift : Float) (mode : Mode) (limit : ℕ) where
+module _ (t : Table) (tolerances : Tolerances) (shift : Float) (mode : Mode) (limit : ℕ) where
   abbrev p : Problem
-  p = shiftedProblem t tolerance shift
+  p = shiftedProblem t tolerances shift
+
+  abbrev tolerance : ℕ → Float
+  tolerance = tolerances .row
 
   begins : beginOf p mode ≡ stepZeroOf p
   unfolding beginOf stepZeroOf factorHere check
@@ -85,7 +89,7 @@ module _ (numbers : List Float) (words : List ℕ) (masses : List Float) (rows b
   table = tableOf rows bodies numbers words masses
 
   abbrev problem : Problem
-  problem = shiftedProblem table (byDimension tolerance table) shift
+  problem = shiftedProblem table (twoTolerances tolerance table) shift
 
   abbrev code : ℕ → Iterate → Run (Bool × ℕ × Iterate) ℕ
   code w = followingOf mode (compactSystem rows w jacobians links masses) (jointsIn words) diagonal (tolerancesIn tolerances) limit
@@ -107,7 +111,7 @@ module _ (numbers : List Float) (words : List ℕ) (masses : List Float) (rows b
     follows (begun.Refused k) e = on-ended _ _ _ refl ∙ sym (on-ended _ _ _ refl)
 
     answers : countedOf mode problem limit ≡ iteratedOut o limit x r
-    answers = in-turn table (byDimension tolerance table) shift mode limit ∙ ap (λ (q : Run Iterate ℕ). next q (following problem mode limit)) (held .answered) ∙ follows a refl ∙ here
+    answers = in-turn table (twoTolerances tolerance table) shift mode limit ∙ ap (λ (q : Run Iterate ℕ). next q (following problem mode limit)) (held .answered) ∙ follows a refl ∙ here
 
     -- where the answer is no refusal, step 0 was none
     stands : (q : Begun) → a ≡ q → (p : Bool × ℕ × Iterate) → iteratedOut o limit x r ≡ going p → Stands table masses jacobians links

@@ -1,22 +1,20 @@
--- The ways through refusals 25, 4, 5 and 6. Assumes nothing.
+-- What the tests before step 0 are over the lent lists. Assumes nothing.
 use Prim.Native.Nat.{ℕ, _+_, _*_}
 use mathlib.Core.Path.{_≡_, refl}
-use mathlib.Core.Bool.{Bool, true, false, not}
-use mathlib.Core.List.{List, [], _∷_}
+use mathlib.Core.Bool.{Bool, true, false}
+use mathlib.Core.List.{List}
 use lib.Ieee.{Float}
 use borrow.Author.Tests.{eq-eqb, ne-eqb}
-use Rattle.loops.specs.Run.{Run, going, ended}
+use Rattle.loops.specs.Run.{Run}
 use Rattle.loops.specs.Judge.{judge}
 use Rattle.loops.specs.Every.{every}
-use Rattle.loops.proofs.Judge.{test-pass, test-fail}
+use Rattle.loops.proofs.Judge.{judge-pass}
 use Rattle.kapitsa_joint.specs.Row.{rowOf, scalarsOf, wordsOf}
 use Rattle.kapitsa_joint.specs.Mass.{massOf}
-use Rattle.kapitsa_joint.specs.Table.{Table, tableOf}
+use Rattle.kapitsa_joint.specs.Table.{tableOf}
 use Rattle.joint_refusals.specs.Refusals.{wordsFitOf, massFiniteOf, passes4, opensOf, passes6}
-use Rattle.preconditioner.specs.Shift.{passes25}
-use Rattle.position.specs.Problem.{positionOpens}
-use Rattle.position_iteration.specs.Position.{shiftedProblem}
-use Rattle.position_iteration.specs.Method.{passes5, tableTests, openingOf}
+use Rattle.position.specs.Problem.{Problem}
+use Rattle.position_iteration.specs.Method.{passes5, afterThree, openingOf}
 
 -- ---- `opens`
 module _ (rows : ℕ) (opens : ℕ → Bool) (limit : ℕ) where
@@ -47,35 +45,7 @@ pub rows-five : (numbers : List Float) (words : List ℕ) (rows limit : ℕ) (r 
 unfolding rowOf
 rows-five numbers words rows limit r e = e
 
--- ---- `open_table`
-module _ (t : Table) (opens : ℕ → Bool) (limit : ℕ) (shift : Float) (z : Bool) (ez : z ≡ passes25 shift) where
-  abbrev opening : Run Unit ℕ
-  opening = judge ((25, passes25 shift) ∷ tableTests t opens [] limit)
-
-  pub open-shift : not z ≡ true → opening ≡ ended 25
-  unfolding judge
-  open-shift h = test-fail (passes25 shift) 25 _ ez h
-
-  module _ (pz : not z ≡ false) (a : Bool) (ea : a ≡ passes4 t) where
-    pub open-four : not a ≡ true → opening ≡ ended 4
-    unfolding judge
-    open-four h = test-pass (passes25 shift) 25 _ ez pz (test-fail (passes4 t) 4 _ ea h)
-
-    module _ (pa : not a ≡ false) (b : Bool) (eb : b ≡ passes5 (t .rows) opens limit) where
-      pub open-five : not b ≡ true → opening ≡ ended 5
-      unfolding judge
-      open-five h = test-pass (passes25 shift) 25 _ ez pz (test-pass (passes4 t) 4 _ ea pa (test-fail (passes5 (t .rows) opens limit) 5 _ eb h))
-
-      module _ (pb : not b ≡ false) (c : Bool) (ec : c ≡ passes6 t) where
-        pub open-six : not c ≡ true → opening ≡ ended 6
-        unfolding judge
-        open-six h = test-pass (passes25 shift) 25 _ ez pz (test-pass (passes4 t) 4 _ ea pa (test-pass (passes5 (t .rows) opens limit) 5 _ eb pb (test-fail (passes6 t) 6 _ ec h)))
-
-        pub open-done : not c ≡ false → opening ≡ going tt
-        unfolding judge
-        open-done h = test-pass (passes25 shift) 25 _ ez pz (test-pass (passes4 t) 4 _ ea pa (test-pass (passes5 (t .rows) opens limit) 5 _ eb pb (test-pass (passes6 t) 6 _ ec h refl)))
-
 -- ---- 3 was judged before
-pub opening-after : (t : Table) (tolerance : ℕ → Float) (shift : Float) (limit : ℕ) {o : Run Unit ℕ} → judge ((25, passes25 shift) ∷ tableTests t (positionOpens t) [] limit) ≡ o → openingOf true (shiftedProblem t tolerance shift) limit ≡ o
-unfolding openingOf judge
-opening-after t tolerance shift limit h = test-pass true 3 _ refl refl h
+pub opening-after : (p : Problem) (limit : ℕ) {o : Run Unit ℕ} → judge (afterThree p limit) ≡ o → openingOf true p limit ≡ o
+unfolding openingOf
+opening-after p limit h = judge-pass 3 true (afterThree p limit) refl refl h

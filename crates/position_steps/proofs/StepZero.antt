@@ -1,7 +1,7 @@
 -- The ways to step 0: the opening or a row is refused, or the lent memory holds the table. Assumes nothing.
 use Prim.Native.Nat.{ℕ, _+_, _*_, _<_}
 use mathlib.Core.Path.{_≡_, sym, ap, _∙_, subst}
-use mathlib.Core.List.{List, [], _∷_}
+use mathlib.Core.List.{List}
 use native.Mathlib.Omega.{arith}
 use lib.ListN.{getD, length}
 use lib.Ieee.{Float, nan}
@@ -15,18 +15,18 @@ use Rattle.kapitsa_joint.specs.Row.{rowOf, wordsOf, jacobianOf}
 use Rattle.kapitsa_joint.specs.Table.{Table, tableOf, byDimension, tolerancesIn}
 use Rattle.kapitsa_joint.specs.Tolerance.{dimensionOf, toleranceOf}
 use Rattle.kapitsa_joint.specs.declared.tolerance.JointTolerance.{JointTolerance}
+use Rattle.joint_refusals.specs.Tolerances.{twoTolerances}
 use Rattle.compact_table.specs.Compact.{Gathered}
 use Rattle.mass_operator.specs.System.{systemOf, compactSystem}
-use Rattle.preconditioner.specs.Shift.{passes25}
-use Rattle.position.specs.Problem.{Problem, positionOpens, positionProblem}
+use Rattle.position.specs.Problem.{Problem, positionProblem}
 use Rattle.position_iteration.specs.Position.{shiftTests, shiftedProblem}
 use Rattle.position.specs.Answers.{BegunHeld}
 use Rattle.position.specs.Prepare.{rowJudged, rowsJudged}
 use Rattle.position.specs.declared.prepare.Begun.{Begun}
 use Rattle.position.specs.declared.prepare.Begun.the-variants as begun
-use Rattle.position.proofs.Rows.{begun-options, options-rows}
+use Rattle.position.proofs.Rows.{begun-tested, tested-rows}
 use Rattle.position.proofs.Same.{begun-same}
-use Rattle.position_iteration.specs.Method.{tableTests}
+use Rattle.position_iteration.specs.Method.{afterThree}
 use Rattle.position_steps.specs.Start.{stepZeroOf, StartHeld}
 use Rattle.position_steps.proofs.Openings.{opening-after}
 use Rattle.position_steps.proofs.Tables.{system-same, table-linked}
@@ -36,13 +36,13 @@ module _ (numbers : List Float) (words : List ℕ) (masses : List Float) (rows b
   table = tableOf rows bodies numbers words masses
 
   abbrev problem : Problem
-  problem = shiftedProblem table (byDimension tolerance table) shift
+  problem = shiftedProblem table (twoTolerances tolerance table) shift
 
-  pub unopened : (k : ℕ) (jacobians : List Float) (links : List ℕ) (tolerances diagonal pending residual : List Float) → judge ((25, passes25 shift) ∷ tableTests table (positionOpens table) [] limit) ≡ ended k → StartHeld problem limit masses (begun.Refused k) jacobians links tolerances diagonal pending residual
-  unopened k jacobians links tolerances diagonal pending residual e = record { answered = on-ended _ _ _ {a = k} (opening-after table (byDimension tolerance table) shift limit e); started = λ q. absurd (let z : _≡_ {A = ℕ} 0 1 = cc in omega arith) }
+  pub unopened : (k : ℕ) (jacobians : List Float) (links : List ℕ) (tolerances diagonal pending residual : List Float) → judge (afterThree problem limit) ≡ ended k → StartHeld problem limit masses (begun.Refused k) jacobians links tolerances diagonal pending residual
+  unopened k jacobians links tolerances diagonal pending residual e = record { answered = on-ended _ _ _ {a = k} (opening-after problem limit e); started = λ q. absurd (let z : _≡_ {A = ℕ} 0 1 = cc in omega arith) }
 
   -- the tolerances, gathered from the rows' words
-  module _ (opened : judge ((25, passes25 shift) ∷ tableTests table (positionOpens table) [] limit) ≡ going tt) (tolerances : List Float) (k : ℕ) (ek : k ≡ rows) (gathered : tolerances ≡ tabulate (λ i. toleranceOf tolerance (dimensionOf (getD words (8 * i + 1) 0))) k) where
+  module _ (opened : judge (afterThree problem limit) ≡ going tt) (tolerances : List Float) (k : ℕ) (ek : k ≡ rows) (gathered : tolerances ≡ tabulate (λ i. toleranceOf tolerance (dimensionOf (getD words (8 * i + 1) 0))) k) where
     listed : tolerances ≡ tabulate (byDimension tolerance table) rows
     unfolding rowOf wordsOf
     listed = gathered ∙ ap (tabulate (λ i. toleranceOf tolerance (dimensionOf (getD words (8 * i + 1) 0)))) ek
@@ -52,18 +52,18 @@ module _ (numbers : List Float) (words : List ℕ) (masses : List Float) (rows b
 
     module _ (n : ℕ) (same : n ≡ rows) (a : Begun) (diagonal residual : List Float) (begins : BegunHeld (positionProblem (tableOf n bodies numbers words masses) (tolerancesIn tolerances)) a diagonal residual) where
       held : BegunHeld problem a diagonal residual
-      held = begun-options (shiftTests shift) (positionProblem table (byDimension tolerance table)) a diagonal residual (begun-same table (tolerancesIn tolerances) (byDimension tolerance table) agree a diagonal residual (subst (λ (i : ℕ). BegunHeld (positionProblem (tableOf i bodies numbers words masses) (tolerancesIn tolerances)) a diagonal residual) same begins))
+      held = begun-tested (shiftTests shift) (twoTolerances tolerance table .tests) (positionProblem table (byDimension tolerance table)) a diagonal residual (begun-same table (tolerancesIn tolerances) (byDimension tolerance table) agree a diagonal residual (subst (λ (i : ℕ). BegunHeld (positionProblem (tableOf i bodies numbers words masses) (tolerancesIn tolerances)) a diagonal residual) same begins))
 
       pub start-refused : (k : ℕ) (jacobians : List Float) (links : List ℕ) (pending : List Float) → a ≡ begun.Refused k → StartHeld problem limit masses (begun.Refused k) jacobians links tolerances diagonal pending residual
       unfolding stepZeroOf
-      start-refused k jacobians links pending e = record { answered = on-going _ _ _ {s = tt} (opening-after table (byDimension tolerance table) shift limit opened) ∙ on-ended _ _ _ {a = k} (held .judgement ∙ rw e); started = λ q. absurd (let z : _≡_ {A = ℕ} 0 1 = cc in omega arith) }
+      start-refused k jacobians links pending e = record { answered = on-going _ _ _ {s = tt} (opening-after problem limit opened) ∙ on-ended _ _ _ {a = k} (held .judgement ∙ rw e); started = λ q. absurd (let z : _≡_ {A = ℕ} 0 1 = cc in omega arith) }
 
       module _ (done : a ≡ begun.Done) (pending : List Float) (ep : pending ≡ zeros rows) where
         judgement : rowsJudged problem ≡ going tt
         judgement = held .judgement ∙ rw done
 
         passed : judged (rowJudged problem) rows ≡ going tt
-        passed = sym (options-rows (shiftTests shift) table (byDimension tolerance table)) ∙ judgement
+        passed = sym (tested-rows (shiftTests shift) (twoTolerances tolerance table .tests) table (byDimension tolerance table)) ∙ judgement
 
         begun-is : stepZeroOf problem ≡ going (record { solution = pending; residual = residual })
         unfolding stepZeroOf
@@ -75,6 +75,6 @@ module _ (numbers : List Float) (words : List ℕ) (masses : List Float) (rows b
             let here : Gathered (λ i. jacobianOf (rowOf numbers words i)) rows jacobians₀ links₀ jacobians links = rw em at g in
             let system : compactSystem rows bodies jacobians links masses ≡ systemOf table = system-same numbers words rows en ew bodies masses jacobians₀ jacobians links₀ links (g .longJacobians ∙ ej) (g .longLinks ∙ el) here in
             record {
-              answered = on-going _ _ _ {s = tt} (opening-after table (byDimension tolerance table) shift limit opened) ∙ begun-is;
+              answered = on-going _ _ _ {s = tt} (opening-after problem limit opened) ∙ begun-is;
               started = λ _. record { stands = record { system = system; linked = table-linked problem passed jacobians links masses system }; tolerances-are = listed; diagonal-is = held .diagonal-is done };
             }

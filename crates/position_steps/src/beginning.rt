@@ -35,7 +35,16 @@ pub fn start(
         (now (jacobians .exit)) (now (links .exit)) (now (tolerances .exit)) (now (diagonal .exit)) (now (pending .exit)) (now (residual .exit)) ⌝ }
     ensures { λ _. ⌜ StartFree (now (jacobians .entry)) (now (links .entry)) (now (tolerances .entry)) (now (diagonal .entry)) (now (pending .entry)) (now (residual .entry)) (now (jacobians .exit)) (now (links .exit)) (now (tolerances .exit)) (now (diagonal .exit)) (now (pending .exit)) (now (residual .exit)) ⌝ }
 {
-    match open_table(numbers, words, masses, rows, bodies, limit, shift) {
+    match open_table(
+        numbers,
+        words,
+        masses,
+        rows,
+        bodies,
+        tolerance,
+        limit,
+        shift,
+    ) {
         Opened::Done => {}
         Opened::Refused(number) => {
             return Begun::Refused(number);

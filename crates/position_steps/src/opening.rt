@@ -1,19 +1,18 @@
-// Refusals 25, 4, 5 and 6, before step 0.
+// Refusals 25, 4, 26, 5 and 6, before step 0.
 ghost use mathlib.Core.Path.{_≡_};
-ghost use mathlib.Core.List.{[], _∷_};
 ghost use Prim.Native.Nat.{_+_, _*_, _≤_};
 ghost use lib.ListN.{length};
 ghost use Rattle.loops.specs.Judge.{judge};
 ghost use Rattle.kapitsa_joint.specs.Row.{scalarsOf, wordsOf};
-ghost use Rattle.kapitsa_joint.specs.Table.{tableOf};
 ghost use Rattle.joint_refusals.specs.Refusals.{opensOf};
-ghost use Rattle.position.specs.Problem.{positionOpens};
-ghost use Rattle.position_iteration.specs.Method.{passes5, tableTests};
-ghost use Rattle.preconditioner.specs.Shift.{passes25};
+ghost use Rattle.position_iteration.specs.Method.{passes5, afterThree};
+ghost use Rattle.position_iteration.specs.Position.{positionOf};
 ghost use Rattle.position_steps.specs.Opening.{openedOut};
 use joint_refusals::masses_finite;
 use joint_refusals::rows_open;
+use joint_refusals::tolerances_fit;
 use joint_refusals::words_fit;
+use kapitsa_joint::JointTolerance;
 use loops::wide;
 use preconditioner::shift_fits;
 
@@ -42,17 +41,21 @@ pub fn open_table(
     masses: &[f64],
     rows: u32,
     bodies: u32,
+    tolerance: JointTolerance,
     limit: u32,
     shift: f64,
 ) -> Opened
     requires { ⌜ (27 * rows ≤ length (now numbers)) × (8 * rows ≤ length (now words)) × (10 * bodies ≤ length (now masses)) ⌝ }
-    ensures { λ r. ⌜ judge ((25, passes25 shift) ∷ tableTests (tableOf rows bodies (now (numbers .entry)) (now (words .entry)) (now (masses .entry))) (positionOpens (tableOf rows bodies (now (numbers .entry)) (now (words .entry)) (now (masses .entry)))) [] limit) ≡ openedOut r ⌝ }
+    ensures { λ r. ⌜ judge (afterThree (positionOf rows bodies (now (numbers .entry)) (now (words .entry)) (now (masses .entry)) tolerance shift) limit) ≡ openedOut r ⌝ }
 {
     if !shift_fits(shift) {
         return Opened::Refused(25);
     }
     if !words_fit(words, wide(rows)) {
         return Opened::Refused(4);
+    }
+    if !tolerances_fit(tolerance) {
+        return Opened::Refused(26);
     }
     if !opens(numbers, words, rows, limit) {
         return Opened::Refused(5);

@@ -14,3 +14,5 @@ pub mod Most
 pub mod Factor
 pub mod Verdict
 pub mod TimesOne
+pub mod BitsOrder
+pub mod BitsTell

@@ -7,6 +7,7 @@ use Rattle.kapitsa_joint.specs.Table.{Table}
 use Rattle.kapitsa_joint.specs.Tolerance.{dimensionOf, toleranceOf}
 use Rattle.kapitsa_joint.specs.declared.row.ConstraintRow.{ConstraintRow}
 use Rattle.kapitsa_joint.specs.declared.tolerance.JointTolerance.{JointTolerance}
+use Rattle.joint_refusals.specs.Tolerances.{Tolerances}
 use Rattle.joint_refusals.specs.Refusals.{wordsFitOf, isValidOf, opensOf}
 use Rattle.preconditioner.specs.declared.mode.Mode.{Mode}
 use Rattle.preconditioner.specs.declared.mode.Mode.the-variants as modes
@@ -31,8 +32,8 @@ module _ (t u : Table) (a : AgreeBelow t u) where
     mass = a .mass;
   }
 
-  positions-agree : (shift : Float) (mode : Mode) (tolerance other : ℕ → Float) → ((i : ℕ) → i < t .rows → other i ≡ tolerance i) → ProblemsAgree mode (shiftedProblem t tolerance shift) (shiftedProblem u other shift)
-  positions-agree shift mode tolerance other e = record {
+  positions-agree : (shift : Float) (mode : Mode) (tolerances other : Tolerances) → other .tests ≡ tolerances .tests → ((i : ℕ) → i < t .rows → other .row i ≡ tolerances .row i) → ProblemsAgree mode (shiftedProblem t tolerances shift) (shiftedProblem u other shift)
+  positions-agree shift mode tolerances other tests e = record {
     table = tables-alike;
     owner = λ _ i h. ap (λ (r : ConstraintRow). r .words .owner) (a .row i h);
     tolerance = e;
@@ -40,6 +41,7 @@ module _ (t u : Table) (a : AgreeBelow t u) where
     accumulated = λ i h. ap (λ (r : ConstraintRow). r .scalars .«accumulated_multiplier») (a .row i h);
     opens = λ i h. ap (λ (r : ConstraintRow). opensOf (r .scalars) (r .words)) (a .row i h);
     options = refl;
+    toleranceTests = tests;
     lent = refl;
     validFirst = refl;
     factorFirst = refl;
@@ -51,11 +53,12 @@ module _ (t u : Table) (a : AgreeBelow t u) where
     error = λ i h. ap (λ (r : ConstraintRow). r .scalars .error) (a .row i h);
     listed = e;
     tolerance = λ i h. ap (λ (r : ConstraintRow). toleranceOf tolerance (dimensionOf (r .words .dimension))) (a .row i h);
+    toleranceTests = refl;
   }
 
   pub looks-below : LooksBelow t u
   looks-below = record {
-    solves = λ tolerance other e fits shift mode limit. solve-below mode (shiftedProblem t tolerance shift) (shiftedProblem u other shift) (positions-agree shift mode tolerance other e) fits limit;
+    solves = λ tolerances other tests e fits shift mode limit. solve-below mode (shiftedProblem t tolerances shift) (shiftedProblem u other shift) (positions-agree shift mode tolerances other tests e) fits limit;
     checks = λ listed other e fits tolerance. check-below (closingOf t listed tolerance) (closingOf u other tolerance) (closings-agree listed other e tolerance) fits;
   }
 
@@ -76,15 +79,15 @@ module _ (bodies : ℕ) (r s : ConstraintRow) (a : SameButUnread bodies r s) whe
 
 pub depends : (t u : Table) → TablesButUnread t u → Depends t u
 depends t u a = record {
-  solves = λ mode owners tolerance fits shift limit. solve-below mode (shiftedProblem t tolerance shift) (shiftedProblem u tolerance shift) (problems shift mode owners tolerance) fits limit;
+  solves = λ mode owners tolerances fits shift limit. solve-below mode (shiftedProblem t tolerances shift) (shiftedProblem u tolerances shift) (problems shift mode owners tolerances) fits limit;
   checks = λ listed fits tolerance. check-below (closingOf t listed tolerance) (closingOf u listed tolerance) (closings listed tolerance) fits;
 }
   where
     alike : TablesAlike t u
     alike = record { rows = a .rows; bodies = a .bodies; row = λ i h. unread-alike (t .bodies) (t .row i) (u .row i) (a .row i h); mass = a .mass }
 
-    problems : (shift : Float) (mode : Mode) → (mode ≡ modes.BlockJacobi → (i : ℕ) → i < t .rows → ownerOf u i ≡ ownerOf t i) → (tolerance : ℕ → Float) → ProblemsAgree mode (shiftedProblem t tolerance shift) (shiftedProblem u tolerance shift)
-    problems shift mode owners tolerance = record {
+    problems : (shift : Float) (mode : Mode) → (mode ≡ modes.BlockJacobi → (i : ℕ) → i < t .rows → ownerOf u i ≡ ownerOf t i) → (tolerances : Tolerances) → ProblemsAgree mode (shiftedProblem t tolerances shift) (shiftedProblem u tolerances shift)
+    problems shift mode owners tolerances = record {
       table = alike;
       owner = owners;
       tolerance = λ i h. refl;
@@ -92,6 +95,7 @@ depends t u a = record {
       accumulated = λ i h. a .row i h .«accumulated_multiplier»;
       opens = λ i h. unread-opens (t .bodies) (t .row i) (u .row i) (a .row i h);
       options = refl;
+      toleranceTests = refl;
       lent = refl;
       validFirst = refl;
       factorFirst = refl;
@@ -103,4 +107,5 @@ depends t u a = record {
       error = λ i h. a .row i h .error;
       listed = λ i h. refl;
       tolerance = λ i h. ap (λ (d : ℕ). toleranceOf tolerance (dimensionOf d)) (a .row i h .dimension);
+      toleranceTests = refl;
     }

@@ -2,22 +2,21 @@
 use Prim.Native.Nat.{ℕ, _<_}
 use mathlib.Core.Path.{_≡_, refl, ap, _∙_}
 use mathlib.Core.Bool.{Bool, true}
-use mathlib.Core.List.{List, _∷_}
-use Rattle.loops.specs.Judge.{judge}
+use Rattle.loops.specs.Judge.{judge, AllPass}
 use Rattle.loops.specs.Run.{Run, going, ended, on}
 use Rattle.loops.proofs.Every.{every-iff, every-same}
-use Rattle.loops.proofs.Inverse.{next-going}
-use Rattle.loops.proofs.Judge.{test-going}
+use Rattle.loops.proofs.Judge.{judge-going}
 use Rattle.binary64.specs.Order.{absolute}
 use Rattle.kapitsa_joint.specs.Row.{jacobianOf}
 use Rattle.kapitsa_joint.specs.declared.mass.SolverMass.{SolverMass}
 use Rattle.kapitsa_joint.specs.declared.row.RowJacobian.{RowJacobian}
-use Rattle.joint_refusals.specs.Refusals.{isValidOf, passes4, passes6, passes7}
+use Rattle.joint_refusals.specs.Refusals.{isValidOf, passes7}
 use Rattle.mass_operator.specs.System.{System, systemOf}
 use Rattle.check_range.specs.Closing.{Closing}
 use Rattle.check_range.specs.Range.{massInRange, rowInRange, tableInRange}
 use Rattle.check_measure.specs.Verdict.{sizeOfRow, sizeOfMass, sizesOf, valueOf, sizeOf, reach, closes}
-use Rattle.check_refusals.specs.Judged.{judgements}
+use Rattle.check_refusals.specs.Judged.{tableTests, judgements}
+use Rattle.check_refusals.proofs.Judgement.{passed-7}
 use Rattle.check_answer.specs.Answer.{verdictOf, checkOf}
 use Rattle.check_answer.specs.declared.CheckAnswer.{CheckAnswer}
 use Rattle.check_answer.specs.declared.CheckAnswer.the-variants.{Refused}
@@ -41,19 +40,9 @@ unfolding on
 on-same (going tt) x y e = e refl
 on-same (ended k) x y e = refl
 
--- where the first four tests of a list pass, so does the fourth
-fourth : (a b c d : Bool) (l : List (ℕ × Bool)) (i j k n : ℕ) → judge ((i, a) ∷ ((j, b) ∷ ((k, c) ∷ ((n, d) ∷ l)))) ≡ going tt → d ≡ true
-unfolding judge
-fourth a b c d l i j k n e =
-    let (_, _, x) = next-going _ _ tt .0 e in
-    let (_, _, y) = next-going _ _ tt .0 x in
-    let (_, _, z) = next-going _ _ tt .0 y in
-    let (_, v, _) = next-going _ _ tt .0 z in
-    test-going d n .0 v
-
 -- c with all that a row or a body has from d; the counts are c's
 abbrev with : Closing → Closing → Closing
-with c d = record { table = tableWith (c .table) (d .table); error = d .error; listed = d .listed; tolerance = d .tolerance }
+with c d = record { table = tableWith (c .table) (d .table); error = d .error; listed = d .listed; tolerance = d .tolerance; toleranceTests = c .toleranceTests }
 
 module _ (c d : Closing) (w : ClosingsAgree c d) where
   eighteens : tableInRange (with c d .table) (d .error) (d .listed) ≡ tableInRange (c .table) (c .error) (c .listed)
@@ -84,11 +73,15 @@ module _ (c d : Closing) (w : ClosingsAgree c d) where
     unfolding closes reach
     closes-same = every-same _ _ (c .table .rows) (λ i h. rw (value-of-same i h, size-of-same i h, w .error i h, w .tolerance i h))
 
+  all-pass : {fits : Bool} → judge (judgements fits c) ≡ going tt → (fits ≡ true) × AllPass (tableTests c)
+  unfolding AllPass
+  all-pass {fits} e = judge-going (judgements fits c) .0 e
+
   with-same : (fits : Bool) → checkOf fits (with c d) ≡ checkOf fits c
   unfolding checkOf verdictOf
   with-same fits =
       rw (fours (c .table) (d .table) (w .table), sixes (c .table) (d .table) (w .table), sevens (c .table) (d .table) (w .table), eighteens)
-      (on-same (judge (judgements fits c)) _ _ (λ e. rw (closes-same (seven-below (fourth fits (passes4 (c .table)) (passes6 (c .table)) (passes7 (c .table)) _ 3 4 6 7 e)))))
+      (on-same (judge (judgements fits c)) _ _ (λ e. rw (closes-same (seven-below (passed-7 c (all-pass e .1))))))
 
   counts-same : d ≡ with c d
   counts-same = λ i. record {
@@ -96,6 +89,7 @@ module _ (c d : Closing) (w : ClosingsAgree c d) where
     error = d .error;
     listed = d .listed;
     tolerance = d .tolerance;
+    toleranceTests = w .toleranceTests i;
   }
 
   pub check-below : (fits : Bool) → checkOf fits d ≡ checkOf fits c

@@ -81,6 +81,7 @@ with p q = record {
   start = q .start;
   accumulated = q .accumulated;
   options = p .options;
+  toleranceTests = p .toleranceTests;
   opens = q .opens;
   lent = p .lent;
   validFirst = p .validFirst;
@@ -209,6 +210,7 @@ module _ (mode : Mode) (p q : Problem) (w : ProblemsAgree mode p q) where
     start = q .start;
     accumulated = q .accumulated;
     options = w .options i;
+    toleranceTests = w .toleranceTests i;
     opens = q .opens;
     lent = w .lent i;
     validFirst = w .validFirst i;

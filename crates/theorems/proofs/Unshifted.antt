@@ -17,11 +17,12 @@ use Rattle.loops.proofs.Tabulate.{length-tabulate, tabulate-same, getD-tabulate
 use Rattle.binary64.specs.SquareRoot.{unsigned}
 use Rattle.binary64.specs.Order.{minPositive}
 use Rattle.kapitsa_joint.specs.Table.{Table}
+use Rattle.joint_refusals.specs.Tolerances.{Tolerances}
 use Rattle.mass_operator.specs.System.{System}
 use Rattle.incomplete_cholesky.specs.Build.{choleskyRun}
 use Rattle.preconditioner.specs.Mode.{modeOf}
 use Rattle.preconditioner.specs.declared.mode.Mode.{Mode}
-use Rattle.position.specs.Problem.{positionProblem, withOptions}
+use Rattle.position.specs.Problem.{positionProblem, withTests}
 use Rattle.preconditioner.specs.Shift.{one, shiftedBy, shifted, passes25}
 use Rattle.position.specs.Prepare.{rowDiagonal, passes8, isLow, preparedDiagonal, diagonals}
 use Rattle.steps.specs.Solve.{solve}
@@ -89,8 +90,8 @@ no-heed zero a b h = refl
 no-heed (suc zero) a b h = absurd (h refl)
 no-heed (suc (suc n)) a b h = refl
 
-pub shift-unheeded : (fits : Bool) (t : Table) (tolerance : ℕ → Float) (word limit : ℕ) (a b : Float) → (word ≡ 1 → ⊥) → passes25 a ≡ true → passes25 b ≡ true
-    → solve (methodOf fits (shiftedProblem t tolerance a) (modeOf word a)) limit ≡ solve (methodOf fits (shiftedProblem t tolerance b) (modeOf word b)) limit
-shift-unheeded fits t tolerance word limit a b h ea eb =
-    ap (λ (m : Mode). solve (methodOf fits (shiftedProblem t tolerance a) m) limit) (no-heed word a b h)
-    ∙ ap (λ (x : Bool). solve (methodOf fits (withOptions ((25, x) ∷ []) (positionProblem t tolerance)) (modeOf word b)) limit) (ea ∙ sym eb)
+pub shift-unheeded : (fits : Bool) (t : Table) (tolerances : Tolerances) (word limit : ℕ) (a b : Float) → (word ≡ 1 → ⊥) → passes25 a ≡ true → passes25 b ≡ true
+    → solve (methodOf fits (shiftedProblem t tolerances a) (modeOf word a)) limit ≡ solve (methodOf fits (shiftedProblem t tolerances b) (modeOf word b)) limit
+shift-unheeded fits t tolerances word limit a b h ea eb =
+    ap (λ (m : Mode). solve (methodOf fits (shiftedProblem t tolerances a) m) limit) (no-heed word a b h)
+    ∙ ap (λ (x : Bool). solve (methodOf fits (withTests ((25, x) ∷ []) (tolerances .tests) (positionProblem t (tolerances .row))) (modeOf word b)) limit) (ea ∙ sym eb)

@@ -7,6 +7,7 @@ use Rattle.kapitsa_joint.specs.Row.{jacobianOf}
 use Rattle.kapitsa_joint.specs.Table.{Table}
 use Rattle.kapitsa_joint.specs.declared.row.ConstraintRow.{ConstraintRow}
 use Rattle.kapitsa_joint.specs.declared.tolerance.JointTolerance.{JointTolerance}
+use Rattle.joint_refusals.specs.Tolerances.{Tolerances}
 use Rattle.joint_refusals.specs.Refusals.{wordsFitOf, isValidOf}
 use Rattle.preconditioner.specs.declared.mode.Mode.{Mode}
 use Rattle.preconditioner.specs.declared.mode.Mode.the-variants as modes
@@ -39,6 +40,7 @@ pub record ProblemsAgree (mode : Mode) (p q : Problem) : Type 0 where
   pub start : (i : ℕ) → i < p .table .rows → q .start i ≡ p .start i
   pub accumulated : (i : ℕ) → i < p .table .rows → q .accumulated i ≡ p .accumulated i
   pub options : q .options ≡ p .options
+  pub toleranceTests : q .toleranceTests ≡ p .toleranceTests
   pub opens : (i : ℕ) → i < p .table .rows → q .opens i ≡ p .opens i
   pub lent : q .lent ≡ p .lent
   pub validFirst : q .validFirst ≡ p .validFirst
@@ -50,6 +52,7 @@ pub record ClosingsAgree (c d : Closing) : Type 0 where
   pub error : (i : ℕ) → i < c .table .rows → d .error i ≡ c .error i
   pub listed : (i : ℕ) → i < c .table .rows → d .listed i ≡ c .listed i
   pub tolerance : (i : ℕ) → i < c .table .rows → d .tolerance i ≡ c .tolerance i
+  pub toleranceTests : d .toleranceTests ≡ c .toleranceTests
 
 -- ---- nothing beyond the counts: two tables with the same counts, that agree below them
 pub record AgreeBelow (t u : Table) : Type 0 where
@@ -60,8 +63,8 @@ pub record AgreeBelow (t u : Table) : Type 0 where
 
 -- the answers are the same: of a solve refusal or flag, count, step and delivery, bit for bit; of a check refusal or verdict
 pub record LooksBelow (t u : Table) : Type 0 where
-  pub solves : (tolerance other : ℕ → Float) → ((i : ℕ) → i < t .rows → other i ≡ tolerance i) → (fits : Bool) (shift : Float) (mode : Mode) (limit : ℕ)
-      → solve (methodOf fits (shiftedProblem u other shift) mode) limit ≡ solve (methodOf fits (shiftedProblem t tolerance shift) mode) limit
+  pub solves : (tolerances other : Tolerances) → other .tests ≡ tolerances .tests → ((i : ℕ) → i < t .rows → other .row i ≡ tolerances .row i) → (fits : Bool) (shift : Float) (mode : Mode) (limit : ℕ)
+      → solve (methodOf fits (shiftedProblem u other shift) mode) limit ≡ solve (methodOf fits (shiftedProblem t tolerances shift) mode) limit
   pub checks : (listed other : ℕ → Float) → ((i : ℕ) → i < t .rows → other i ≡ listed i) → (fits : Bool) (tolerance : JointTolerance) → checkOf fits (closingOf u other tolerance) ≡ checkOf fits (closingOf t listed tolerance)
 
 -- ---- not every number of a row. Document 01: "The answer depends on key, owner (modes 0 and 1), target_velocity, force_bias, impulse bounds, accumulated impulse, position_angular_a and cached mass only through refusals 4 and 7."
@@ -94,6 +97,6 @@ pub record TablesButUnread (t u : Table) : Type 0 where
 
 -- and the answers are the same; where mode 2 solves, the owners are
 pub record Depends (t u : Table) : Type 0 where
-  pub solves : (mode : Mode) → (mode ≡ modes.BlockJacobi → (i : ℕ) → i < t .rows → ownerOf u i ≡ ownerOf t i) → (tolerance : ℕ → Float) (fits : Bool) (shift : Float) (limit : ℕ)
-      → solve (methodOf fits (shiftedProblem u tolerance shift) mode) limit ≡ solve (methodOf fits (shiftedProblem t tolerance shift) mode) limit
+  pub solves : (mode : Mode) → (mode ≡ modes.BlockJacobi → (i : ℕ) → i < t .rows → ownerOf u i ≡ ownerOf t i) → (tolerances : Tolerances) (fits : Bool) (shift : Float) (limit : ℕ)
+      → solve (methodOf fits (shiftedProblem u tolerances shift) mode) limit ≡ solve (methodOf fits (shiftedProblem t tolerances shift) mode) limit
   pub checks : (listed : ℕ → Float) (fits : Bool) (tolerance : JointTolerance) → checkOf fits (closingOf u listed tolerance) ≡ checkOf fits (closingOf t listed tolerance)

@@ -11,12 +11,14 @@ use Rattle.kapitsa_math.specs.declared.vector.Vec3.{Vec3}
 use Rattle.kapitsa_joint.specs.Table.{Table}
 use Rattle.kapitsa_joint.specs.declared.row.ConstraintRow.{ConstraintRow}
 use Rattle.kapitsa_joint.specs.declared.mass.SolverMass.{SolverMass}
+use Rattle.kapitsa_joint.specs.declared.tolerance.JointTolerance.{JointTolerance}
+use Rattle.joint_refusals.specs.Tolerances.{twoTolerances}
 use Rattle.preconditioner.specs.declared.mode.Mode.{Mode}
 use Rattle.preconditioner.specs.declared.mode.Mode.the-variants as modes
 use Rattle.steps.specs.Solve.{solve}
 use Rattle.position_iteration.specs.Position.{shiftedProblem}
 use Rattle.position_iteration.specs.Method.{methodOf}
-use Rattle.check_range.specs.Closing.{Closing, rowError}
+use Rattle.check_range.specs.Closing.{Closing, closingOf}
 use Rattle.check_measure.specs.Verdict.{radius}
 use Rattle.check_answer.specs.Answer.{checkOf}
 use Rattle.check_answer.specs.declared.CheckAnswer.{CheckAnswer}
@@ -85,6 +87,10 @@ noRows = record { rows = 0; bodies = 2; row = λ i. rowOn 0 1 plusZero; mass = �
 abbrev pub thousandth : Float
 thousandth = ofBits binary64 0x3f50624dd2f1a9fc
 
+-- one tolerance for both dimensions
+abbrev pub alike : Float → JointTolerance
+alike tolerance = record { «linear_m» = tolerance; «angular_rad» = tolerance }
+
 -- with shift 0; of an accepted answer flag, count, solution, multipliers and the linear residual, of a refused one its number
 pub record Accepted : Type 0 where
   pub flag : Bool
@@ -98,12 +104,12 @@ Worked = Run Accepted ℕ
 
 abbrev pub workedOf : Table → Float → Mode → ℕ → Worked
 workedOf t tolerance mode limit =
-    on (solve (methodOf true (shiftedProblem t (λ i. tolerance) plusZero) mode) limit)
+    on (solve (methodOf true (shiftedProblem t (twoTolerances (alike tolerance) t) plusZero) mode) limit)
     (λ r. going (record { flag = r .0 .0; count = r .0 .1; solution = r .0 .2 .solution; multipliers = r .1 .accumulated; residual = r .1 .maxima .linear })) ended
 
 -- P1's check: its row with the multiplier that P1 ends with
 abbrev pub checked : Float → Closing
-checked tolerance = record { table = p1; error = rowError p1; listed = λ i. ofBits binary64 0x3fd0000000000000; tolerance = λ i. tolerance }
+checked tolerance = closingOf p1 (λ i. ofBits binary64 0x3fd0000000000000) (alike tolerance)
 
 -- ---- the table: what the definitions give, and what document 01 says
 pub data Entry : Type 0 where

@@ -11,6 +11,9 @@ const ENOUGH_LARGE: usize = 2;
 const REFUSALS: [(u32, u32); 8] =
     [(1, 10), (2, 11), (1, 12), (2, 12), (1, 13), (2, 13), (1, 16), (2, 16)];
 
+/// The refusals that 26 comes before: a job meets both, and is refused by 26.
+const BEHIND_26: [u32; 5] = [5, 6, 7, 8, 9];
+
 /// What document 01's 16 can be of, in the order of a step.
 #[rustfmt::skip]
 const NOT_FINITE: [&str; 10] = [
@@ -50,6 +53,7 @@ pub fn items() -> Vec<Item> {
             items.add(mode, ENOUGH, &name, move |seen| seen.not_finite == what);
         }
     }
+    tolerances(&mut items);
     limits(&mut items);
     items.0
 }
@@ -75,6 +79,22 @@ fn factors(items: &mut Items) {
         let enough = if refusal == 10 { ENOUGH_LARGE } else { ENOUGH };
         let name = format!("refused by {refusal}");
         items.add(mode, enough, &name, move |seen| seen.refusal == refusal);
+    }
+}
+
+/// Refusal 26: alone, in a job without rows, beside later refusals; what it lets pass.
+fn tolerances(items: &mut Items) {
+    for mode in 0..3 {
+        items.add(mode, ENOUGH, "refused by 26", |seen| seen.refusal == 26);
+        let alone = |seen: &Seen| seen.refusal == 26 && seen.rows == 0;
+        items.add(mode, 1, "refused by 26, no rows", alone);
+        for later in BEHIND_26 {
+            let name = format!("refused by 26, else by {later}");
+            items.add(mode, 1, &name, move |seen| seen.refusal == 26 && seen.else_by == later);
+        }
+        let before = |seen: &Seen| seen.refusal == 4 && seen.odd_tolerance;
+        items.add(mode, 1, "refused by 4, else by 26", before);
+        items.add(mode, 1, "a tolerance of −0.0, not refused", |seen| seen.minus_zero);
     }
 }
 

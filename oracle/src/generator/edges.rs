@@ -33,7 +33,7 @@ const EDGES: [Edge; 25] = [
     recurrence_overflow,
     diagonal_overflow,
     replaced_diagonals,
-    unmeetable_tolerance,
+    edge_of_26,
     any_example,
     order_of_rows,
     empty_tables,
@@ -91,14 +91,14 @@ fn long_run(random: &mut Random) -> Job {
 fn tiny_residual(random: &mut Random) -> Job {
     let errors = [0; 2].map(|_| random.sign() * two(random.between(-560, -500)));
     let mut job = chain_along_x(random.pick(&[0.5, 1.0, 2.0]), &errors[..1 + random.below(2)]);
-    job.tolerances = [random.pick(&[0.0, -1.0, f64::NAN, two(-800)]); 2];
+    job.tolerances = [random.pick(&[0.0, -0.0, f64::from_bits(1), two(-800)]); 2];
     job
 }
 
 /// Rows with a replaced diagonal among rows that move.
 pub fn replaced_diagonals(random: &mut Random) -> Job {
     let mut job = chain_along_x(1.0, &[0.0, -0.5, 0.0]);
-    job.tolerances[0] = random.pick(&[0.001, 0.001, f64::NAN, f64::INFINITY, -1.0]);
+    job.tolerances[0] = random.pick(&[0.001, 0.001, 0.0005, 0.0011, 0.25]);
     for row in [0, 2] {
         let error = random.pick(&[0.0, -0.0, 0.001, 0.0011, -0.0005]);
         job.set(row, ERROR, &[error]);
@@ -111,11 +111,14 @@ pub fn replaced_diagonals(random: &mut Random) -> Job {
     job
 }
 
-/// The residual becomes 0 and still misses a tolerance that nothing meets.
-fn unmeetable_tolerance(random: &mut Random) -> Job {
+/// One of the tolerances is the last that 26 lets pass, or the first that it does not.
+fn edge_of_26(random: &mut Random) -> Job {
     let mut job = chain_along_x(0.5, &[double(Style::Short, random)]);
-    job.tolerances = [random.pick(&[f64::NAN, -1.0, f64::NEG_INFINITY, -f64::MIN_POSITIVE]); 2];
-    job.limit = 1 + random.below(3) as u32;
+    let least = f64::from_bits(1);
+    let edges = [0.0, -0.0, least, -least, f64::MAX, f64::INFINITY, f64::NEG_INFINITY, f64::NAN];
+    job.tolerances[random.below(2)] = random.pick(&edges);
+    job.set_word(0, DIMENSION, random.below(2) as u32);
+    job.limit = random.below(4) as u32;
     job
 }
 
@@ -131,10 +134,10 @@ fn order_of_rows(random: &mut Random) -> Job {
     job
 }
 
-/// No rows, whatever the limit and the tolerances, or rows without bodies.
+/// No rows, whatever the limit, also where 26 looks at the tolerances, or rows without bodies.
 fn empty_tables(random: &mut Random) -> Job {
     let mut job = Job { limit: random.below(3) as u32, ..Job::default() };
-    job.tolerances = [odd(random), odd(random)];
+    job.tolerances = [0; 2].map(|_| if random.chance(50) { odd(random) } else { random.unit() });
     let bodies = random.below(4);
     (0..bodies).for_each(|_| job.push_mass(0.5, [1.0; 3]));
     if bodies > 0 && random.chance(40) {

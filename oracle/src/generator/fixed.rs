@@ -2,7 +2,7 @@
 
 use super::examples::{chain_along_x, examples, push_x_row};
 use super::large::{large, late_faults, star, stars, stars_overflowing};
-use crate::job::{BLOCK_JACOBI, Job, MASS_NUMBERS, ROW_NUMBERS};
+use crate::job::*;
 
 pub fn fixed() -> Vec<Job> {
     let examples = examples().into_iter().map(|example| example.job);
@@ -16,7 +16,9 @@ pub fn fixed() -> Vec<Job> {
     let blocks = [16, 33, 64, 128, 256].into_iter().map(with_blocks);
     let large = largest.chain(between).chain(blocks).chain(most_pairs()).chain([late_faults()]);
     let beyond = beyond().into_iter().flat_map(in_modes);
-    examples.chain(large).chain(one_change()).chain(beyond).collect()
+    let odd = odd_tolerances().into_iter().flat_map(in_modes);
+    let tolerances = one_tolerance().into_iter().chain(odd);
+    examples.chain(large).chain(one_change()).chain(tolerances).chain(beyond).collect()
 }
 
 /// Mode 1 around 16,384 pairs.
@@ -61,4 +63,55 @@ fn one_change() -> Vec<Job> {
         jobs.push(job);
     }
     jobs
+}
+
+/// P1 with one of its tolerances changed: what 26 lets pass, and what it turns back.
+fn one_tolerance() -> Vec<Job> {
+    let (p1, least) = (chain_along_x(0.5, &[-0.25]), f64::from_bits(1));
+    let passing = [0.0, -0.0, least, f64::MIN_POSITIVE, f64::MAX];
+    let signalling = [0x7ff0_0000_0000_0001, 0xfff8_0000_0000_0007].map(f64::from_bits);
+    let odd = [-least, -f64::MIN_POSITIVE, -1.0, f64::MIN, f64::NAN, f64::INFINITY];
+    let odd = odd.into_iter().chain(signalling).chain([f64::NEG_INFINITY]);
+    let mut jobs = Vec::new();
+    for value in passing.into_iter().chain(odd) {
+        for place in 0..2 {
+            let mut job = p1.clone();
+            job.tolerances[place] = value;
+            jobs.push(job);
+        }
+    }
+    jobs
+}
+
+/// 26 alone, without rows too, and beside each refusal that is judged before it or after it.
+fn odd_tolerances() -> Vec<Job> {
+    let odd = |tolerance: f64, job: Job| Job { tolerances: [0.001, tolerance], ..job };
+    let changed = |change: fn(&mut Job)| {
+        let mut job = chain_along_x(0.5, &[-0.25]);
+        change(&mut job);
+        job
+    };
+    let mut bodies = Job::default();
+    (0..2).for_each(|_| bodies.push_mass(0.5, [0.0; 3]));
+    let mut not_finite = bodies.clone();
+    not_finite.masses[3] = f64::NAN;
+    let [rows, _] = beyond();
+    let beside = [
+        rows,                                             // 3
+        changed(|job| job.set_word(0, KEY, 256)),         // 4
+        changed(|job| job.set_word(0, SPARE, 1)),         // 4
+        changed(|job| job.limit = 0),                     // 5
+        changed(|job| job.set_word(0, FORCE_DRIVEN, 1)),  // 5
+        changed(|job| job.set(0, COMPLIANCE, &[0.5])),    // 5
+        changed(|job| job.masses[0] = f64::NAN),          // 6
+        changed(|job| job.set_word(0, BODY_B, 2)),        // 7
+        changed(|job| job.set(0, ERROR, &[f64::NAN])),    // 7
+        changed(|job| job.set(0, LINEAR_A, &[f64::MAX])), // 8
+        changed(|job| job.masses.fill(0.0)),              // 9
+        changed(|job| job.set(0, ERROR, &[0.0])),         // count 0
+    ];
+    let empty = [Job::default(), bodies, not_finite].into_iter();
+    let empty = empty.flat_map(|job| [f64::NAN, -1.0, -0.0].map(|value| odd(value, job.clone())));
+    let beside = beside.into_iter().zip([-1.0, f64::NAN, f64::INFINITY].into_iter().cycle());
+    empty.chain(beside.map(|(job, tolerance)| odd(tolerance, job))).collect()
 }

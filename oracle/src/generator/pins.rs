@@ -144,7 +144,7 @@ fn negative_diagonal(random: &mut Random) -> Job {
     let tolerance = 0.25;
     let error = tolerance * short(random).clamp(-1.0, 1.0);
     let mut job = chain_along_x(2.0, &[short(random), error, short(random)]);
-    job.tolerances = [random.pick(&[tolerance, tolerance, f64::NAN]); 2];
+    job.tolerances = [tolerance; 2];
     for body in [1, 2] {
         job.masses[MASS_NUMBERS * body] = -0.25 * positive(Style::Short, random);
     }

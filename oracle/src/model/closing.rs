@@ -2,14 +2,15 @@
 
 use super::algebra::{Mass, Side};
 use super::operator;
-use super::table::{Row, Table, counts_fit, words_fit};
+use super::table::{Row, Table, counts_fit, tolerances_fit, words_fit};
 use super::{Judged, all_finite, pass};
 use crate::job::*;
 
-/// true where closed, or refusal 3, 4, 6, 7 or 18. The job's limit and mode are not read.
+/// true where closed, or refusal 3, 4, 26, 6, 7 or 18. The job's limit and mode are not read.
 pub fn closing_check(job: &Job, list: &[f64]) -> Judged<bool> {
     pass(3, counts_fit(job) && list.len() == job.rows as usize)?;
     pass(4, words_fit(job))?;
+    pass(26, tolerances_fit(job))?;
     pass(6, all_finite(&job.masses))?;
     let table = Table::of(job);
     pass(7, table.rows.iter().all(|row| row.valid))?;

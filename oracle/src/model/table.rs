@@ -72,11 +72,12 @@ fn is_valid(numbers: &[f64], words: &[u32], bodies: u32) -> bool {
         && numbers[CACHED_MASS] >= 0.0
 }
 
-/// Refusals 3, 25, 4, 5 and 6 of a solve, in their order.
+/// Refusals 3, 25, 4, 26, 5 and 6 of a solve, in their order.
 pub fn opening(job: &Job) -> Judged<()> {
     pass(3, job.mode <= BLOCK_JACOBI && counts_fit(job))?;
     pass(25, shift_fits(job.shift))?;
     pass(4, words_fit(job))?;
+    pass(26, tolerances_fit(job))?;
     pass(5, job.rows == 0 || (job.limit != 0 && opens(job)))?;
     pass(6, all_finite(&job.masses))
 }
@@ -105,6 +106,11 @@ pub fn words_fit(job: &Job) -> bool {
             && words[POSITION_ENABLED] <= 1
             && words[SPARE] == 0
     })
+}
+
+/// Refusal 26's test, without rows too: neither negative nor NaN nor infinite. −0.0 passes.
+pub fn tolerances_fit(job: &Job) -> bool {
+    job.tolerances.iter().all(|tolerance| (0.0..f64::INFINITY).contains(tolerance))
 }
 
 /// The Rust's opening test over all rows (refusal 5).

@@ -8,6 +8,7 @@ use native.Mathlib.Omega.{arith}
 use lib.ListN.{length, set}
 use borrow.Author.Tests.{not-true, not-false, eqb-true}
 use Rattle.loops.specs.Run.{check}
+use Rattle.loops.proofs.Ranges.{Listed}
 use Rattle.check_range.specs.Closing.{Closing}
 use Rattle.check_answer.specs.Answer.{checkOf}
 use Rattle.check_answer.specs.declared.CheckAnswer.{CheckAnswer}
@@ -26,11 +27,11 @@ zero-is verdict Closed above = (λ _ n h. let z : _≡_ {A = ℕ} 0 1 = cc in om
 zero-is verdict Open above = (λ _ n h. let z : _≡_ {A = ℕ} 0 1 = cc in omega arith, λ _. refl)
 zero-is verdict (Refused k) above = (λ e n h. let l = above k refl in omega arith, λ h. absurd (h k refl))
 
-module _ (c : Closing) (verdict : List ℕ) (before : CheckMemory) where
+module _ (c : Closing) (above : Listed (λ n. 1 < n) (c .toleranceTests)) (verdict : List ℕ) (before : CheckMemory) where
   told-so : {fits : Bool} {told : VerdictTold} {a : CheckAnswer} {after : CheckMemory} → Checked fits c a before after → told ≡ verdictTold a verdict → CheckTold fits c verdict told before after
   told-so {fits} k h =
       let means = rw (k .answered) at (k .means) in
-      rw (h, k .answered) (record { answered = refl; means = means; zero = zero-is verdict (checkOf fits c) (λ n e. refusal-above fits c n (means .refused n .0 e)); memory = k .memory })
+      rw (h, k .answered) (record { answered = refl; means = means; zero = zero-is verdict (checkOf fits c) (λ n e. refusal-above fits c above n (means .refused n .0 e)); memory = k .memory })
 
   -- refusal 3 of the verdict's slice, then of the others
   module _ {r v : Bool} (p : Bool) (e : r ≡ v) where
@@ -40,6 +41,11 @@ module _ (c : Closing) (verdict : List ℕ) (before : CheckMemory) where
 
     pub told-on : {told : VerdictTold} {a : CheckAnswer} {after : CheckMemory} → not r ≡ false → Checked p c a before after → told ≡ verdictTold a verdict → CheckTold (v && p) c verdict told before after
     told-on h k w = rw (sym e ∙ not-false r h) (told-so k w)
+
+-- 26 is not the number of a verdict
+pub two-above : (b : Bool) → Listed (λ n. 1 < n) ((26, b) ∷ [])
+unfolding Listed
+two-above b = (omega arith, tt)
 
 -- ---- the slice of the verdict
 pub verdict-length : (verdict : List ℕ) {r : Bool} → r ≡ verdictFits verdict → not r ≡ false → length verdict ≡ 1
