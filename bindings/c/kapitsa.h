@@ -1,5 +1,5 @@
-/* Zapekuri for C and C++: the position solve and the closing check of `rt staticlib kapitsa_c`,
-   an archive for x86-64.
+/* Zapekuri for C and C++: the position solve, the closing check and the inverse of a local inertia
+   of `rt staticlib kapitsa_c`, an archive for x86-64.
 
    A slice is a pointer, then its length; where the length is 0 the pointer may be NULL. For n rows
    and b bodies numbers has 27 n doubles, words 8 n, masses 10 b; solution and multipliers have n,
@@ -16,10 +16,10 @@
    writes nothing at all.
 
    kapitsa_solve_in and kapitsa_check_in, at the end, work in one piece of doubles and one of words,
-   and in whatever floating-point mode the caller is. They ask of a caller that a pointer and its
+   and as kapitsa_inverse_in, in whatever floating-point mode the caller is. They ask of a caller that a pointer and its
    length belong together and that no two slices overlap; all else is tested, and refused where it
-   does not fit. The raw functions, kapitsa_solve_position and kapitsa_closing_check, take each
-   work slice by itself and assume besides that the control word MXCSR is KAPITSA_CONTROL: in
+   does not fit. The raw functions, kapitsa_solve_position, kapitsa_closing_check and
+   kapitsa_inverse_spd, take each work slice by itself and assume besides that the control word MXCSR is KAPITSA_CONTROL: in
    another mode their answers, "closed" too, mean nothing. A program starts in that mode, unless it
    was linked with -ffast-math. */
 #ifndef KAPITSA_H
@@ -70,13 +70,16 @@ enum kapitsa_refusal {
     KAPITSA_REFUSED_IMMOVABLE = 9,  /* a row's diagonal is at most MIN, its error above tolerance */
     KAPITSA_REFUSED_PAIRS = 10,     /* mode 1: more than 16,384 pairs of rows share a body */
     KAPITSA_REFUSED_BLOCK = 11,     /* mode 2: a joint has over six rows, or differing bodies */
-    KAPITSA_REFUSED_VALUE = 12,     /* modes 1, 2: a pair's or a block's value is not finite */
+    KAPITSA_REFUSED_VALUE = 12,     /* a pair's, a block's or an inverse's value is not finite */
     KAPITSA_REFUSED_PIVOT = 13,     /* modes 1, 2: a pivot at most MIN, or it or a factor not finite */
     KAPITSA_REFUSED_RESIDUAL = 14,  /* residual times preconditioned residual is at most MIN */
     KAPITSA_REFUSED_DIRECTION = 15, /* direction times product is at most MIN */
     KAPITSA_REFUSED_STEP = 16,      /* a number in the steps is not finite */
     KAPITSA_REFUSED_RESULT = 17,    /* a final impulse or multiplier is not finite */
     KAPITSA_REFUSED_RANGE = 18,     /* check: a number neither 0 nor from 2^-150 to 2^150 in size */
+    KAPITSA_REFUSED_NUMBER = 21,    /* inverse: a number is not finite */
+    KAPITSA_REFUSED_SYMMETRY = 22,  /* inverse: two numbers are farther apart than 2^-47 allows */
+    KAPITSA_REFUSED_DEFINITE = 23,  /* inverse: not positive definite */
     KAPITSA_REFUSED_SHIFT = 25,     /* the shift is not finite, below 0 or above 1; right after 3 */
     KAPITSA_REFUSED_TOLERANCE = 26  /* a tolerance is negative, NaN or infinite; right after 4 */
 };
@@ -151,6 +154,11 @@ KAPITSA_MUST_USE uint32_t kapitsa_closing_check(
     uint32_t rows, uint32_t bodies, const double *multipliers, size_t multipliers_len,
     uint32_t *verdict, size_t verdict_len
     KAPITSA_CHECK_WORK(KAPITSA_TAKES_DOUBLES, KAPITSA_TAKES_WORDS));
+
+/* Refusals 3, 21, 22, 23 and 12, judged in this order. inertia and inverse have 9 doubles each, by
+   columns, as a mass has its inverse inertia; inverse is written where 0 is returned. */
+KAPITSA_MUST_USE uint32_t kapitsa_inverse_spd(
+    const double *inertia, size_t inertia_len, double *inverse, size_t inverse_len);
 
 /* ---- how much work memory a call needs, exactly: more may be lent, less is refused by 3.
    0 too where a count or the mode is beyond the limits: whatever is lent, such a call is refused. */
@@ -270,6 +278,15 @@ KAPITSA_APART uint32_t kapitsa_check_in(
         numbers, numbers_len, words, words_len, masses, masses_len,
         linear_tolerance, angular_tolerance, rows, bodies, multipliers, multipliers_len, verdict, 1
         KAPITSA_CHECK_WORK(KAPITSA_LEND, KAPITSA_LEND));
+    _mm_setcsr(control);
+    return refusal;
+}
+
+KAPITSA_APART uint32_t kapitsa_inverse_in(const double inertia[9], double inverse[9])
+{
+    unsigned control = _mm_getcsr();
+    _mm_setcsr(KAPITSA_CONTROL);
+    uint32_t refusal = kapitsa_inverse_spd(inertia, 9, inverse, 9);
     _mm_setcsr(control);
     return refusal;
 }

@@ -1,5 +1,5 @@
-//! Zapekuri for Rust: safe calls of the position solve and of the closing check in
-//! `libkapitsa_c.a` (`rt staticlib kapitsa_c`), an archive for x86-64. The archive tests every
+//! Zapekuri for Rust: safe calls of the position solve, of the closing check and of the inverse of
+//! a local inertia in `libkapitsa_c.a` (`rt staticlib kapitsa_c`), an archive for x86-64. The archive tests every
 //! count, length and number itself. Here stands what it cannot see to: that the work memory is
 //! there and carved without overlap, and that the processor is in the mode that it assumes.
 
@@ -67,13 +67,16 @@ refusals! {
     Immovable = 9, "a row's diagonal is at most MIN, its error above tolerance";
     Pairs = 10, "mode 1: more than 16,384 pairs of rows share a body";
     Block = 11, "mode 2: a joint has over six rows, or differing bodies";
-    Value = 12, "modes 1, 2: a pair's or a block's value is not finite";
+    Value = 12, "a pair's, a block's or an inverse's value is not finite";
     Pivot = 13, "modes 1, 2: a pivot at most MIN, or it or a factor not finite";
     Residual = 14, "residual times preconditioned residual is at most MIN";
     Direction = 15, "direction times product is at most MIN";
     Step = 16, "a number in the steps is not finite";
     Result = 17, "a final impulse or multiplier is not finite";
     Range = 18, "check: a number neither 0 nor from 2^-150 to 2^150 in size";
+    Number = 21, "inverse: a number is not finite";
+    Symmetry = 22, "inverse: two numbers are farther apart than 2^-47 allows";
+    Definite = 23, "inverse: not positive definite";
     Shift = 25, "the shift is not finite, below 0 or above 1";
     Tolerance = 26, "a tolerance is negative, NaN or infinite";
 }
@@ -268,6 +271,17 @@ pub fn closing_check(
     }
 }
 
+/// The inverse of a link's 3 by 3 local inertia, both by columns, as a mass has its inverse inertia.
+#[inline(never)]
+pub fn inverse_spd(inertia: &[f64; 9]) -> Result<[f64; 9], Refusal> {
+    let mut inverse = [0.0; 9];
+    let control = DefaultControl::set();
+    // SAFETY: each pointer and length is of one array, and the two do not overlap.
+    let refusal = unsafe { kapitsa_inverse_spd(inertia.as_ptr(), 9, inverse.as_mut_ptr(), 9) };
+    drop(control);
+    if refusal == 0 { Ok(inverse) } else { Err(Refusal::of(refusal)) }
+}
+
 /// The floating-point control word MXCSR as Rust and the archive assume it, while this lives:
 /// round to nearest, subnormal numbers kept, exceptions masked. Afterwards it is what it was, its
 /// flags too: a program whose C part was linked with -ffast-math, or that set another mode, gets
@@ -316,6 +330,10 @@ unsafe extern "C" {
         direction: *mut f64, direction_len: usize, product: *mut f64, product_len: usize,
         body_impulses: *mut f64, body_impulses_len: usize, pattern: *mut u32, pattern_len: usize,
         order: *mut u32, order_len: usize, values: *mut f64, values_len: usize,
+    ) -> u32;
+
+    fn kapitsa_inverse_spd(
+        inertia: *const f64, inertia_len: usize, inverse: *mut f64, inverse_len: usize,
     ) -> u32;
 
     fn kapitsa_closing_check(

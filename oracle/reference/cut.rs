@@ -7,7 +7,7 @@ use std::fs;
 use std::path::Path;
 
 /// Each output file, the source it is cut from, and the heads of its items.
-const CUTS: [(&str, &str, &[&str]); 5] = [
+const CUTS: [(&str, &str, &[&str]); 6] = [
     (
         "solver_items.rs",
         "crates/kapitsa-core/src/joint/solver.rs",
@@ -37,6 +37,11 @@ const CUTS: [(&str, &str, &[&str]); 5] = [
         "solver_mass_methods.rs",
         "crates/kapitsa-core/src/rigid_body/solver_mass.rs",
         &["    pub(crate) fn diagonal(", "    pub(crate) fn cross("],
+    ),
+    (
+        "inverse_items.rs",
+        "crates/kapitsa-core/src/rigid_body/solver_mass.rs",
+        &["pub(crate) fn inverse_spd(", "fn map_cholesky_error("],
     ),
     (
         "config_items.rs",

@@ -53,3 +53,10 @@ pub mod joint {
 }
 
 pub use joint::solver::harness::{Operator, Outcome, Prepared};
+
+/// `inverse_spd` of solver_mass.rs: the inverse, or whether it is an InvalidContact (22 and 23
+/// folded) and not an ArithmeticOverflow (21 and 12).
+pub fn inverse_spd(matrix: kapitsa_math::Mat3) -> Result<kapitsa_math::Mat3, bool> {
+    rigid_body::solver_mass::inverse_spd(matrix)
+        .map_err(|error| error == collision::CollisionError::InvalidContact)
+}

@@ -1,4 +1,5 @@
-//! Bodies. physics.rs is as published; SolverMass with cross and diagonal is cut.
+//! Bodies. physics.rs is as published; SolverMass with cross and diagonal is cut, and so is
+//! inverse_spd.
 //! The rest stands in for bodies and slots: resolving hands out the given mass,
 //! applying records the impulse and never fails, every body is Dynamic.
 
@@ -72,8 +73,9 @@ impl RigidBody {
 pub mod solver_mass {
     use super::RigidBody;
     use crate::collision::CollisionError;
-    use kapitsa_math::{Mat3, Vec3};
+    use kapitsa_math::{CholeskyError, Mat3, Vec3};
 
+    include!(concat!(env!("ORACLE_CUT"), "/inverse_items.rs"));
     include!(concat!(env!("ORACLE_CUT"), "/solver_mass_types.rs"));
     include!(concat!(env!("ORACLE_CUT"), "/solver_mass_methods.rs"));
 

@@ -1,6 +1,7 @@
 //! docs/DIFFERENCES.md's inputs, run on the reference.
 
 use crate::generator::{chain_along_x, push_x_row, star};
+use crate::inertia;
 use crate::job::*;
 use crate::judge::run_reference;
 use crate::model;
@@ -100,6 +101,7 @@ pub fn run() -> bool {
         let measure = if same { "01" } else { "02" };
         println!("  document {measure}: {}", document(&difference.job));
     }
+    inertia::differences();
     true
 }
 

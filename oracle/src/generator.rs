@@ -1,6 +1,6 @@
 //! Jobs by seed and index: a mechanism, its numbers, and what is wrong with it.
 
-mod doubles;
+pub mod doubles;
 mod edges;
 mod examples;
 mod faults;

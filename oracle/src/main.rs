@@ -9,6 +9,7 @@ mod driver;
 mod file_jobs;
 mod generator;
 mod implementation;
+mod inertia;
 mod job;
 mod job_file;
 mod judge;
@@ -39,6 +40,8 @@ const USAGE: &str = "usage: oracle/run COMMAND
   job FILE                        what the job program prints of a job file
   files FOLDER [JOBS] [SEED]      job files in every placement, with what the program prints
   program PROGRAM [FILES] [SEED]  the job program's own process on generated, damaged and random files
+  inertia record                  makes the recorded matrices in crates/inertia_recorded
+  inertia PROGRAM [COUNT] [SEED]  that program, target/bin/inertia_recorded, on drawn matrices
   examples                        document 01's P1 to P9 as job files, in target/examples";
 
 fn main() {
@@ -83,6 +86,8 @@ fn command(words: &[&str]) -> Result<bool, String> {
         }
         ["program", program, ..] => program::run(program, number(2, 1000)?, number(3, 1)?, &home()),
         ["files", folder, ..] => file_jobs::write(folder, number(2, 1000)?, number(3, 1)?),
+        ["inertia", "record"] => inertia::record(&home()),
+        ["inertia", program, ..] => inertia::drive(program, number(2, 500_000)?, number(3, 1)?),
         ["examples"] => listing::examples(&home()),
         _ => Err(USAGE.to_string()),
     }

@@ -1,0 +1,10 @@
+pub mod Divided
+pub mod Triangle
+pub mod Factor
+pub mod Solve
+pub mod Inverse
+pub mod Answers
+pub mod Meaning
+pub mod MinusZero
+pub mod Order
+pub mod Lent
