@@ -32,7 +32,7 @@ def kind(sheet):
     """Refusal, flag and verdict."""
     lines = sheet.split(b"\n")
     refusal, _, flag = lines[0].split()[1:]
-    return refusal, flag, lines[2] if refusal == b"0" else b""
+    return refusal, flag, lines[3] if refusal == b"0" else b""
 
 
 def generated(run, folder):

@@ -36,6 +36,7 @@ static uint64_t bits_of(double number)
 #define INFINITE 0x7ff0000000000000u
 #define MINUS 0x8000000000000000u
 #define SMALLEST 1u /* 2^-1074, subnormal */
+#define P1_GAP 0x3cf1000000000000u /* 17 * 2^-52 */
 
 static int all(int byte, const void *memory, size_t size)
 {
@@ -184,6 +185,7 @@ static struct solved solve(const struct job *job, uint32_t mode, unsigned contro
 }
 
 struct checked {
+    double gap[2];
     uint32_t refusal, verdict, control;
 };
 
@@ -200,7 +202,8 @@ static struct checked check(const struct job *job, const double *multipliers, un
     _mm_setcsr(control);
     to.refusal = kapitsa_check_in(
         job->numbers, 27 * n, job->words, 8 * n, job->masses, 10 * b, job->tolerance,
-        job->tolerance, n, b, multipliers, n, &to.verdict, doubles, doubles_len, words, words_len);
+        job->tolerance, n, b, multipliers, n, &to.verdict, to.gap, doubles, doubles_len, words,
+        words_len);
     to.control = _mm_getcsr();
     _mm_setcsr(before);
     return to;
@@ -209,6 +212,12 @@ static struct checked check(const struct job *job, const double *multipliers, un
 static int says(struct checked found, uint32_t verdict)
 {
     return found.refusal == KAPITSA_ACCEPTED && found.verdict == verdict;
+}
+
+/* The largest reach of the linear rows and of the angular ones. */
+static int measures(const double gap[2], uint64_t linear, uint64_t angular)
+{
+    return bits_of(gap[0]) == linear && bits_of(gap[1]) == angular;
 }
 
 /* The raw functions, in mode 0. */
@@ -232,7 +241,7 @@ static uint32_t raw_solve(const struct job *job, unsigned control, double *solut
 }
 
 static uint32_t raw_check(const struct job *job, const double *multipliers, unsigned control,
-                          uint32_t *verdict, size_t verdict_len)
+                          uint32_t *verdict, size_t verdict_len, double *gap, size_t gap_len)
 {
     double jacobians[12 * ROWS], mass_sizes[10 * BODIES], multiplier_sizes[ROWS];
     double impulses[6 * BODIES], values[ROWS], sizes[ROWS];
@@ -242,8 +251,9 @@ static uint32_t raw_check(const struct job *job, const double *multipliers, unsi
     _mm_setcsr(control);
     uint32_t refusal = kapitsa_closing_check(
         job->numbers, 27 * n, job->words, 8 * n, job->masses, 10 * b, job->tolerance,
-        job->tolerance, n, b, multipliers, n, verdict, verdict_len, jacobians, 12 * n, links, 2 * n,
-        mass_sizes, 10 * b, multiplier_sizes, n, impulses, 6 * b, values, n, sizes, n);
+        job->tolerance, n, b, multipliers, n, verdict, verdict_len, gap, gap_len,
+        jacobians, 12 * n, links, 2 * n, mass_sizes, 10 * b, multiplier_sizes, n, impulses,
+        6 * b, values, n, sizes, n);
     _mm_setcsr(before);
     return refusal;
 }
@@ -330,6 +340,8 @@ static void checks_in_all_modes(void)
     for (size_t i = 0; i < CONTROLS; i++) {
         expect(least_tolerance(rows, solved.solution, controls[i].word) == least,
                "the least tolerance that closes the chain", controls[i].name);
+        expect(measures(check(&rows, solved.solution, controls[i].word, exactly).gap, least, 0),
+               "it is the measured gap", controls[i].name);
         expect(check(&below, no_multipliers, controls[i].word, exactly).refusal
                    == KAPITSA_REFUSED_TOLERANCE,
                "a tolerance below zero", controls[i].name);
@@ -345,13 +357,15 @@ static void arguments(void)
     volatile double less = from_bits(0x3cf0ffffffffffffu), little = from_bits(0x3000000000000000u);
     for (uint32_t up = 0; up < 2; up++) {
         uint32_t verdict = 9;
+        double gap[2] = {9.0, 9.0};
         const unsigned before = _mm_getcsr();
         _mm_setcsr(KAPITSA_CONTROL | (up ? UP : 0));
         uint32_t refusal = kapitsa_check_in(
             sheet.numbers, 27, sheet.words, 8, sheet.masses, 20, less + little, 0.0, 1, 2,
-            multiplier, 1, &verdict, doubles, 47, words, 2);
+            multiplier, 1, &verdict, gap, doubles, 47, words, 2);
         _mm_setcsr(before);
-        expect(refusal == 0 && verdict == up, "a sum as argument", up ? "up" : "to nearest");
+        expect(refusal == 0 && verdict == up && measures(gap, P1_GAP, 0),
+               "a sum as argument", up ? "up" : "to nearest");
     }
 }
 
@@ -378,23 +392,48 @@ static void verdicts(void)
     const struct job closed = p1(-0.25, from_bits(0x3d00000000000000u)); /* P2: 2^-47 */
     const struct job open = p1(-0.25, from_bits(0x3cf0000000000000u));   /* P3: 2^-48 */
     const struct job tiny = p1(from_bits(SMALLEST), 0.0); /* was called closed with FTZ and DAZ */
-    expect(says(check(&closed, multiplier, KAPITSA_CONTROL, exactly), KAPITSA_CLOSED), "P2", "");
-    expect(says(check(&open, multiplier, KAPITSA_CONTROL, exactly), KAPITSA_OPEN), "P3", "");
+    struct job angular = open;
+    angular.words[1] = 1;
+    struct checked found = check(&closed, multiplier, KAPITSA_CONTROL, exactly);
+    expect(says(found, KAPITSA_CLOSED) && measures(found.gap, P1_GAP, 0), "P2", "");
+    found = check(&open, multiplier, KAPITSA_CONTROL, exactly);
+    expect(says(found, KAPITSA_OPEN) && measures(found.gap, P1_GAP, 0), "P3", "");
+    found = check(&angular, multiplier, KAPITSA_CONTROL, exactly);
+    expect(says(found, KAPITSA_OPEN) && measures(found.gap, 0, P1_GAP), "P3", "angular");
     for (size_t i = 0; i < CONTROLS; i++) {
-        const struct checked found = check(&tiny, no_multipliers, controls[i].word, exactly);
-        expect(found.refusal == KAPITSA_REFUSED_RANGE && KEPT(found.verdict) && work_clear(47, 2),
-               "18 for a subnormal error, and no verdict", controls[i].name);
+        found = check(&tiny, no_multipliers, controls[i].word, exactly);
+        expect(found.refusal == KAPITSA_REFUSED_RANGE && KEPT(found.verdict) && KEPT(found.gap)
+               && work_clear(47, 2), "18 for a subnormal error, and no verdict", controls[i].name);
         if (controls[i].word == 0)
             continue; /* the raw check would be ended by an exception */
         uint32_t verdict = 9;
-        expect(raw_check(&tiny, no_multipliers, controls[i].word, &verdict, 1)
-               == KAPITSA_REFUSED_RANGE && verdict == 9, "18 by the raw check", controls[i].name);
+        double gap[2];
+        memset(gap, PATTERN, sizeof gap);
+        expect(raw_check(&tiny, no_multipliers, controls[i].word, &verdict, 1, gap, 2)
+               == KAPITSA_REFUSED_RANGE && verdict == 9 && KEPT(gap), "18 by the raw check",
+               controls[i].name);
     }
-    uint32_t two[2];
-    memset(two, PATTERN, sizeof two);
-    for (size_t len = 0; len < 3; len += 2)
-        expect(raw_check(&closed, multiplier, KAPITSA_CONTROL, two, len) == KAPITSA_REFUSED_LENGTH
-               && KEPT(two), "a verdict of another length than 1", "raw");
+}
+
+/* The raw check takes a verdict of 1 and a gap of 2. */
+static void lengths_told(void)
+{
+    static const double multiplier[] = {0.25};
+    const struct job sheet = p1(-0.25, 0.001);
+    for (size_t verdict_len = 0; verdict_len < 3; verdict_len++)
+        for (size_t gap_len = 0; gap_len < 4; gap_len++) {
+            const uint32_t fits = verdict_len == 1 && gap_len == 2;
+            uint32_t verdict[2];
+            double gap[3];
+            memset(verdict, PATTERN, sizeof verdict);
+            memset(gap, PATTERN, sizeof gap);
+            const uint32_t refusal = raw_check(&sheet, multiplier, KAPITSA_CONTROL, verdict,
+                                               verdict_len, gap, gap_len);
+            expect(fits ? refusal == 0 && verdict[0] == KAPITSA_CLOSED && measures(gap, P1_GAP, 0)
+                              && KEPT(verdict[1]) && KEPT(gap[2])
+                        : refusal == KAPITSA_REFUSED_LENGTH && KEPT(verdict) && KEPT(gap),
+                   "a verdict of another length than 1, or a gap than 2", "raw");
+        }
 }
 
 /* ---- shifts */
@@ -520,15 +559,15 @@ static void work_memory(void)
                    && KEPT(found.counts), "too short", "solve");
         }
         const struct checked found = check(&rows, solved.solution, KAPITSA_CONTROL, too_short[i]);
-        expect(found.refusal == KAPITSA_REFUSED_LENGTH && work_clear(0, 0) && KEPT(found.verdict),
-               "too short", "check");
+        expect(found.refusal == KAPITSA_REFUSED_LENGTH && work_clear(0, 0) && KEPT(found.verdict)
+               && KEPT(found.gap), "too short", "check");
     }
 }
 
 /* ---- empty jobs, the limits and beyond */
 
 /* Nothing but the answer and work memory is lent. True where the answer is refusal, and is written
-   exactly where that is 0: count 0, flag 1, maxima +0.0; closed. */
+   exactly where that is 0: count 0, flag 1, maxima +0.0; closed, gap +0.0. */
 static int solve_of_nothing(uint32_t rows, uint32_t bodies, uint32_t mode, double *work,
                             size_t work_len, uint32_t *more, size_t more_len, uint32_t refusal)
 {
@@ -548,9 +587,12 @@ static int check_of_nothing(uint32_t rows, uint32_t bodies, double *work, size_t
                             uint32_t *more, size_t more_len, uint32_t refusal)
 {
     uint32_t verdict = 9;
-    const uint32_t found = kapitsa_check_in(NULL, 0, NULL, 0, NULL, 0, 0.0, 0.0, rows, bodies,
-                                            NULL, 0, &verdict, work, work_len, more, more_len);
-    return found == refusal && verdict == (found ? 9 : KAPITSA_CLOSED);
+    double gap[2];
+    memset(gap, PATTERN, sizeof gap);
+    const uint32_t found = kapitsa_check_in(NULL, 0, NULL, 0, NULL, 0, 0.0, 0.0, rows, bodies, NULL,
+                                            0, &verdict, gap, work, work_len, more, more_len);
+    return found == refusal && verdict == (found ? 9 : KAPITSA_CLOSED)
+        && (found ? KEPT(gap) : measures(gap, 0, 0));
 }
 
 static void empty_jobs(void)
@@ -603,11 +645,14 @@ static void at_the_limits(void)
     }
     const size_t d = kapitsa_check_doubles(N, B), w = kapitsa_check_words(N, B);
     uint32_t verdict = 9;
+    double gap[2];
     fill_work();
     const uint32_t refusal = kapitsa_check_in(
         numbers, 27 * N, row_words, 8 * N, masses, 10 * B, 1e-9, 1e-9, N, B, solution, N, &verdict,
-        doubles, d, words, w);
-    expect(refusal == 0 && verdict == KAPITSA_OPEN && work_clear(d, w), "512 rows", "check");
+        gap, doubles, d, words, w);
+    expect(refusal == 0 && verdict == KAPITSA_OPEN && bits_of(gap[0]) > bits_of(1e-9)
+           && bits_of(gap[0]) < INFINITE && bits_of(gap[1]) == 0 && work_clear(d, w), "512 rows",
+           "check");
 }
 
 int main(void)
@@ -623,6 +668,7 @@ int main(void)
     arguments();
     raw_modes();
     verdicts();
+    lengths_told();
     shifts();
     sizes();
     work_memory();

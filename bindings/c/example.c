@@ -9,7 +9,7 @@ int main(void)
 {
     double numbers[27] = {0}, masses[20] = {0}, solution[1] = {0}, impulses[12] = {0};
     uint32_t words[8] = {0, 0, 0, 1, 0, 1, 0, 0}, counts[2], verdict;
-    double maxima[2];
+    double maxima[2], gap[2];
     numbers[0] = 1.0;        /* linear_a */
     numbers[9] = -1.0;       /* linear_b */
     numbers[15] = -0.25;     /* error */
@@ -36,7 +36,7 @@ int main(void)
     if (refusal == 0)
         refusal = kapitsa_check_in(
             numbers, 27, words, 8, masses, 20, 0.001, 0.001, 1, 2, solution, 1, &verdict,
-            work_doubles, doubles_len, work_words, words_len);
+            gap, work_doubles, doubles_len, work_words, words_len);
     free(work_doubles);
     free(work_words);
     if (refusal != 0) {
@@ -45,5 +45,7 @@ int main(void)
     }
     printf("count %u, flag %u\n", (unsigned)counts[0], (unsigned)counts[1]);
     printf("multiplier %g, %s\n", numbers[24], verdict == KAPITSA_CLOSED ? "closed" : "open");
-    return !(counts[0] == 1 && counts[1] == 1 && verdict == KAPITSA_CLOSED);
+    printf("gap at most %g, %g\n", gap[0], gap[1]);
+    return !(counts[0] == 1 && counts[1] == 1 && verdict == KAPITSA_CLOSED
+             && 0.0 < gap[0] && gap[0] <= 0.001 && gap[1] == 0.0);
 }

@@ -131,11 +131,11 @@ enum kapitsa_refusal {
 
 /* ---- the raw functions; at their end a pointer and a length for each work slice, in order */
 
-/* Refusals 3, 25, 4, 26 and 5 to 17. counts (2) gets count and flag, maxima (2) the linear and the angular
-   residual maximum; with them accumulated multipliers (in numbers), solution and impulses are
-   written. In mode 1 each pivot starts from diagonal * (1 + shift): 0 is the plain factor, a little
-   more lets rows pass that say almost the same and that 13 turns back. Modes 0 and 2 use no shift,
-   but it must be from 0 to 1 there too, and in a job without rows. */
+/* Refusals 3, 25, 4, 26 and 5 to 17. counts (2) gets count and flag, maxima (2) the linear and the
+   angular residual maximum; with them accumulated multipliers (in numbers), solution and impulses
+   are written. In mode 1 each pivot starts from diagonal * (1 + shift): 0 is the plain factor, a
+   little more lets rows pass that say almost the same and that 13 turns back. Modes 0 and 2 use no
+   shift, but it must be from 0 to 1 there too, and in a job without rows. */
 KAPITSA_MUST_USE uint32_t kapitsa_solve_position(
     double *numbers, size_t numbers_len, const uint32_t *words, size_t words_len,
     const double *masses, size_t masses_len,
@@ -145,14 +145,16 @@ KAPITSA_MUST_USE uint32_t kapitsa_solve_position(
     uint32_t *counts, size_t counts_len, double *maxima, size_t maxima_len
     KAPITSA_SOLVE_WORK(KAPITSA_TAKES_DOUBLES, KAPITSA_TAKES_WORDS));
 
-/* Refusals 3, 4, 26, 6, 7 and 18. multipliers are the gains since the errors were measured, such as a
-   solve's solution. verdict (1) gets KAPITSA_OPEN or KAPITSA_CLOSED. */
+/* Refusals 3, 4, 26, 6, 7 and 18. multipliers are the gains since the errors were measured, such as
+   a solve's solution. verdict (1) gets KAPITSA_OPEN or KAPITSA_CLOSED, gap (2) the measured gap of
+   the linear rows and of the angular ones: no row's exact gap is larger, and 0 stands where there
+   is no such row. */
 KAPITSA_MUST_USE uint32_t kapitsa_closing_check(
     const double *numbers, size_t numbers_len, const uint32_t *words, size_t words_len,
     const double *masses, size_t masses_len,
     double linear_tolerance, double angular_tolerance,
     uint32_t rows, uint32_t bodies, const double *multipliers, size_t multipliers_len,
-    uint32_t *verdict, size_t verdict_len
+    uint32_t *verdict, size_t verdict_len, double *gap, size_t gap_len
     KAPITSA_CHECK_WORK(KAPITSA_TAKES_DOUBLES, KAPITSA_TAKES_WORDS));
 
 /* Refusals 3, 21, 22, 23 and 12, judged in this order. inertia and inverse have 9 doubles each, by
@@ -257,13 +259,13 @@ KAPITSA_APART uint32_t kapitsa_solve_in(
     return refusal;
 }
 
-/* Read *verdict only where 0 was returned: a refusal leaves there what was there. */
+/* Read *verdict and gap only where 0 was returned: a refusal leaves there what was there. */
 KAPITSA_APART uint32_t kapitsa_check_in(
     const double *numbers, size_t numbers_len, const uint32_t *words, size_t words_len,
     const double *masses, size_t masses_len,
     double linear_tolerance, double angular_tolerance,
     uint32_t rows, uint32_t bodies, const double *multipliers, size_t multipliers_len,
-    uint32_t *verdict,
+    uint32_t *verdict, double gap[2],
     double *work_doubles, size_t work_doubles_len, uint32_t *work_words, size_t work_words_len)
 {
     if (!kapitsa_within(rows, bodies, 0)
@@ -276,7 +278,8 @@ KAPITSA_APART uint32_t kapitsa_check_in(
     _mm_setcsr(KAPITSA_CONTROL);
     uint32_t refusal = kapitsa_closing_check(
         numbers, numbers_len, words, words_len, masses, masses_len,
-        linear_tolerance, angular_tolerance, rows, bodies, multipliers, multipliers_len, verdict, 1
+        linear_tolerance, angular_tolerance, rows, bodies, multipliers, multipliers_len,
+        verdict, 1, gap, 2
         KAPITSA_CHECK_WORK(KAPITSA_LEND, KAPITSA_LEND));
     _mm_setcsr(control);
     return refusal;

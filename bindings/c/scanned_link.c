@@ -27,7 +27,7 @@ static const double LINK[9] = {2.0, 1.0, 0.0, 1.0, 2.0, 0.0, 0.0, 0.0, 4.0};
 /* Two such links, joined where the joint lies beside their centres. */
 static int joined(void)
 {
-    double numbers[27] = {0}, masses[20], solution[1], impulses[12], maxima[2];
+    double numbers[27] = {0}, masses[20], solution[1], impulses[12], maxima[2], gap[2];
     double work_doubles[64];
     uint32_t words[8] = {0, 0, 0, 1, 0, 1, 0, 0}, counts[2], verdict, work_words[8];
     if (mass_of(2.0, LINK, masses) != 0 || mass_of(2.0, LINK, masses + 10) != 0)
@@ -47,7 +47,7 @@ static int joined(void)
                          KAPITSA_DIAGONAL, 0.0, solution, 1, impulses, 12, counts, maxima,
                          work_doubles, 64, work_words, 8) != 0
         || kapitsa_check_in(numbers, 27, words, 8, masses, 20, 0.001, 0.001, 1, 2, solution, 1,
-                            &verdict, work_doubles, 64, work_words, 8) != 0)
+                            &verdict, gap, work_doubles, 64, work_words, 8) != 0)
         return 0;
     printf("multiplier %g, %s\n", solution[0], verdict == KAPITSA_CLOSED ? "closed" : "open");
     return counts[0] == 1 && counts[1] == 1 && verdict == KAPITSA_CLOSED;

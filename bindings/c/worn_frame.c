@@ -44,7 +44,7 @@ static int try_it(uint32_t mode, double shift, uint32_t refused, uint32_t steps)
     const size_t d = sizeof work_doubles / sizeof work_doubles[0];
     const size_t w = sizeof work_words / sizeof work_words[0];
     struct frame frame;
-    double solution[ROWS], impulses[6 * BODIES], maxima[2];
+    double solution[ROWS], impulses[6 * BODIES], maxima[2], gap[2];
     uint32_t counts[2], verdict;
     make(&frame);
     printf("mode %u, shift %g: ", (unsigned)mode, shift);
@@ -55,13 +55,14 @@ static int try_it(uint32_t mode, double shift, uint32_t refused, uint32_t steps)
     if (refusal == 0)
         refusal = kapitsa_check_in(
             frame.numbers, 27 * ROWS, frame.words, 8 * ROWS, frame.masses, 10 * BODIES, TOLERANCE,
-            TOLERANCE, ROWS, BODIES, solution, ROWS, &verdict, work_doubles, d, work_words, w);
+            TOLERANCE, ROWS, BODIES, solution, ROWS, &verdict, gap, work_doubles, d, work_words,
+            w);
     if (refusal != 0) {
         printf("refused by %u\n", (unsigned)refusal);
         return refusal == refused;
     }
-    printf("count %u, flag %u, %s\n", (unsigned)counts[0], (unsigned)counts[1],
-           verdict == KAPITSA_CLOSED ? "closed" : "open");
+    printf("count %u, flag %u, %s, gap at most %g\n", (unsigned)counts[0], (unsigned)counts[1],
+           verdict == KAPITSA_CLOSED ? "closed" : "open", gap[0]);
     return refused == 0 && counts[0] == steps && counts[1] == 1 && verdict == KAPITSA_CLOSED;
 }
 

@@ -113,7 +113,7 @@ fn within<T>(mode: u32, call: impl FnOnce() -> T) -> (T, u32) {
 #[derive(Debug, PartialEq)]
 struct Outcome {
     solved: Result<(bool, u32, [u64; 2]), Refusal>,
-    checked: Result<Verdict, Refusal>,
+    checked: Result<(Verdict, [u64; 2]), Refusal>,
     numbers: Vec<u64>,
 }
 
@@ -132,9 +132,20 @@ fn outcome(job: &Job, mode: Mode, work: &mut Work) -> Outcome {
             let maxima = [answer.linear_residual_m, answer.angular_residual_rad];
             (answer.converged, answer.iterations, maxima.map(f64::to_bits))
         }),
-        checked,
+        checked: checked.map(|found| {
+            let gap = [found.linear_gap_m, found.angular_gap_rad];
+            (found.verdict, gap.map(f64::to_bits))
+        }),
         numbers: lists.map(|number| number.to_bits()).collect(),
     }
+}
+
+/// The bits of 17 · 2^-52 and of +0.0.
+const P1_GAP: [u64; 2] = [0x3cf1_0000_0000_0000, 0];
+
+/// Closed, and the linear gap, which is the only one, within 1e-9.
+fn closed((verdict, [linear, angular]): (Verdict, [u64; 2])) -> bool {
+    verdict == Verdict::Closed && linear <= 1e-9f64.to_bits() && angular == 0
 }
 
 const ALL: [Mode; 3] = [Mode::Diagonal, Mode::IncompleteCholesky, Mode::BlockJacobi];
@@ -146,17 +157,24 @@ fn floating_point_modes(tests: &mut Tests) {
     for mode in ALL {
         let found = outcome(&p1(-0.25, 0.001), mode, &mut work);
         tests.expect(found.solved == Ok((true, 1, [0; 2])), "P1");
-        tests.expect(found.checked == Ok(Verdict::Closed), "P1 is closed");
+        tests.expect(found.checked == Ok((Verdict::Closed, P1_GAP)), "P1 is closed");
         tests.expect(found.numbers[24] == 0.25f64.to_bits(), "P1's multiplier");
         let found = outcome(&chain(), mode, &mut work);
         tests.expect(found.solved.is_ok_and(|(flag, ..)| flag), "the chain is solved");
-        tests.expect(found.checked == Ok(Verdict::Closed), "the chain is closed");
+        tests.expect(found.checked.is_ok_and(closed), "the chain is closed");
+        let found = outcome(&p1(-0.25, f64::EPSILON), mode, &mut work);
+        tests.expect(found.checked == Ok((Verdict::Open, P1_GAP)), "P1 is open, its gap the same");
+        let mut angular = p1(-0.25, 0.001);
+        angular.words[1] = 1;
+        let found = outcome(&angular, mode, &mut work);
+        let turned = [P1_GAP[1], P1_GAP[0]];
+        tests.expect(found.checked == Ok((Verdict::Closed, turned)), "P1 of an angular row");
         let found = outcome(&tiny, mode, &mut work);
         tests.expect(found.solved == Err(Refusal::Residual), "14 for a subnormal error");
         tests.expect(found.checked == Err(Refusal::Range), "18 for a subnormal error");
         let found = outcome(&below_zero, mode, &mut work);
         tests.expect(found.solved == Err(Refusal::Tolerance), "26 for a tolerance below zero");
-        tests.expect(found.checked == Err(Refusal::Tolerance), "26 for a tolerance below zero, check");
+        tests.expect(found.checked == Err(Refusal::Tolerance), "26 by the check too");
         for job in [p1(-0.25, 0.001), chain(), tiny.clone(), below_zero.clone()] {
             let wanted = outcome(&job, mode, &mut work);
             for (name, control) in MODES {
@@ -177,7 +195,7 @@ fn shifts(tests: &mut Tests) {
     }
     let found = outcome(&worn(1.0 / 1_048_576.0), cholesky, &mut work); // 2^-20
     tests.expect(found.solved.is_ok_and(|(flag, ..)| flag), "near-equal rows with a shift");
-    tests.expect(found.checked == Ok(Verdict::Closed), "near-equal rows are closed");
+    tests.expect(found.checked.is_ok_and(closed), "near-equal rows are closed");
     for mode in ALL {
         let plain = outcome(&chain(), mode, &mut work);
         for shift in [-0.0, 0.5, 1.0] {
@@ -202,7 +220,7 @@ fn shifts(tests: &mut Tests) {
     }
 }
 
-type Tried = (Result<u32, Refusal>, Result<Verdict, Refusal>);
+type Tried = (Result<u32, Refusal>, Result<Checked, Refusal>);
 
 /// A solve in each mode, its count, and a check over zeros: numbers, words, masses, solution and
 /// impulses of these lengths.
@@ -222,7 +240,8 @@ fn tried([numbers, words, masses, solution, impulses]: [usize; 5], shift: f64) -
 }
 
 fn lengths(tests: &mut Tests) {
-    let accepted = (Ok(0), Ok(Verdict::Closed));
+    let closed = Checked { verdict: Verdict::Closed, linear_gap_m: 0.0, angular_gap_rad: 0.0 };
+    let accepted = (Ok(0), Ok(closed));
     let refused = (Err(Refusal::Length), Err(Refusal::Length));
     let fitting = (Err(Refusal::Opening), Err(Refusal::Row)); // zeros make no row
     for (lengths, wanted, what) in [

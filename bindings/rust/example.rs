@@ -24,8 +24,10 @@ fn main() {
         &mut tables, tolerance, 4, Mode::Diagonal, 0.0, &mut solution, &mut impulses, &mut work,
     )
     .expect("P1 is accepted");
-    let verdict = closing_check(&tables, tolerance, &solution, &mut work).expect("and checked");
+    let checked = closing_check(&tables, tolerance, &solution, &mut work).expect("and checked");
     println!("count {}, flag {}", answer.iterations, u32::from(answer.converged));
-    println!("multiplier {}, {verdict:?}", tables.numbers[24]);
-    assert_eq!((answer.iterations, answer.converged, verdict), (1, true, Verdict::Closed));
+    println!("multiplier {}, {:?}", tables.numbers[24], checked.verdict);
+    println!("gap at most {:e}, {:e}", checked.linear_gap_m, checked.angular_gap_rad);
+    assert_eq!((answer.iterations, answer.converged, checked.verdict), (1, true, Verdict::Closed));
+    assert_eq!((checked.linear_gap_m, checked.angular_gap_rad), (17.0 * f64::EPSILON, 0.0));
 }

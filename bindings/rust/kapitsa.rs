@@ -103,6 +103,15 @@ pub struct Answer {
     pub angular_residual_rad: f64,
 }
 
+/// The verdict of the check and the measured gap of the linear rows and of the angular ones: no
+/// row's exact gap is larger, and 0 stands where there is no such row.
+#[derive(Clone, Copy, Debug, PartialEq)]
+pub struct Checked {
+    pub verdict: Verdict,
+    pub linear_gap_m: f64,
+    pub angular_gap_rad: f64,
+}
+
 /// Rows (27 doubles and 8 words each) and masses (10 doubles each), as document 01 has them.
 pub struct Tables<'a> {
     pub numbers: &'a mut [f64],
@@ -235,7 +244,7 @@ pub fn closing_check(
     tolerance: Tolerance,
     multipliers: &[f64],
     work: &mut Work,
-) -> Result<Verdict, Refusal> {
+) -> Result<Checked, Refusal> {
     let (n, b) = tables.counts()?;
     let (mut doubles, mut words) = work.lend(15 * n + 16 * b, 2 * n);
     let jacobians = carve(&mut doubles, 12 * n);
@@ -246,6 +255,7 @@ pub fn closing_check(
     let values = carve(&mut doubles, n);
     let sizes = carve(&mut doubles, n);
     let mut verdict = [Verdict::Open as u32];
+    let mut gap = [0.0; 2];
     let control = DefaultControl::set();
     // SAFETY: each pointer and length is of one slice, and what is written overlaps no other.
     #[rustfmt::skip]
@@ -256,6 +266,7 @@ pub fn closing_check(
             tables.masses.as_ptr(), tables.masses.len(),
             tolerance.linear_m, tolerance.angular_rad, n as u32, b as u32,
             multipliers.as_ptr(), multipliers.len(), verdict.as_mut_ptr(), verdict.len(),
+            gap.as_mut_ptr(), gap.len(),
             jacobians.as_mut_ptr(), jacobians.len(), links.as_mut_ptr(), links.len(),
             mass_sizes.as_mut_ptr(), mass_sizes.len(),
             multiplier_sizes.as_mut_ptr(), multiplier_sizes.len(),
@@ -264,10 +275,13 @@ pub fn closing_check(
         )
     };
     drop(control);
-    match (refusal, verdict) {
-        (0, [1]) => Ok(Verdict::Closed),
-        (0, _) => Ok(Verdict::Open),
-        (number, _) => Err(Refusal::of(number)),
+    match refusal {
+        0 => Ok(Checked {
+            verdict: if verdict == [1] { Verdict::Closed } else { Verdict::Open },
+            linear_gap_m: gap[0],
+            angular_gap_rad: gap[1],
+        }),
+        number => Err(Refusal::of(number)),
     }
 }
 
@@ -341,6 +355,7 @@ unsafe extern "C" {
         masses: *const f64, masses_len: usize,
         linear_tolerance: f64, angular_tolerance: f64, rows: u32, bodies: u32,
         multipliers: *const f64, multipliers_len: usize, verdict: *mut u32, verdict_len: usize,
+        gap: *mut f64, gap_len: usize,
         jacobians: *mut f64, jacobians_len: usize, links: *mut u32, links_len: usize,
         mass_sizes: *mut f64, mass_sizes_len: usize,
         multiplier_sizes: *mut f64, multiplier_sizes_len: usize,

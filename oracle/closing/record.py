@@ -1,9 +1,10 @@
 #!/usr/bin/env python3
 """Closing checks worked in exact rational arithmetic.
 
-Written from document 01 ("The closing check", refusals 3, 4, 6, 7, 18) and 02 (26) alone: every operation is done on
-fractions, and where the document rounds, the exact result is rounded to the nearest double once. For each
-check the exact gap is formed as well, and what a verdict means is tested on it before the check is listed.
+Written from document 01 ("The closing check", refusals 3, 4, 6, 7, 18) and 02 (26, the gap) alone: every operation
+is done on fractions, and where the document rounds, the exact result is rounded to the nearest double once. For each
+check the exact gap is formed as well, and what verdict and measured gap mean is tested on it before the check is
+listed.
 
     cd crates/closing_recorded && ../../oracle/closing/record.py > stdin 2> stdout
 
@@ -12,8 +13,10 @@ are not drawn: two refusals at once, the largest counts and one beyond, toleranc
 reach.
 
 A check is a run of 64-bit words, little end first: its length in bytes, rows n, bodies b, the linear and the
-angular tolerance, the answer (0 open, 1 closed, else the refusal's number), 27n row numbers, 8n row words,
-10b mass numbers, n multipliers. Doubles are given by their bits. The same seed makes the same bytes.
+angular tolerance, the answer (0 open, 1 closed, else the refusal's number), the linear and the angular gap, 27n
+row numbers, 8n row words, 10b mass numbers, n multipliers. So the gap stands in bytes 48 to 63 and the row numbers
+begin at byte 64. A gap is the largest rounded |r| + E of the rows of its dimension, from +0.0 upward; both are
++0.0 where the check is refused. Doubles are given by their bits. The same seed makes the same bytes.
 """
 import copy
 import itertools
@@ -99,11 +102,6 @@ class Sheet:
         return self.tolerances[self.words[row][1]]
 
 
-def holds(size_and_radius, tolerance):
-    size, radius, _ = size_and_radius
-    return rounded(size + radius) <= Fraction(tolerance)
-
-
 def passes_4(word):
     return word[0] <= 255 and all(word[i] <= 1 for i in (1, 4, 5)) and word[7] == 0
 
@@ -142,7 +140,18 @@ def passes_18(sheet):
     return all(map(in_range, listed))
 
 
+def outcome(sheet):
+    """The answer and the measured gap."""
+    told = refusal(sheet)
+    return (told, [0.0, 0.0]) if told else verdict(sheet)
+
+
 def answer(sheet):
+    return outcome(sheet)[0]
+
+
+def refusal(sheet):
+    """The first refusal that turns the sheet back, or 0."""
     bodies = len(sheet.masses)
     if len(sheet.numbers) > MOST_ROWS or bodies > MOST_BODIES:
         return 3
@@ -156,17 +165,19 @@ def answer(sheet):
         return 7
     if not passes_18(sheet):
         return 18
-    return verdict(sheet)
+    return 0
 
 
 def verdict(sheet):
-    found = sheet.measured()
-    told = [holds(each, sheet.tolerance(i)) for i, each in enumerate(found)]
-    for i, (closed, (_, radius, gap)) in enumerate(zip(told, found)):
-        tolerance = Fraction(sheet.tolerance(i))
-        assert not closed or gap <= tolerance, "closed, and the exact gap is beyond its tolerance"
-        assert closed or gap + 2 * radius > tolerance, "open, and the exact gap is well within"
-    return 1 if all(told) else 0
+    """1 closed or 0 open, and the largest rounded |r| + E of the linear rows and of the angular ones."""
+    closed, largest = True, [Fraction(0), Fraction(0)]
+    for i, (size, radius, gap) in enumerate(sheet.measured()):
+        reach, tolerance, dimension = rounded(size + radius), Fraction(sheet.tolerance(i)), sheet.words[i][1]
+        assert gap <= reach <= rounded(gap + 2 * radius), "the measured gap is below the exact one, or far above it"
+        assert reach > tolerance or gap <= tolerance, "closed, and the exact gap is beyond its tolerance"
+        assert reach <= tolerance or gap + 2 * radius > tolerance, "open, and the exact gap is well within"
+        closed, largest[dimension] = closed and reach <= tolerance, max(largest[dimension], reach)
+    return int(closed), [float(each) for each in largest]
 
 
 def number(chance):
@@ -385,23 +396,15 @@ def some_sheet(rows, bodies, numbers, chance):
     return sheet
 
 
-def own_reaches(sheet):
-    """The largest |r| + E of the linear rows, and that of the angular ones."""
-    reaches = [0.0, 0.0]
-    for (size, radius, _), word in zip(sheet.measured(), sheet.words):
-        reaches[word[1]] = max(reaches[word[1]], float(size + radius))
-    return reaches
-
-
 def at_own_reach(rows, bodies, numbers, chance):
     """Both tolerances at their own reach: closed; then the one, then the other a unit less: open."""
     sheet = some_sheet(rows, bodies, numbers, chance)
-    linear, angular = own_reaches(sheet)
+    _, (linear, angular) = outcome(sheet)
     assert passes_18(sheet) and 0.0 < linear != angular > 0.0
     less = lambda x: math.nextafter(x, 0.0)
     for told, *tolerances in ((1, linear, angular), (0, less(linear), angular), (0, linear, less(angular))):
         sheet.tolerances = tolerances
-        assert answer(sheet) == told
+        assert outcome(sheet) == (told, [linear, angular])
         yield sheet
 
 
@@ -421,8 +424,8 @@ def bits(x):
     return struct.unpack("<Q", struct.pack("<d", x))[0] if x == x else 0x7FF8000000000000
 
 
-def words_of(sheet, told):
-    words = [len(sheet.numbers), len(sheet.masses), *map(bits, sheet.tolerances), told]
+def words_of(sheet, told, gap):
+    words = [len(sheet.numbers), len(sheet.masses), *map(bits, sheet.tolerances), told, *map(bits, gap)]
     words += [bits(x) for row in sheet.numbers for x in row]
     words += [x for word in sheet.words for x in word]
     words += [bits(x) for mass in sheet.masses for x in mass]
@@ -436,9 +439,9 @@ PRINTED = {1: "closed", 0: "open", **{number: f"refused by {number}" for number 
 def main():
     chance, tally = random.Random(SEED), dict.fromkeys(PRINTED, 0)
     for sheet in itertools.chain((one(chance) for _ in range(1500)), not_drawn(random.Random(SEED))):
-        told = answer(sheet)
+        told, gap = outcome(sheet)
         tally[told] += 1
-        words = words_of(sheet, told)
+        words = words_of(sheet, told, gap)
         sys.stdout.buffer.write(struct.pack("<%dQ" % len(words), *words))
     for told, name in PRINTED.items():
         print(tally[told], name, file=sys.stderr)

@@ -5,7 +5,8 @@
 
    A slice is a pointer, then its length. `answer` is refusal (0: accepted), count, flag,
    bits of the linear maximum, bits of the angular maximum; for the check: refusal,
-   verdict (1: closed). */
+   verdict (1: closed), bits of the linear gap, bits of the angular gap. Where a call is
+   refused, all but the refusal are 0. */
 #include <stddef.h>
 #include <stdint.h>
 

@@ -191,7 +191,7 @@ pub fn closing(library: &str) -> Result<bool, String> {
     let own = Implementation::open(library)?;
     let job = mechanism(Shape::Loop, 256, 2, INCOMPLETE_CHOLESKY);
     let list = crate::model::solve(&job).solution;
-    let [refusal, closed] = own.close(&job, &list);
+    let [refusal, closed, ..] = own.close(&job, &list);
     if refusal != 0 {
         return Err(format!("the check is refused by {refusal}: no time of a verdict"));
     }

@@ -84,7 +84,5 @@ pub unsafe extern "C" fn kapitsa_closing_check(
     };
     let list = unsafe { from_raw_parts(multipliers, multipliers_len) };
     let answer = unsafe { from_raw_parts_mut(answer, answer_len) };
-    let found = model::closing_check(&job, list);
-    let words = found.map_or_else(|number| [number.into(), 0], |closed| [0, closed.into()]);
-    answer.copy_from_slice(&words);
+    answer.copy_from_slice(&model::check_words(&model::closing_check(&job, list)));
 }

@@ -1,7 +1,7 @@
 //! Lists of multipliers and tolerances for the closing check.
 
 use crate::job::{Job, ROW_NUMBERS, Solved, two};
-use crate::model;
+use crate::model::{self, Checked};
 use crate::random::Random;
 
 /// A job's table with a list, some of them on the edge of a verdict or of refusal 18.
@@ -35,9 +35,8 @@ fn edge(random: &mut Random) -> f64 {
 
 /// Both tolerances at the largest reach, or one unit below it.
 fn at_reach(job: &mut Job, list: &[f64], random: &mut Random) {
-    if model::closing_check(job, list).is_ok() {
-        let reaches = model::measure(job, list).into_iter().map(|found| found.reach());
-        let largest = reaches.fold(0.0, f64::max);
+    if let Ok(Checked { gap: [linear, angular], .. }) = model::closing_check(job, list) {
+        let largest = linear.max(angular);
         let tolerance = if random.chance(50) { largest } else { largest.next_down() };
         job.tolerances = [tolerance; 2];
     }

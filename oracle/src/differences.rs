@@ -4,7 +4,7 @@ use crate::generator::{chain_along_x, push_x_row, star};
 use crate::inertia;
 use crate::job::*;
 use crate::judge::run_reference;
-use crate::model;
+use crate::model::{self, Checked};
 use reference::Outcome;
 
 struct Difference {
@@ -116,14 +116,15 @@ fn document(job: &Job) -> String {
     }
 }
 
-/// The closing check's verdict, and the largest |r| that it measured.
+/// The closing check's verdict, the largest |r| that it measured, and the gap, which adds E.
 fn check(job: &Job, list: &[f64]) -> String {
     match model::closing_check(job, list) {
         Err(refusal) => format!("check refuses by {refusal}"),
-        Ok(closed) => {
+        Ok(Checked { closed, gap: [linear, angular] }) => {
             let sizes = model::measure(job, list).into_iter().map(|found| found.r.abs());
-            let verdict = if closed { "closed" } else { "open" };
-            format!("check {verdict}, |r| {:e}", sizes.fold(0.0, f64::max))
+            let (largest, verdict) =
+                (sizes.fold(0.0, f64::max), if closed { "closed" } else { "open" });
+            format!("check {verdict}, |r| {largest:e}, gap {linear:e} {angular:e}")
         }
     }
 }

@@ -54,9 +54,9 @@ fn drive(
         let (closing, list) = closing_job(&job, &solved, &mut random);
         let (wanted, given) = compare_check(&implementation, &closing, &list);
         let cleared = implementation.cleared();
-        *verdicts.entry(wanted).or_insert(0) += 1;
+        *verdicts.entry([wanted[0], wanted[1]]).or_insert(0) += 1;
         if given != wanted || !cleared {
-            println!("closing check {name}: {given:?}, wanted {wanted:?}; cleared: {cleared}");
+            println!("closing check {name}: {given:x?}, wanted {wanted:x?}; cleared: {cleared}");
             let listed: Vec<u8> = list.iter().flat_map(|value| value.to_le_bytes()).collect();
             save(home, &format!("{name}-closing.job"), &job_file::write(&closing))?;
             save(home, &format!("{name}-closing.list"), &listed)?;
@@ -105,11 +105,9 @@ impl Effect {
     }
 }
 
-/// The check as the model has it, and as the implementation has it.
-fn compare_check(own: &Implementation, job: &Job, list: &[f64]) -> ([u64; 2], [u64; 2]) {
-    let wanted = model::closing_check(job, list)
-        .map_or_else(|refusal| [u64::from(refusal), 0], |closed| [0, closed.into()]);
-    (wanted, own.close(job, list))
+/// The check as the model has it, and as the implementation has it, the bits of the gap too.
+fn compare_check(own: &Implementation, job: &Job, list: &[f64]) -> ([u64; 4], [u64; 4]) {
+    (model::check_words(&model::closing_check(job, list)), own.close(job, list))
 }
 
 fn print_verdicts(verdicts: &BTreeMap<[u64; 2], u64>) {

@@ -72,9 +72,9 @@ impl Implementation {
     }
 
     #[rustfmt::skip]
-    /// Refusal, and 1 where closed.
-    pub fn close(&self, job: &Job, list: &[f64]) -> [u64; 2] {
-        let mut answer = [u64::MAX; 2];
+    /// Refusal, 1 where closed, and the bits of both gaps.
+    pub fn close(&self, job: &Job, list: &[f64]) -> [u64; 4] {
+        let mut answer = [u64::MAX; 4];
         unsafe {
             (self.close)(
                 job.numbers.as_ptr(), job.numbers.len(),

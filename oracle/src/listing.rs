@@ -1,7 +1,8 @@
 //! What the job program prints of a job file.
 
 use crate::job::{Answer, Job, Solved};
-use crate::{generator, job_file, model};
+use crate::model::{self, Checked, Judged};
+use crate::{generator, job_file};
 use std::fmt::Write;
 use std::path::Path;
 
@@ -21,18 +22,25 @@ fn of_job(job: &Job) -> String {
     match solved.answer {
         Answer::Refused(number) => refused(number),
         Answer::Accepted { flag, count, linear, angular } => {
+            let checked = model::closing_check(job, &solved.solution);
             let mut text = format!("solve 0 {count} {}\n", u32::from(flag));
-            writeln!(text, "gap{}", hexadecimal(&[linear, angular])).unwrap();
-            writeln!(text, "close {}", verdict(job, &solved)).unwrap();
+            writeln!(text, "gap{}", gap(&checked)).unwrap();
+            writeln!(text, "carried{}", hexadecimal(&[linear, angular])).unwrap();
+            writeln!(text, "close {}", verdict(&checked)).unwrap();
             delivered(&mut text, &solved);
             text
         }
     }
 }
 
-/// 0 open, 1 closed, or the check's refusal: the check is given the solution.
-pub fn verdict(job: &Job, solved: &Solved) -> u32 {
-    model::closing_check(job, &solved.solution).map_or_else(|refusal| refusal, u32::from)
+/// What the check measured; past the solve it refuses by 18 alone.
+fn gap(checked: &Judged<Checked>) -> String {
+    checked.as_ref().map_or_else(|_| " none".to_string(), |found| hexadecimal(&found.gap))
+}
+
+/// 0 open, 1 closed, or the check's refusal.
+pub fn verdict(checked: &Judged<Checked>) -> u32 {
+    checked.as_ref().map_or_else(|refusal| *refusal, |found| u32::from(found.closed))
 }
 
 fn delivered(text: &mut String, solved: &Solved) {
@@ -49,7 +57,7 @@ fn hexadecimal(values: &[f64]) -> String {
 }
 
 /// Writes document 01's table as job files, prints what the program prints of each, and
-/// holds it to what document 01 says.
+/// holds it to what the documents say.
 pub fn examples(home: &Path) -> Result<bool, String> {
     let folder = home.join("target/examples");
     std::fs::create_dir_all(&folder).map_err(|error| error.to_string())?;
@@ -61,7 +69,7 @@ pub fn examples(home: &Path) -> Result<bool, String> {
         let listing = of_file(&file);
         let lines: Vec<&str> = listing.lines().collect();
         let stands = example.says.iter().all(|line| lines.contains(line));
-        println!("{}: {}", example.name, if stands { "as document 01 says" } else { "DIFFERS" });
+        println!("{}: {}", example.name, if stands { "as the documents say" } else { "DIFFERS" });
         print!("{listing}");
         good &= stands;
     }

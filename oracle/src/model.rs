@@ -11,7 +11,7 @@ mod steps;
 mod table;
 
 pub use algebra::{Side, Vector, cross, scaled};
-pub use closing::{closing_check, measure};
+pub use closing::{Checked, check_words, closing_check, measure};
 pub use steps::Begun;
 pub use table::{Row, Table, tolerances_fit};
 

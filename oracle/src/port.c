@@ -45,15 +45,21 @@ void oracle_closing_check(
     uint64_t *answer, size_t answer_len)
 {
     uint32_t verdict = (uint32_t)untouched;
+    uint64_t bits[2] = {untouched, untouched};
+    double gap[2];
+    memcpy(gap, bits, sizeof gap);
     uint32_t refusal = kapitsa_check_in(
         numbers, numbers_len, words, words_len, masses, masses_len, linear_tolerance,
-        angular_tolerance, rows, bodies, multipliers, multipliers_len, &verdict,
+        angular_tolerance, rows, bodies, multipliers, multipliers_len, &verdict, gap,
         work_doubles, kapitsa_check_doubles(rows, bodies),
         work_words, kapitsa_check_words(rows, bodies));
-    if (answer_len != 2)
+    memcpy(bits, gap, sizeof bits);
+    if (answer_len != 4)
         return;
     answer[0] = refusal;
     answer[1] = refusal && verdict == (uint32_t)untouched ? 0 : verdict;
+    for (int i = 0; i < 2; i++)
+        answer[2 + i] = refusal && bits[i] == untouched ? 0 : bits[i];
 }
 
 /* The first byte is 0, and each is like the one before it. */

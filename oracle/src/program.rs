@@ -1,8 +1,10 @@
 //! The job program itself, as a process: generated, damaged and random files through its
-//! standard input, and what it prints held to what the model prints.
+//! standard input, and what it prints held to what the model prints, whose solve, the line
+//! `carried` with it, is held to the Rust.
 
+use crate::judge::judge;
 use crate::random::Random;
-use crate::{file_jobs, listing};
+use crate::{file_jobs, job_file, listing};
 use std::collections::BTreeMap;
 use std::io::{Read, Write};
 use std::path::Path;
@@ -20,17 +22,21 @@ pub fn run(program: &str, files: u64, seed: u64, home: &Path) -> Result<bool, St
         let mut random = Random::of(!seed, index);
         let file = file_jobs::any(seed, index, &mut random);
         let wanted = listing::of_file(&file);
+        let disputed = job_file::read(&file).ok().and_then(|job| judge(&job).dispute);
         let given = printed(program, &file, &mut random)?;
         let refusal = wanted.split(' ').nth(1).unwrap_or_default().to_string();
         *tally.entry(refusal).or_insert(0u64) += 1;
-        if given != Ok(wanted) {
+        if given != Ok(wanted) || disputed.is_some() {
             mismatches += 1;
             let name = format!("{seed}-{index}.job");
             let folder = home.join("target/mismatches");
             std::fs::create_dir_all(&folder)
                 .and_then(|()| std::fs::write(folder.join(&name), &file))
                 .map_err(|error| error.to_string())?;
-            println!("file {index}: {given:?}, saved as oracle/target/mismatches/{name}");
+            let disputed = disputed.unwrap_or_default();
+            println!(
+                "file {index}: {given:?} {disputed}, saved as oracle/target/mismatches/{name}"
+            );
         }
     }
     for (refusal, count) in &tally {

@@ -7,6 +7,7 @@ use crate::generator::{self, Sizes};
 use crate::job::{BLOCK_JACOBI, Job, MASS_NUMBERS, ROW_NUMBERS, Solved};
 use crate::judge::{Judged, judge};
 use crate::listing::verdict;
+use crate::model;
 use crate::packing::{Entry, pack, pack_list};
 use crate::tally::{Outcome, Tally};
 use crate::unpacking::unpack_both;
@@ -86,9 +87,9 @@ impl Recording {
 
 /// The check is given the solution; where the solve was refused, +0.0 for each row.
 fn closing_word(job: &Job, solved: &Solved) -> u32 {
-    let mut given = solved.clone();
-    given.solution.resize(job.rows as usize, 0.0);
-    verdict(job, &given)
+    let mut list = solved.solution.clone();
+    list.resize(job.rows as usize, 0.0);
+    verdict(&model::closing_check(job, &list))
 }
 
 /// Answers of the reference, modes 0 and 1.

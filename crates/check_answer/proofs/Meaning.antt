@@ -21,7 +21,10 @@ use Rattle.loops.proofs.Ranges.{among-judge, listed-after}
 use Rattle.loops.proofs.Ranges as Ranges
 use Rattle.kapitsa_math.specs.Vector.{absOf}
 use Rattle.kapitsa_math.specs.declared.vector.Vec3.{Vec3}
+use Rattle.rounding.proofs.Larger.{Number}
 use Rattle.kapitsa_joint.specs.Row.{jacobianOf}
+use Rattle.kapitsa_joint.specs.Maxima.{maximumOf}
+use Rattle.kapitsa_joint.proofs.Above.{bounds-of}
 use Rattle.kapitsa_joint.specs.Table.{Table}
 use Rattle.joint_refusals.specs.Refusals.{passes6, passes7, isValidOf}
 use Rattle.joint_refusals.proofs.Valid.{Bodies, valid-bodies}
@@ -30,17 +33,17 @@ use Rattle.kapitsa_joint.specs.declared.mass.SolverMass.{SolverMass}
 use Rattle.mass_operator.specs.System.{systemOf}
 use Rattle.check_range.specs.Range.{inRange, vecInRange, matInRange, jacobianInRange, massInRange, rowInRange, tableInRange, passes18}
 use Rattle.check_range.specs.Closing.{Closing}
-use Rattle.check_measure.specs.Verdict.{valueOf, sizeOf, radius, reach, within, closes}
+use Rattle.check_measure.specs.Verdict.{rowDimension, valueOf, sizeOf, radius, reach, within, closes, largestReaches}
 use Rattle.check_measure.specs.Gap.{gap, scaled, valueZ}
 use Rattle.check_refusals.specs.Judged.{tableTests, judgements}
 use Rattle.check_refusals.proofs.Judgement.{passed-tolerances, passed-7, passed-18}
-use Rattle.check_answer.specs.Answer.{verdictOf, checkOf, Exceeds, CheckMeaning}
+use Rattle.check_answer.specs.Answer.{numberOf, gapOf, verdictOf, checkOf, Exceeds, CheckMeaning}
 use Rattle.check_answer.specs.declared.CheckAnswer.{CheckAnswer}
 use Rattle.check_answer.specs.declared.CheckAnswer.the-variants.{Closed, Open, Refused}
 use Rattle.check_measure.proofs.Term.{Term, four}
 use Rattle.check_measure.proofs.Values.{Listed, ListedVec, ListedRow, ListedMass, value-term}
 use Rattle.check_answer.proofs.Listed.{listed}
-use Rattle.check_measure.proofs.Radius.{reach-finite, reach-least, row-closed, row-open}
+use Rattle.check_measure.proofs.Radius.{reach-held, reach-finite, reach-least, row-closed, row-open}
 
 -- ---- the numbers of a check are doubles
 pub record HeldVec (v : Vec3) : Type 0 where
@@ -66,6 +69,7 @@ pub record Held (c : Closing) : Type 0 where
   pub mass : (b : ℕ) → HeldMass (c .table .mass b)
   pub list : (i : ℕ) → T (fits binary64 (c .listed i))
   pub tolerance : (i : ℕ) → T (fits binary64 (c .tolerance i))
+  pub numbers : Ranges.Listed (λ n. 1 < n) (c .toleranceTests)  -- no number of a verdict
   pub sure : AllPass (c .toleranceTests) → (i : ℕ) → i < c .table .rows → T (finite (c .tolerance i))  -- what passes is finite
 
 -- ---- tests taken apart
@@ -137,9 +141,25 @@ module _ (c : Closing) (held : Held c) (few : c .table .rows ≤ 512) (seven : p
     reach-least (t .rows) few (c .error i) (valueOf c i) (sizeOf c i) (valueZ (systemOf t) (c .listed) i) (error-listed i h) (term-of i h),
   )
 
-  closed-row : (i : ℕ) → i < t .rows → within c i ≡ true → T (finite (c .tolerance i)) → pos (gap c i) ≤ℤ scaled (c .tolerance i)
+  -- a tolerance that its reach is within, its own or another
+  row-within : (i : ℕ) → i < t .rows → (x : Float) → Number binary64 x → le (reach c i) x ≡ true → pos (gap c i) ≤ℤ scaled x
   unfolding reach gap
-  closed-row i h e f = row-closed (t .rows) few (c .error i) (valueOf c i) (sizeOf c i) (valueZ (systemOf t) (c .listed) i) (error-listed i h) (term-of i h) (c .tolerance i) (held .tolerance i) f e
+  row-within i h x p e = row-closed (t .rows) few (c .error i) (valueOf c i) (sizeOf c i) (valueZ (systemOf t) (c .listed) i) (error-listed i h) (term-of i h) x (p .held) (p .isFinite) e
+
+  reach-number : (i : ℕ) → i < t .rows → Number binary64 (reach c i)
+  unfolding reach
+  reach-number i h = record {
+    held = reach-held (t .rows) few (c .error i) (valueOf c i) (sizeOf c i) (valueZ (systemOf t) (c .listed) i) (error-listed i h) (term-of i h);
+    isFinite = reach-row i h .0;
+  }
+
+  -- whatever the tolerances: at most the largest reach of its dimension
+  bounded-row : (i : ℕ) → i < t .rows → pos (gap c i) ≤ℤ scaled (maximumOf (rowDimension t i) (largestReaches c))
+  unfolding largestReaches
+  bounded-row i h = let b = bounds-of (rowDimension t) (reach c) (t .rows) reach-number in row-within i h (maximumOf (rowDimension t i) (largestReaches c)) (b .number (rowDimension t i)) (b .above i h)
+
+  closed-row : (i : ℕ) → i < t .rows → within c i ≡ true → T (finite (c .tolerance i)) → pos (gap c i) ≤ℤ scaled (c .tolerance i)
+  closed-row i h e f = row-within i h (c .tolerance i) (record { held = held .tolerance i; isFinite = f }) e
 
   open-row : (i : ℕ) → i < t .rows → within c i ≡ false → T (finite (c .tolerance i)) → scaled (c .tolerance i) <ℤ (pos (gap c i) +ℤ pos 2 *ℤ scaled (radius c i))
   unfolding reach gap radius
@@ -177,28 +197,38 @@ module _ (c : Closing) where
       go true e = let k = rw e at h in let z : _≡_ {A = ℕ} 0 1 = cc in omega arith
       go false e = let k = rw e at h in let z : _≡_ {A = ℕ} 0 1 = cc in omega arith
 
-  closed-closes : verdictOf c ≡ Closed → closes c ≡ true
+  closed-closes : numberOf (verdictOf c) ≡ 1 → closes c ≡ true
   unfolding verdictOf check
   closed-closes h = go (closes c) refl
     where
       go : (b : Bool) → closes c ≡ b → closes c ≡ true
       go true e = e
-      go false e = let k = rw e at h in let z : _≡_ {A = ℕ} 0 1 = cc in absurd (omega arith)
+      go false e = let k : _≡_ {A = ℕ} 0 1 = rw e at h in absurd (omega arith)
 
-  open-misses : verdictOf c ≡ Open → closes c ≡ false
+  open-misses : numberOf (verdictOf c) ≡ 0 → closes c ≡ false
   unfolding verdictOf check
   open-misses h = go (closes c) refl
     where
       go : (b : Bool) → closes c ≡ b → closes c ≡ false
-      go true e = let k = rw e at h in let z : _≡_ {A = ℕ} 0 1 = cc in absurd (omega arith)
+      go true e = let k : _≡_ {A = ℕ} 1 0 = rw e at h in absurd (omega arith)
       go false e = e
 
--- neither Closed nor Open is a refusal
-closed-apart : {a : CheckAnswer} → a ≡ Closed → (n : ℕ) → a ≡ Refused n → ⊥
-closed-apart h n e = let z : _≡_ {A = ℕ} 0 1 = cc in omega arith
+  verdict-gap : gapOf (verdictOf c) ≡ largestReaches c
+  unfolding verdictOf check
+  verdict-gap = go (closes c)
+    where
+      go : (b : Bool) → gapOf (check b (Closed (largestReaches c)) (Open (largestReaches c))) ≡ largestReaches c
+      go true = refl
+      go false = refl
 
-open-apart : {a : CheckAnswer} → a ≡ Open → (n : ℕ) → a ≡ Refused n → ⊥
-open-apart h n e = let z : _≡_ {A = ℕ} 0 1 = cc in omega arith
+-- ---- no refusal has the number of a verdict, where none of the tolerances' has
+pub refusal-above : (fits : Bool) (c : Closing) → Ranges.Listed (λ n. 1 < n) (c .toleranceTests) → (n : ℕ) → FirstToFail (judgements fits c) n → 1 < n
+unfolding Ranges.Listed
+refusal-above fits c above n h =
+    let t = c .table in
+    let rest : List (ℕ × Bool) = (6, passes6 t) ∷ (7, passes7 t) ∷ (18, passes18 c) ∷ [] in
+    let last : Ranges.Listed (λ n. 1 < n) rest = (omega arith, (omega arith, (omega arith, tt))) in
+    among-judge (λ n. 1 < n) (judgements fits c) (omega arith, (omega arith, listed-after (λ n. 1 < n) (c .toleranceTests) rest above last)) n (judge-ended (judgements fits c) n .1 h)
 
 module _ (fits : Bool) (c : Closing) where
   abbrev Verdict : Type 0
@@ -243,15 +273,29 @@ module _ (fits : Bool) (c : Closing) where
     pub reaches-of : Verdict → (i : ℕ) → i < c .table .rows → T (finite (reach c i)) × (le plusZero (reach c i) ≡ true)
     reaches-of h = let p = passes-of h in reach-row c held (few-of p) (seven-of p) (eighteen-of p)
 
-    closed-of : checkOf fits c ≡ Closed → (i : ℕ) → i < c .table .rows → pos (gap c i) ≤ℤ scaled (c .tolerance i)
-    closed-of h i l =
-        let p = passes-of (closed-apart h) in
-        closed-row c held (few-of p) (seven-of p) (eighteen-of p) i l (every-iff (within c) (c .table .rows) .0 (sym closes-every ∙ closed-closes c (sym (verdict-of p) ∙ h)) i l) (finite-of p i l)
+    bounded-of : Verdict → (i : ℕ) → i < c .table .rows → pos (gap c i) ≤ℤ scaled (maximumOf (rowDimension (c .table) i) (gapOf (checkOf fits c)))
+    bounded-of h i l =
+        let p = passes-of h in
+        let shown : gapOf (checkOf fits c) ≡ largestReaches c = ap gapOf (verdict-of p) ∙ verdict-gap c in
+        rw shown (bounded-row c held (few-of p) (seven-of p) (eighteen-of p) i l)
 
-    opened-of : checkOf fits c ≡ Open → (i : ℕ) × Exceeds c i
+    -- the number of a verdict is no refusal's
+    verdict-by : (k : ℕ) → k < 2 → numberOf (checkOf fits c) ≡ k → Verdict
+    verdict-by k small h n e =
+        let above = refusal-above fits c (held .numbers) n (refused-of n .0 e) in
+        let same : numberOf (checkOf fits c) ≡ n = ap numberOf e in
+        omega arith
+
+    closed-of : numberOf (checkOf fits c) ≡ 1 → (i : ℕ) → i < c .table .rows → pos (gap c i) ≤ℤ scaled (c .tolerance i)
+    closed-of h i l =
+        let p = passes-of (verdict-by 1 (omega arith) h) in
+        let closed = closed-closes c (ap numberOf (sym (verdict-of p)) ∙ h) in
+        closed-row c held (few-of p) (seven-of p) (eighteen-of p) i l (every-iff (within c) (c .table .rows) .0 (sym closes-every ∙ closed) i l) (finite-of p i l)
+
+    opened-of : numberOf (checkOf fits c) ≡ 0 → (i : ℕ) × Exceeds c i
     opened-of h =
-        let p = passes-of (open-apart h) in
-        let (i, l, e) = every-false (within c) (c .table .rows) (sym closes-every ∙ open-misses c (sym (verdict-of p) ∙ h)) in
+        let p = passes-of (verdict-by 0 (omega arith) h) in
+        let (i, l, e) = every-false (within c) (c .table .rows) (sym closes-every ∙ open-misses c (ap numberOf (sym (verdict-of p)) ∙ h)) in
         (i, record { row = l; misses = e; exceeds = open-row c held (few-of p) (seven-of p) (eighteen-of p) i l e (finite-of p i l) })
 
     pub means : CheckMeaning fits c (checkOf fits c)
@@ -259,6 +303,7 @@ module _ (fits : Bool) (c : Closing) where
       verdict = (passes-of, λ p n h. no-refusal c n (sym (verdict-of p) ∙ h));
       refused = refused-of;
       reaches = reaches-of;
+      bounded = bounded-of;
       closed = closed-of;
       opened = opened-of;
     }
@@ -273,19 +318,11 @@ means-3 {fits} c e = record {
   verdict = (λ h. absurd (h 3 refl), λ p n h. true≢false (sym (p .0) ∙ e));
   refused = λ n. (λ h. inl (e, cc), back n);
   reaches = λ h. absurd (h 3 refl);
-  closed = λ h. absurd (closed-apart h 3 refl);
-  opened = λ h. absurd (open-apart h 3 refl);
+  bounded = λ h. absurd (h 3 refl);
+  closed = λ h. absurd (omega arith);
+  opened = λ h. absurd (omega arith);
 }
   where
     back : (n : ℕ) → FirstToFail (judgements fits c) n → Refused 3 ≡ Refused n
     back n (inl h) = ap Refused (h .1)
     back n (inr h) = absurd (true≢false (sym (h .0) ∙ e))
-
--- ---- no refusal has the number of a verdict, where none of the tolerances' has
-pub refusal-above : (fits : Bool) (c : Closing) → Ranges.Listed (λ n. 1 < n) (c .toleranceTests) → (n : ℕ) → FirstToFail (judgements fits c) n → 1 < n
-unfolding Ranges.Listed
-refusal-above fits c above n h =
-    let t = c .table in
-    let rest : List (ℕ × Bool) = (6, passes6 t) ∷ (7, passes7 t) ∷ (18, passes18 c) ∷ [] in
-    let last : Ranges.Listed (λ n. 1 < n) rest = (omega arith, (omega arith, (omega arith, tt))) in
-    among-judge (λ n. 1 < n) (judgements fits c) (omega arith, (omega arith, listed-after (λ n. 1 < n) (c .toleranceTests) rest above last)) n (judge-ended (judgements fits c) n .1 h)

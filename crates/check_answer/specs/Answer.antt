@@ -11,21 +11,29 @@ use lib.Ieee.Scale.{finite}
 use Rattle.loops.specs.Run.{on, check}
 use Rattle.loops.specs.Judge.{judge, AllPass, FirstToFail}
 use Rattle.loops.specs.Cleared.{plusZero}
+use Rattle.kapitsa_joint.specs.Maxima.{noMaxima, maximumOf}
+use Rattle.kapitsa_joint.specs.declared.maxima.Maxima.{Maxima}
 use Rattle.check_range.specs.Closing.{Closing}
 use Rattle.check_refusals.specs.Judged.{judgements}
-use Rattle.check_measure.specs.Verdict.{radius, reach, within, closes}
+use Rattle.check_measure.specs.Verdict.{rowDimension, radius, reach, within, closes, largestReaches}
 use Rattle.check_measure.specs.Gap.{gap, scaled}
 use Rattle.check_answer.specs.declared.CheckAnswer.{CheckAnswer}
 use Rattle.check_answer.specs.declared.CheckAnswer.the-variants.{Closed, Open, Refused}
 
 -- document 01's number for each case, as a sheet and a recorded list have it: "verdict (0 open, 1 closed, 18)"
 abbrev pub numberOf : CheckAnswer → ℕ
-numberOf Closed = 1
-numberOf Open = 0
+numberOf (Closed gap) = 1
+numberOf (Open gap) = 0
 numberOf (Refused n) = n
 
+-- the measured gap; of a refusal none, and then it is twice +0.0
+abbrev pub gapOf : CheckAnswer → Maxima
+gapOf (Closed gap) = gap
+gapOf (Open gap) = gap
+gapOf (Refused n) = noMaxima
+
 unfoldable pub verdictOf : Closing → CheckAnswer
-verdictOf c = check (closes c) Closed Open
+verdictOf c = check (closes c) (Closed (largestReaches c)) (Open (largestReaches c))
 
 unfoldable pub checkOf : Bool → Closing → CheckAnswer
 checkOf fits c = on (judge (judgements fits c)) (λ _. verdictOf c) Refused
@@ -39,9 +47,11 @@ pub record Exceeds (c : Closing) (i : ℕ) : Type 0 where
 -- Demand 3: "the closing check gives a verdict exactly when they pass refusals 3, 4, 6 and 7 and each number refusal 18 names is zero or from 2^-150 to 2^150 in size.
 -- Whenever it says closed, each row's exact gap, over whole numbers, is within its tolerance; whenever it says open, some row's exact gap plus twice document 01's radius for that row exceeds its tolerance."
 -- Tolerances that are no finite number from 0 up get no verdict (document 02, j), so that every verdict is sure.
+-- `bounded`: whatever the tolerances, each row's exact gap is at most the number that is told for its dimension (document 02, h).
 pub record CheckMeaning (fits : Bool) (c : Closing) (answer : CheckAnswer) : Type 0 where
   pub verdict : ((n : ℕ) → answer ≡ Refused n → ⊥) ↔ AllPass (judgements fits c)
   pub refused : (n : ℕ) → (answer ≡ Refused n) ↔ FirstToFail (judgements fits c) n
   pub reaches : ((n : ℕ) → answer ≡ Refused n → ⊥) → (i : ℕ) → i < c .table .rows → T (finite (reach c i)) × (le plusZero (reach c i) ≡ true)
-  pub closed : answer ≡ Closed → (i : ℕ) → i < c .table .rows → pos (gap c i) ≤ℤ scaled (c .tolerance i)
-  pub opened : answer ≡ Open → (i : ℕ) × Exceeds c i
+  pub bounded : ((n : ℕ) → answer ≡ Refused n → ⊥) → (i : ℕ) → i < c .table .rows → pos (gap c i) ≤ℤ scaled (maximumOf (rowDimension (c .table) i) (gapOf answer))
+  pub closed : numberOf answer ≡ 1 → (i : ℕ) → i < c .table .rows → pos (gap c i) ≤ℤ scaled (c .tolerance i)
+  pub opened : numberOf answer ≡ 0 → (i : ℕ) × Exceeds c i

@@ -131,6 +131,9 @@ module _ (n : ℕ) (few : n ≤ 512) (error value size : Float) (Z : ℤ) (liste
   unfolding reachOf
   reach-most = most-add binary64 18433 9732624 1674 (absolute r) (radiusOf n error size) (lit< tt) (lit< tt) measured-most radius-most
 
+  pub reach-held : T (fits binary64 (reachOf n error value size))
+  reach-held = reach-most .held
+
   pub reach-finite : T (finite (reachOf n error value size))
   reach-finite = reach-most .isFinite
 

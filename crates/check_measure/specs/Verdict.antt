@@ -7,6 +7,11 @@ use Rattle.loops.specs.Every.{every}
 use Rattle.binary64.specs.Order.{absolute}
 use Rattle.kapitsa_math.specs.Vector.{absOf}
 use Rattle.kapitsa_math.specs.Matrix.{absColumnsOf}
+use Rattle.kapitsa_joint.specs.Maxima.{maximaBy}
+use Rattle.kapitsa_joint.specs.Table.{Table}
+use Rattle.kapitsa_joint.specs.Tolerance.{dimensionOf}
+use Rattle.kapitsa_joint.specs.declared.tolerance.RowDimension.{RowDimension}
+use Rattle.kapitsa_joint.specs.declared.maxima.Maxima.{Maxima}
 use Rattle.kapitsa_joint.specs.declared.row.RowJacobian.{RowJacobian}
 use Rattle.kapitsa_joint.specs.declared.mass.SolverMass.{SolverMass}
 use Rattle.mass_operator.specs.System.{System, systemOf}
@@ -48,6 +53,9 @@ radiusOf n error size = mul binary64 (weightOf error size) (radiusFactor n)
 unfoldable pub reachOf : ℕ → Float → Float → Float → Float
 reachOf n error value size = add binary64 (absolute (measuredOf error value)) (radiusOf n error size)
 
+abbrev pub rowDimension : Table → ℕ → RowDimension
+rowDimension t i = dimensionOf (t .row i .words .dimension)
+
 -- ---- of row i of what a check is given
 module _ (c : Closing) where
   unfoldable pub valueOf : ℕ → Float
@@ -69,3 +77,7 @@ module _ (c : Closing) where
   -- "Closed exactly when each rounded |r| + E ≤ tolerance."
   unfoldable pub closes : Bool
   closes = every within (c .table .rows)
+
+  -- document 02, h: "for each dimension, the largest rounded |r| + E of the closing check", from +0.0 upward
+  unfoldable pub largestReaches : Maxima
+  largestReaches = maximaBy (rowDimension (c .table)) reach (c .table .rows)

@@ -12,7 +12,7 @@ use Rattle.kapitsa_joint.specs.Tolerance.{dimensionOf, toleranceOf}
 use Rattle.kapitsa_joint.specs.declared.tolerance.JointTolerance.{JointTolerance}
 use Rattle.kapitsa_joint.specs.declared.tolerance.RowDimension.{RowDimension}
 use Rattle.kapitsa_joint.specs.declared.tolerance.RowDimension.the-variants.{Linear, Angular}
-use Rattle.joint_refusals.proofs.Measured.{two-finite}
+use Rattle.joint_refusals.proofs.Measured.{two-above, two-finite}
 use Rattle.mass_operator.specs.Flat.{coefficients}
 use Rattle.check_range.specs.Closing.{closingOf}
 use Rattle.check_answer.proofs.Meaning.{HeldVec, Held}
@@ -36,5 +36,6 @@ module _ (rows bodies : ℕ) (numbers : List Float) (words : List ℕ) (masses m
     mass = λ b. record { mass = m (10 * b); x = held-vec masses m (10 * b + 1); y = held-vec masses m (10 * b + 4); z = held-vec masses m (10 * b + 7) };
     list = x;
     tolerance = λ i. held-tolerance p q (dimensionOf (rowOf numbers words i .words .dimension));
+    numbers = two-above _;
     sure = two-finite tolerance (tableOf rows bodies numbers words masses);
   }

@@ -1,7 +1,7 @@
 -- The verdict from the measured rows. Assumes nothing.
-use Prim.Native.Nat.{ℕ, _<_}
-use mathlib.Core.Path.{_≡_, sym, ap, _∙_}
-use mathlib.Core.Bool.{Bool, true}
+use Prim.Native.Nat.{ℕ, _+_, _*_, _<_}
+use mathlib.Core.Path.{_≡_, refl, sym, ap, _∙_}
+use mathlib.Core.Bool.{Bool, true, false}
 use mathlib.Core.List.{List}
 use lib.ListN.{length, getD}
 use lib.Ieee.{Float, nan, le}
@@ -13,17 +13,22 @@ use Rattle.loops.proofs.Tabulate.{getD-tabulate}
 use Rattle.binary64.specs.Order.{absolute}
 use Rattle.kapitsa_joint.specs.Row.{scalarsOf, wordsOf, rowOf}
 use Rattle.kapitsa_joint.specs.Table.{tableOf}
+use Rattle.kapitsa_joint.specs.Tolerance.{dimensionOf}
+use Rattle.kapitsa_joint.specs.Maxima.{maximaBy}
+use Rattle.kapitsa_joint.specs.declared.maxima.Maxima.{Maxima}
+use Rattle.kapitsa_joint.proofs.Largest.{maxima-same}
 use Rattle.kapitsa_joint.specs.declared.tolerance.JointTolerance.{JointTolerance}
 use Rattle.mass_operator.specs.System.{systemOf}
 use Rattle.mass_operator.specs.Operator.{valueAt}
 use Rattle.mass_operator.specs.Flat.{coefficients, productOf}
 use Rattle.check_range.specs.Closing.{Closing, closingOf}
-use Rattle.check_measure.specs.Verdict.{sizesOf, valueOf, sizeOf, reach, within, closes}
+use Rattle.check_measure.specs.Verdict.{sizesOf, valueOf, sizeOf, reach, within, closes, largestReaches}
 use Rattle.check_measure.specs.Rows.{reachIn, withinIn}
 use Rattle.check_work.specs.Work.{CheckMemory, Measured}
 use Rattle.check_answer.specs.Answer.{verdictOf, checkOf}
 use Rattle.check_answer.specs.declared.CheckAnswer.{CheckAnswer}
 use Rattle.check_answer.specs.declared.CheckAnswer.the-variants.{Closed, Open}
+use Rattle.closing_check.specs.Checked.{verdictIn}
 
 module _ (tolerance : JointTolerance) {rows bodies : ℕ} {numbers : List Float} {words : List ℕ} {masses multipliers : List Float} {before after : CheckMemory}
     (m : Measured bodies numbers words masses multipliers before after) (e : length multipliers ≡ rows) where
@@ -51,6 +56,26 @@ module _ (tolerance : JointTolerance) {rows bodies : ℕ} {numbers : List Float}
     unfolding closes
     closes-is = every-same (withinIn words reaches tolerance) (within c) rows row-is
 
-    pub verdict-is : {r : Bool} {answer : CheckAnswer} → r ≡ every (withinIn words reaches tolerance) rows → answer ≡ check r Closed Open → checkOf true c ≡ verdictOf c → answer ≡ checkOf true c
-    unfolding verdictOf
-    verdict-is p a passed = a ∙ ap (λ (b : Bool). check b Closed Open) (p ∙ closes-is) ∙ sym passed
+    largest-is : maximaBy (λ i. dimensionOf (getD words (8 * i + 1) 0)) (λ i. getD reaches i nan) rows ≡ largestReaches c
+    unfolding largestReaches rowOf wordsOf
+    largest-is = maxima-same _ _ _ _ rows (λ i h. refl) reach-is
+
+    pub verdict-is : {answer : CheckAnswer} → answer ≡ verdictIn words reaches tolerance rows → checkOf true c ≡ verdictOf c → answer ≡ checkOf true c
+    unfolding verdictOf verdictIn
+    verdict-is a passed =
+        let gap = maximaBy (λ i. dimensionOf (getD words (8 * i + 1) 0)) (λ i. getD reaches i nan) rows in
+        a
+        ∙ ap (λ (b : Bool). check b (Closed gap) (Open gap)) closes-is
+        ∙ ap (λ (m : Maxima). check (closes c) (Closed m) (Open m)) largest-is
+        ∙ sym passed
+
+-- ---- `verdict`
+module _ (words : List ℕ) (reaches : List Float) (tolerance : JointTolerance) (rows : ℕ) {r : Bool} {gap : Maxima} (p : r ≡ every (withinIn words reaches tolerance) rows)
+    (g : gap ≡ maximaBy (λ i. dimensionOf (getD words (8 * i + 1) 0)) (λ i. getD reaches i nan) rows) where
+  pub all-within : r ≡ true → Closed gap ≡ verdictIn words reaches tolerance rows
+  unfolding verdictIn check
+  all-within h = rw (← p, h, ← g)
+
+  pub one-misses : r ≡ false → Open gap ≡ verdictIn words reaches tolerance rows
+  unfolding verdictIn check
+  one-misses h = rw (← p, h, ← g)

@@ -1,17 +1,17 @@
 // The closing check over lent tables and a lent list of multipliers.
 ghost use mathlib.Core.Path.{_≡_};
-ghost use Prim.Native.Nat.{_≤_};
+ghost use Prim.Native.Nat.{_*_, _≤_};
+ghost use lib.ListN.{length};
 ghost use mathlib.Core.Bool.{true};
-ghost use Rattle.loops.specs.Run.{check};
 ghost use Rattle.kapitsa_joint.specs.Table.{tableOf};
 ghost use Rattle.mass_operator.specs.Flat.{coefficients};
 ghost use Rattle.check_range.specs.Closing.{closingOf};
 ghost use Rattle.check_refusals.specs.Refusals.{passes3, tableLengths};
 ghost use Rattle.check_answer.specs.Answer.{checkOf};
-ghost use Rattle.check_answer.specs.declared.CheckAnswer.the-variants.{Closed, Open};
 ghost use Rattle.check_work.specs.Work.{memoryOf, workLengths, Room};
-ghost use Rattle.closing_check.specs.Checked.{Checked};
+ghost use Rattle.closing_check.specs.Checked.{verdictIn, Checked};
 use check_answer::CheckAnswer;
+use check_measure::largest_reaches;
 use check_measure::measure_reaches;
 use check_measure::rows_close;
 use check_refusals::TableJudged;
@@ -23,13 +23,16 @@ use check_work::clear_work;
 use check_work::measure_rows;
 use kapitsa_joint::JointTolerance;
 
-fn verdict(closes: bool) -> CheckAnswer
-    ensures { λ r. ⌜ r ≡ check closes Closed Open ⌝ }
+// From each row's reach: closed where every one is within its tolerance, with the largest of each dimension.
+fn verdict(words: &[u32], reaches: &[f64], tolerance: JointTolerance, rows: usize) -> CheckAnswer
+    requires { ⌜ (8 * rows ≤ length (now words)) × (rows ≤ length (now reaches)) ⌝ }
+    ensures { λ r. ⌜ r ≡ verdictIn (now (words .entry)) (now (reaches .entry)) tolerance rows ⌝ }
 {
-    if closes {
-        return CheckAnswer::Closed;
+    let gap = largest_reaches(words, reaches, rows);
+    if rows_close(words, reaches, tolerance, rows) {
+        return CheckAnswer::Closed(gap);
     }
-    CheckAnswer::Open
+    CheckAnswer::Open(gap)
 }
 
 // Once refusal 3 has passed: the other refusals, and the verdict.
@@ -75,10 +78,10 @@ fn judged_check(
         sizes,
     );
     measure_reaches(rows as usize, numbers, sizes, values);
-    verdict(rows_close(words, values, tolerance, rows as usize))
+    verdict(words, values, tolerance, rows as usize)
 }
 
-// Are the joints closed by these multipliers, the gains since the errors were measured? Refusals 3, 4, 26, 6, 7 and 18.
+// Are the joints closed by these multipliers, the gains since the errors were measured, and how far are they? Refusals 3, 4, 26, 6, 7 and 18.
 // What is given is only read; the work memory is +0.0 (integers 0) afterwards, except after refusal 3, which writes nothing.
 pub fn closing_check(
     rows: u32,

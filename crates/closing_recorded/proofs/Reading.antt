@@ -12,9 +12,10 @@ use Rattle.closing_recorded.specs.declared.tally.Seen.{Seen}
 module _ (case : List ℕ) (n b : ℕ) {k₁ k₂ k₃ k₄ : ℕ} {numbers : List Float} {words : List ℕ} {masses multipliers : List Float} where
   -- each slice is as long as the table and holds the words from its place on
   pub seen-in : k₁ ≡ 27 * n → k₂ ≡ 8 * n → k₃ ≡ 10 * b → k₄ ≡ n
-      → numbers ≡ doublesAt case 48 k₁ → words ≡ halvesAt case (48 + 216 * n) k₂ → masses ≡ doublesAt case (48 + 280 * n) k₃ → multipliers ≡ doublesAt case (48 + 280 * n + 80 * b) k₄
+      → numbers ≡ doublesAt case 64 k₁ → words ≡ halvesAt case (64 + 216 * n) k₂ → masses ≡ doublesAt case (64 + 280 * n) k₃ → multipliers ≡ doublesAt case (64 + 280 * n + 80 * b) k₄
       → {linear angular : Float} → linear ≡ doubleAt case 24 → angular ≡ doubleAt case 32
       → {answer : CheckAnswer} → answer ≡ checkedOf n b numbers words masses multipliers (record { «linear_m» = linear; «angular_rad» = angular })
-      → {recorded : ℕ} → recorded ≡ wordAt case 40 → {s : Seen} → s ≡ comparedOf answer recorded → s ≡ seenIn case n b
+      → {recorded : ℕ} → recorded ≡ wordAt case 40 → {bits₁ : ℕ} → bits₁ ≡ wordAt case 48 → {bits₂ : ℕ} → bits₂ ≡ wordAt case 56
+      → {s : Seen} → s ≡ comparedOf answer recorded bits₁ bits₂ → s ≡ seenIn case n b
   unfolding seenIn
-  seen-in l1 l2 l3 l4 e1 e2 e3 e4 p q f r h = h ∙ rw (r, f, p, q, e1, e2, e3, e4, l1, l2, l3, l4)
+  seen-in l1 l2 l3 l4 e1 e2 e3 e4 p q f r x y h = h ∙ rw (r, x, y, f, p, q, e1, e2, e3, e4, l1, l2, l3, l4)

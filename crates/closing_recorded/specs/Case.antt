@@ -1,14 +1,16 @@
--- A recorded check in its bytes. oracle/closing/record.py: "A check is a run of 64-bit words, little end first: its length in bytes, rows n, bodies b, the linear and the angular tolerance, the answer (0 open, 1 closed, else the refusal's number), 27n row numbers, 8n row words, 10b mass numbers, n multipliers."
+-- A recorded check in its bytes. oracle/closing/record.py: "A check is a run of 64-bit words, little end first: its length in bytes, rows n, bodies b, the linear and the angular tolerance, the answer (0 open, 1 closed, else the refusal's number), the linear and the angular gap, 27n row numbers, 8n row words, 10b mass numbers, n multipliers."
 use Prim.Native.Nat.{ℕ, _+_, _*_, _≤_}
 use mathlib.Core.Path.{_≡_}
-use mathlib.Core.Bool.{Bool, false}
+use mathlib.Core.Bool.{Bool, false, _&&_}
 use mathlib.Core.List.{List}
 use lib.Dec.{leb, eqb}
 use lib.ListN.{length}
+use lib.Ieee.{binary64, toBits}
 use Rattle.loops.specs.Run.{check}
 use Rattle.little_endian.specs.Words.{wordAt, doubleAt, doublesAt, halvesAt}
 use Rattle.kapitsa_joint.specs.declared.tolerance.JointTolerance.{JointTolerance}
-use Rattle.check_answer.specs.Answer.{numberOf}
+use Rattle.kapitsa_joint.specs.declared.maxima.Maxima.{Maxima}
+use Rattle.check_answer.specs.Answer.{numberOf, gapOf}
 use Rattle.check_answer.specs.declared.CheckAnswer.{CheckAnswer}
 use Rattle.check_alone.specs.Checked.{checkedOf}
 use Rattle.closing_recorded.specs.Tally.{malformed}
@@ -16,27 +18,33 @@ use Rattle.closing_recorded.specs.declared.tally.Seen.{Seen}
 
 -- at most 513 rows and 257 bodies, one more than a check may have, and as long as they make it
 unfoldable pub wellFormed : List ℕ → Bool
-wellFormed case = check (leb 48 (length case)) (check (leb (wordAt case 8) 513) (check (leb (wordAt case 16) 257) (eqb (length case) (48 + 288 * wordAt case 8 + 80 * wordAt case 16)) false) false) false
+wellFormed case = check (leb 64 (length case)) (check (leb (wordAt case 8) 513) (check (leb (wordAt case 16) 257) (eqb (length case) (64 + 288 * wordAt case 8 + 80 * wordAt case 16)) false) false) false
 
 -- the same as facts, of the counts n and b
 pub record Formed (case : List ℕ) (n b : ℕ) : Type 0 where
   pub rows : n ≤ 513
   pub bodies : b ≤ 257
-  pub long : length case ≡ 48 + 288 * n + 80 * b
+  pub long : length case ≡ 64 + 288 * n + 80 * b
 
 abbrev pub toleranceIn : List ℕ → JointTolerance
 toleranceIn case = record { «linear_m» = doubleAt case 24; «angular_rad» = doubleAt case 32 }
 
--- beside the recorded answer
-unfoldable pub comparedOf : CheckAnswer → ℕ → Seen
-comparedOf answer recorded = record { answer = numberOf answer; same = eqb (numberOf answer) recorded }
+-- bit for bit
+unfoldable pub sameGap : Maxima → ℕ → ℕ → Bool
+sameGap gap linear angular = eqb (toBits binary64 (gap .linear)) linear && eqb (toBits binary64 (gap .angular)) angular
+
+-- beside the recorded answer and the bits of the recorded gap
+unfoldable pub comparedOf : CheckAnswer → ℕ → ℕ → ℕ → Seen
+comparedOf answer recorded linear angular = record { answer = numberOf answer; same = eqb (numberOf answer) recorded && sameGap (gapOf answer) linear angular }
 
 -- what a case of n rows and b bodies shows: the definition's answer beside the recorded one
 unfoldable pub seenIn : List ℕ → ℕ → ℕ → Seen
 seenIn case n b =
     comparedOf
-    (checkedOf n b (doublesAt case 48 (27 * n)) (halvesAt case (48 + 216 * n) (8 * n)) (doublesAt case (48 + 280 * n) (10 * b)) (doublesAt case (48 + 280 * n + 80 * b) n) (toleranceIn case))
+    (checkedOf n b (doublesAt case 64 (27 * n)) (halvesAt case (64 + 216 * n) (8 * n)) (doublesAt case (64 + 280 * n) (10 * b)) (doublesAt case (64 + 280 * n + 80 * b) n) (toleranceIn case))
     (wordAt case 40)
+    (wordAt case 48)
+    (wordAt case 56)
 
 unfoldable pub seenOf : List ℕ → Seen
 seenOf case = check (wellFormed case) (seenIn case (wordAt case 8) (wordAt case 16)) malformed

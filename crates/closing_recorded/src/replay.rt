@@ -2,11 +2,12 @@
 ghost use mathlib.Core.Path.{_≡_};
 ghost use Prim.Native.Nat.{_*_};
 ghost use lib.ListN.{length};
-ghost use Rattle.closing_recorded.specs.Case.{wellFormed, Formed, comparedOf, seenIn, seenOf};
+ghost use Rattle.closing_recorded.specs.Case.{wellFormed, Formed, sameGap, comparedOf, seenIn, seenOf};
 use crate::tally::Seen;
 use check_alone::checked;
 use check_answer::CheckAnswer;
 use kapitsa_joint::JointTolerance;
+use kapitsa_joint::Maxima;
 use little_endian::double;
 use little_endian::read_doubles;
 use little_endian::read_halves;
@@ -16,7 +17,7 @@ use little_endian::word;
 fn well_formed(case: &[u8]) -> bool
     ensures { λ r. ⌜ r ≡ wellFormed (now (case .entry)) ⌝ }
 {
-    if case.len() < 48 {
+    if case.len() < 64 {
         return false;
     }
     let n = word(case, 8);
@@ -27,16 +28,24 @@ fn well_formed(case: &[u8]) -> bool
     if 257 < b {
         return false;
     }
-    case.len() as u64 == 48 + 288 * n + 80 * b
+    case.len() as u64 == 64 + 288 * n + 80 * b
 }
 
-fn compared(answer: CheckAnswer, recorded: u64) -> Seen
-    ensures { λ r. ⌜ r ≡ comparedOf answer recorded ⌝ }
+// Bit for bit.
+fn same_gap(gap: Maxima, linear: u64, angular: u64) -> bool
+    ensures { λ r. ⌜ r ≡ sameGap gap linear angular ⌝ }
+{
+    (binary64::to_bits(gap.linear) == linear) & (binary64::to_bits(gap.angular) == angular)
+}
+
+fn compared(answer: CheckAnswer, recorded: u64, linear: u64, angular: u64) -> Seen
+    ensures { λ r. ⌜ r ≡ comparedOf answer recorded linear angular ⌝ }
 {
     let number = answer.number();
+    let gap = answer.gap();
     Seen {
         answer: number,
-        same: number as u64 == recorded,
+        same: (number as u64 == recorded) & same_gap(gap, linear, angular),
     }
 }
 
@@ -55,18 +64,20 @@ fn read_in(
     ensures { λ r. ⌜ r ≡ seenIn (now (case .entry)) n b ⌝ }
 {
     let rows = n as usize;
-    let at = 48 + 280 * rows;
+    let at = 64 + 280 * rows;
     let tolerance = JointTolerance {
         linear_m: double(case, 24),
         angular_rad: double(case, 32),
     };
     let recorded = word(case, 40);
-    read_doubles(case, 48, numbers);
-    read_halves(case, 48 + 216 * rows, words);
+    let linear = word(case, 48);
+    let angular = word(case, 56);
+    read_doubles(case, 64, numbers);
+    read_halves(case, 64 + 216 * rows, words);
     read_doubles(case, at, masses);
     read_doubles(case, at + 80 * b as usize, multipliers);
     let answer = checked(n, b, numbers, words, masses, multipliers, tolerance);
-    compared(answer, recorded)
+    compared(answer, recorded, linear, angular)
 }
 
 fn read(case: &[u8], n: u32, b: u32) -> Seen

@@ -2,7 +2,7 @@
 ghost use mathlib.Core.Path.{_≡_};
 ghost use Rattle.closing_recorded.specs.Tally.{moreOf, malformed, none, withOf};
 
-// The answer's number, and whether it is the recorded one.
+// The answer's number, and whether it and the measured gap are the recorded ones.
 pub struct Seen {
     pub answer: u32,
     pub same: bool,

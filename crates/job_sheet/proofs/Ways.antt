@@ -23,7 +23,8 @@ use Rattle.joint_refusals.specs.Counts.{tableCountsFit, countsFit}
 use Rattle.work_memory.specs.Lengths as lengths
 use Rattle.position_solve.specs.Job.{jobFits, JobSolved}
 use Rattle.check_refusals.specs.Refusals.{tableFits, givenFits}
-use Rattle.check_answer.specs.Answer.{numberOf}
+use Rattle.kapitsa_joint.specs.declared.maxima.Maxima.{Maxima}
+use Rattle.check_answer.specs.Answer.{numberOf, gapOf}
 use Rattle.check_answer.specs.declared.CheckAnswer.{CheckAnswer}
 use Rattle.check_alone.specs.Checked.{checkedOf}
 use Rattle.job_file.specs.Refusals as refusals
@@ -35,7 +36,7 @@ use Rattle.job_file.specs.declared.judge.FileJudged.the-variants.{Passed, Refus
 use Rattle.job_file.proofs.Judgement.{passed, rows-inside, masses-inside}
 use Rattle.job_file.proofs.Meaning.{passed-job, refused-job}
 use Rattle.listing.specs.Listing.{listingOf, refusedListing}
-use Rattle.job_sheet.specs.Sheet.{answerTo, verdictIn, printedOf, answerSheet, jobSheet, sheetOf}
+use Rattle.job_sheet.specs.Sheet.{answerTo, checkIn, carriedBy, printedOf, answerSheet, jobSheet, sheetOf}
 use Rattle.job_sheet.specs.Room.{JobRoom}
 
 -- ---- the file
@@ -115,16 +116,17 @@ room-after r a b c d e = rw (a, b, c, d, e) r
 
 -- ---- the check
 
-pub closing-is : (t : Trailer) (numbers : List Float) (words : List ℕ) (masses solution impulses : List Float) {answer : CheckAnswer} {number : ℕ} → JobRoom t (length numbers) (length words) (length masses) (length solution) (length impulses)
-    → answer ≡ checkedOf (t .rows) (t .bodies) numbers words masses solution (t .tolerance) → number ≡ numberOf answer → number ≡ verdictIn (jobWith t numbers words masses) numbers solution
-unfolding verdictIn
-closing-is t numbers words masses solution impulses r e n = n ∙ rw (e, check-fits r)
+closing-is : (t : Trailer) (numbers : List Float) (words : List ℕ) (masses solution impulses : List Float) {answer : CheckAnswer} → JobRoom t (length numbers) (length words) (length masses) (length solution) (length impulses)
+    → answer ≡ checkedOf (t .rows) (t .bodies) numbers words masses solution (t .tolerance) → answer ≡ checkIn (jobWith t numbers words masses) numbers solution
+unfolding checkIn
+closing-is t numbers words masses solution impulses r e = rw (e, check-fits r)
 
-pub printed-is : (t : Trailer) (r : PositionPcgResult) (numbers : List Float) (words : List ℕ) (masses solution impulses : List Float) {answer : CheckAnswer} {number : ℕ} → JobRoom t (length numbers) (length words) (length masses) (length solution) (length impulses)
-    → answer ≡ checkedOf (t .rows) (t .bodies) numbers words masses solution (t .tolerance) → number ≡ numberOf answer
-    → listingOf (r .iterations) (r .converged) (r .«linear_residual_m») (r .«angular_residual_rad») number (t .rows) (t .bodies) numbers impulses ≡ printedOf (jobWith t numbers words masses) r numbers solution impulses
+pub printed-is : (t : Trailer) (r : PositionPcgResult) (numbers : List Float) (words : List ℕ) (masses solution impulses : List Float) {answer : CheckAnswer} {gap : Maxima} {number : ℕ} → JobRoom t (length numbers) (length words) (length masses) (length solution) (length impulses)
+    → answer ≡ checkedOf (t .rows) (t .bodies) numbers words masses solution (t .tolerance) → gap ≡ gapOf answer → number ≡ numberOf answer
+    → listingOf (r .iterations) (r .converged) gap (carriedBy r) number (t .rows) (t .bodies) numbers impulses ≡ printedOf (jobWith t numbers words masses) r numbers solution impulses
 unfolding printedOf
-printed-is t r numbers words masses solution impulses room e n = ap (λ v. listingOf (r .iterations) (r .converged) (r .«linear_residual_m») (r .«angular_residual_rad») v (t .rows) (t .bodies) numbers impulses) (closing-is t numbers words masses solution impulses room e n)
+printed-is t r numbers words masses solution impulses room e g n =
+    rw (g, n) (ap (λ (a : CheckAnswer). listingOf (r .iterations) (r .converged) (gapOf a) (carriedBy r) (numberOf a) (t .rows) (t .bodies) numbers impulses) (closing-is t numbers words masses solution impulses room e))
 
 -- ---- the solve
 
@@ -164,5 +166,5 @@ module _ (t : Trailer) (numbers : List Float) (words : List ℕ) (masses solutio
 
   -- the job's own numbers do not matter to what is printed
   pub job-accepted : {r : PositionPcgResult} (rows : List Float) → answer ≡ answers.Accepted r → printedOf (jobWith t rows words masses) r (after .numbers) (after .solution) (after .impulses) ≡ jobSheet (jobWith t numbers words masses)
-  unfolding jobSheet printedOf verdictIn
+  unfolding jobSheet printedOf checkIn
   job-accepted {r} rows e = accepted-in (jobWith t numbers words masses) solution impulses (answerTo (jobWith t numbers words masses)) (solved ∙ ap (λ a. record { answer = a; lent = after }) e)

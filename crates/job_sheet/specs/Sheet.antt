@@ -5,6 +5,7 @@ use mathlib.Core.List.{List}
 use lib.Ieee.{Float}
 use Rattle.loops.specs.Run.{going, ended, on}
 use Rattle.kapitsa_joint.specs.Table.{tableOf}
+use Rattle.kapitsa_joint.specs.declared.maxima.Maxima.{Maxima}
 use Rattle.mass_operator.specs.Flat.{coefficients}
 use Rattle.preconditioner.specs.Mode.{modeOf}
 use Rattle.steps.specs.Solve.{solve}
@@ -14,7 +15,8 @@ use Rattle.position_iteration.specs.Method.{methodOf}
 use Rattle.position_delivery.specs.Outcome.{Answer, resultOf, withMultipliers}
 use Rattle.position_delivery.specs.declared.answer.PositionPcgResult.{PositionPcgResult}
 use Rattle.check_range.specs.Closing.{closingOf}
-use Rattle.check_answer.specs.Answer.{numberOf, checkOf}
+use Rattle.check_answer.specs.Answer.{numberOf, gapOf, checkOf}
+use Rattle.check_answer.specs.declared.CheckAnswer.{CheckAnswer}
 use Rattle.job_file.specs.Job.{Job, jobOf}
 use Rattle.listing.specs.Listing.{listingOf, refusedListing}
 
@@ -22,13 +24,19 @@ use Rattle.listing.specs.Listing.{listingOf, refusedListing}
 unfoldable pub answerTo : Job → Answer
 answerTo j = solve (methodOf true (positionOf (j .rows) (j .bodies) (j .numbers) (j .words) (j .masses) (j .tolerance) plusZero) (modeOf (j .mode) plusZero)) (j .limit)
 
--- "the gains since error was measured; the job program gives it the solution": the verdict, or the check's refusal, on the rows as the solve leaves them
-unfoldable pub verdictIn : Job → List Float → List Float → ℕ
-verdictIn j numbers solution = numberOf (checkOf true (closingOf (tableOf (j .rows) (j .bodies) numbers (j .words) (j .masses)) (coefficients solution) (j .tolerance)))
+-- "the gains since error was measured; the job program gives it the solution": the verdict with its gap, or the check's refusal, on the rows as the solve leaves them
+unfoldable pub checkIn : Job → List Float → List Float → CheckAnswer
+checkIn j numbers solution = checkOf true (closingOf (tableOf (j .rows) (j .bodies) numbers (j .words) (j .masses)) (coefficients solution) (j .tolerance))
+
+-- the residuals that the solve carries along
+abbrev pub carriedBy : PositionPcgResult → Maxima
+carriedBy r = record { linear = r .«linear_residual_m»; angular = r .«angular_residual_rad» }
 
 -- of an accepted job, from what the solve answers and delivers
 unfoldable pub printedOf : Job → PositionPcgResult → List Float → List Float → List Float → List ℕ
-printedOf j r numbers solution impulses = listingOf (r .iterations) (r .converged) (r .«linear_residual_m») (r .«angular_residual_rad») (verdictIn j numbers solution) (j .rows) (j .bodies) numbers impulses
+printedOf j r numbers solution impulses =
+    let answer = checkIn j numbers solution in
+    listingOf (r .iterations) (r .converged) (gapOf answer) (carriedBy r) (numberOf answer) (j .rows) (j .bodies) numbers impulses
 
 unfoldable pub answerSheet : Job → Answer → List ℕ
 answerSheet j (going ((flag, count, v), f)) = printedOf j (resultOf flag count f) (withMultipliers (j .numbers) (f .accumulated) (j .rows)) (v .solution) (f .impulses)

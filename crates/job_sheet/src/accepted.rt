@@ -7,6 +7,7 @@ ghost use Rattle.job_sheet.specs.Sheet.{printedOf};
 ghost use Rattle.job_sheet.specs.Room.{JobRoom};
 use check_alone::checked_small;
 use job_file::Trailer;
+use kapitsa_joint::Maxima;
 use listing::write_listing;
 use position_delivery::PositionPcgResult;
 
@@ -37,8 +38,11 @@ pub fn write_accepted(
     write_listing(
         result.iterations,
         result.converged,
-        result.linear_residual_m,
-        result.angular_residual_rad,
+        answer.gap(),
+        Maxima {
+            linear: result.linear_residual_m,
+            angular: result.angular_residual_rad,
+        },
         answer.number(),
         trailer.rows,
         trailer.bodies,

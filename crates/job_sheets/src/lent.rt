@@ -6,6 +6,7 @@ use job_file::Trailer;
 use job_file::read_job;
 use kapitsa_c::kapitsa_closing_check;
 use kapitsa_c::kapitsa_solve_position;
+use kapitsa_joint::Maxima;
 use libc::STDOUT_FILENO;
 use listing::write_listing;
 use listing::write_refusal;
@@ -62,13 +63,14 @@ fn solved(
     )
 }
 
-// The verdict, or the refusal's number.
+// The verdict, or the refusal's number; the measured gap into `gap`.
 fn verdict(
     trailer: Trailer,
     numbers: &[f64],
     words: &[u32],
     masses: &[f64],
     multipliers: &[f64],
+    gap: &mut [f64],
 ) -> u32 {
     let mut told: [u32; 1] = [0; 1];
     let mut jacobians: [f64; 96] = [0.0; 96];
@@ -88,6 +90,7 @@ fn verdict(
         trailer.bodies,
         multipliers,
         &mut told,
+        gap,
         &mut jacobians,
         &mut links,
         &mut mass_sizes,
@@ -106,8 +109,8 @@ fn verdict(
 fn write_accepted(
     count: u32,
     flag: u32,
-    linear: f64,
-    angular: f64,
+    gap: Maxima,
+    carried: Maxima,
     closes: u32,
     numbers: &[f64],
     impulses: &[f64],
@@ -119,8 +122,8 @@ fn write_accepted(
     write_listing(
         count,
         flag == 1,
-        linear,
-        angular,
+        gap,
+        carried,
         closes,
         8,
         4,
@@ -158,12 +161,19 @@ fn write_told(
     if refusal != 0 {
         return write_refusal(refusal, out);
     }
-    let closes = verdict(trailer, numbers, words, masses, &solution);
+    let mut gap: [f64; 2] = [0.0; 2];
+    let closes = verdict(trailer, numbers, words, masses, &solution, &mut gap);
     write_accepted(
         counts[0],
         counts[1],
-        maxima[0],
-        maxima[1],
+        Maxima {
+            linear: gap[0],
+            angular: gap[1],
+        },
+        Maxima {
+            linear: maxima[0],
+            angular: maxima[1],
+        },
         closes,
         numbers,
         &impulses,

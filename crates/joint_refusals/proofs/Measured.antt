@@ -1,13 +1,16 @@
--- Tolerances that pass 26 are finite. Assumes nothing.
+-- Tolerances that pass 26 are finite; 26 is not the number of a verdict. Assumes nothing.
 use Prim.Native.Nat.{ℕ, _<_}
 use mathlib.Core.Path.{_≡_, sym, subst}
-use mathlib.Core.Bool.{true}
+use mathlib.Core.Bool.{Bool, true}
+use mathlib.Core.List.{[], _∷_}
+use native.Mathlib.Omega.{arith}
 use lib.Dec.{T}
 use lib.Ieee.{Float, le}
 use lib.Ieee.Scale.{finite}
 use Rattle.loops.specs.Judge.{AllPass}
 use Rattle.loops.specs.Cleared.{plusZero}
 use Rattle.loops.proofs.Both.{both}
+use Rattle.loops.proofs.Ranges.{Listed}
 use Rattle.kapitsa_joint.specs.Table.{Table}
 use Rattle.kapitsa_joint.specs.Tolerance.{dimensionOf, toleranceOf}
 use Rattle.kapitsa_joint.specs.declared.tolerance.RowDimension.{RowDimension}
@@ -27,3 +30,7 @@ two-finite tolerance t p i h = go (dimensionOf (t .row i .words .dimension))
     go : (d : RowDimension) → T (finite (toleranceOf tolerance d))
     go Linear = fitting-finite (tolerance .«linear_m») (both (toleranceFits (tolerance .«linear_m»)) (toleranceFits (tolerance .«angular_rad»)) (p .0) .0)
     go Angular = fitting-finite (tolerance .«angular_rad») (both (toleranceFits (tolerance .«linear_m»)) (toleranceFits (tolerance .«angular_rad»)) (p .0) .1)
+
+pub two-above : (b : Bool) → Listed (λ n. 1 < n) ((26, b) ∷ [])
+unfolding Listed
+two-above b = (omega arith, tt)

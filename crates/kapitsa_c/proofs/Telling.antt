@@ -78,7 +78,7 @@ told-lengths counts maxima b e h =
     (eqb-true (length counts) 2 c, eqb-true (length maxima) 2 m)
 
 -- ---- `tell`
-both-set : {X : Type 0} (xs : List X) (a b : X) → length xs ≡ 2 → set (set xs 0 a) 1 b ≡ a ∷ b ∷ []
+pub both-set : {X : Type 0} (xs : List X) (a b : X) → length xs ≡ 2 → set (set xs 0 a) 1 b ≡ a ∷ b ∷ []
 both-set [] a b e = absurd (omega arith)
 both-set (x ∷ []) a b e = absurd (omega arith)
 both-set (x ∷ y ∷ []) a b e = refl

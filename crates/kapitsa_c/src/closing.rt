@@ -1,4 +1,4 @@
-// The closing check for C: 0 with the verdict, or the refusal's number (3, 4, 6, 7 or 18).
+// The closing check for C: 0 with the verdict and the measured gap, or the refusal's number (3, 4, 26, 6, 7 or 18).
 ghost use mathlib.Core.Path.{_≡_};
 ghost use mathlib.Core.Bool.{_&&_};
 ghost use lib.ListN.{length};
@@ -7,37 +7,48 @@ ghost use Rattle.mass_operator.specs.Flat.{coefficients};
 ghost use Rattle.check_range.specs.Closing.{closingOf};
 ghost use Rattle.check_refusals.specs.Refusals.{passes3, tableLengths};
 ghost use Rattle.check_work.specs.Work.{memoryOf, workLengths};
-ghost use Rattle.kapitsa_c.specs.Closing.{tolerancePair, verdictFits, verdictTold, CheckTold};
+ghost use Rattle.kapitsa_c.specs.Closing.{tolerancePair, both, verdictFits, verdictTold, CheckTold};
 use check_answer::CheckAnswer;
 use closing_check::closing_check;
 use kapitsa_joint::JointTolerance;
+use kapitsa_joint::Maxima;
 
-// Refusal 3, of the slice that takes the verdict: true where it does not apply.
-fn verdict_fits(verdict: &[u32]) -> bool
-    ensures { λ r. ⌜ r ≡ verdictFits (now (verdict .entry)) ⌝ }
+// Refusal 3, of the slices that take the verdict and the gap: true where it does not apply.
+fn verdict_fits(verdict: &[u32], gap: &[f64]) -> bool
+    ensures { λ r. ⌜ r ≡ verdictFits (now (verdict .entry)) (now (gap .entry)) ⌝ }
 {
-    verdict.len() == 1
+    (verdict.len() == 1) & (gap.len() == 2)
 }
 
-// The verdict; nothing where the answer is a refusal.
-fn tell_verdict(answer: CheckAnswer, verdict: &mut [u32]) -> u32
-    requires { ⌜ length (now verdict) ≡ 1 ⌝ }
-    ensures { λ r. ⌜ record { number = r; verdict = now (verdict .exit) } ≡ verdictTold answer (now (verdict .entry)) ⌝ }
+fn put_gap(measured: Maxima, gap: &mut [f64])
+    requires { ⌜ length (now gap) ≡ 2 ⌝ }
+    ensures { λ _. ⌜ now (gap .exit) ≡ both measured ⌝ }
+{
+    gap[0] = measured.linear;
+    gap[1] = measured.angular;
+}
+
+// The verdict and the gap; nothing where the answer is a refusal.
+fn tell_verdict(answer: CheckAnswer, verdict: &mut [u32], gap: &mut [f64]) -> u32
+    requires { ⌜ (length (now verdict) ≡ 1) × (length (now gap) ≡ 2) ⌝ }
+    ensures { λ r. ⌜ record { number = r; verdict = now (verdict .exit); gap = now (gap .exit) } ≡ verdictTold answer (now (verdict .entry)) (now (gap .entry)) ⌝ }
 {
     match answer {
-        CheckAnswer::Closed => {
+        CheckAnswer::Closed(measured) => {
             verdict[0] = 1;
+            put_gap(measured, gap);
             0
         }
-        CheckAnswer::Open => {
+        CheckAnswer::Open(measured) => {
             verdict[0] = 0;
+            put_gap(measured, gap);
             0
         }
         CheckAnswer::Refused(number) => number,
     }
 }
 
-// For n rows and b bodies: numbers 27n, words 8n, masses 10b, multipliers n; verdict 1 (1 closed, 0 open), written where 0 is returned and nowhere else;
+// For n rows and b bodies: numbers 27n, words 8n, masses 10b, multipliers n; verdict 1 (1 closed, 0 open) and gap 2 (the largest reach of linear and of angular rows), written where 0 is returned and nowhere else;
 // jacobians 12n, links 2n, mass_sizes 10b, multiplier_sizes n, impulses 6b, values n, sizes n: this work memory is 0 afterwards, except after 3, which writes nothing.
 #[no_mangle]
 pub extern "C" fn kapitsa_closing_check(
@@ -50,6 +61,7 @@ pub extern "C" fn kapitsa_closing_check(
     bodies: u32,
     multipliers: &[f64],
     verdict: &mut [u32],
+    gap: &mut [f64],
     jacobians: &mut [f64],
     links: &mut [u32],
     mass_sizes: &mut [f64],
@@ -58,13 +70,13 @@ pub extern "C" fn kapitsa_closing_check(
     values: &mut [f64],
     sizes: &mut [f64],
 ) -> u32
-    ensures { λ r. ⌜ CheckTold (verdictFits (now (verdict .entry)) && passes3 rows bodies (tableLengths (now (numbers .entry)) (now (words .entry)) (now (masses .entry)) (now (multipliers .entry))) (workLengths (memoryOf (now (jacobians .entry)) (now (links .entry)) (now («mass_sizes» .entry)) (now («multiplier_sizes» .entry)) (now (impulses .entry)) (now (values .entry)) (now (sizes .entry)))))
+    ensures { λ r. ⌜ CheckTold (verdictFits (now (verdict .entry)) (now (gap .entry)) && passes3 rows bodies (tableLengths (now (numbers .entry)) (now (words .entry)) (now (masses .entry)) (now (multipliers .entry))) (workLengths (memoryOf (now (jacobians .entry)) (now (links .entry)) (now («mass_sizes» .entry)) (now («multiplier_sizes» .entry)) (now (impulses .entry)) (now (values .entry)) (now (sizes .entry)))))
         (closingOf (tableOf rows bodies (now (numbers .entry)) (now (words .entry)) (now (masses .entry))) (coefficients (now (multipliers .entry))) (tolerancePair «linear_tolerance» «angular_tolerance»))
-        (now (verdict .entry)) record { number = r; verdict = now (verdict .exit) }
+        (now (verdict .entry)) (now (gap .entry)) record { number = r; verdict = now (verdict .exit); gap = now (gap .exit) }
         (memoryOf (now (jacobians .entry)) (now (links .entry)) (now («mass_sizes» .entry)) (now («multiplier_sizes» .entry)) (now (impulses .entry)) (now (values .entry)) (now (sizes .entry)))
         (memoryOf (now (jacobians .exit)) (now (links .exit)) (now («mass_sizes» .exit)) (now («multiplier_sizes» .exit)) (now (impulses .exit)) (now (values .exit)) (now (sizes .exit))) ⌝ }
 {
-    if !verdict_fits(verdict) {
+    if !verdict_fits(verdict, gap) {
         return 3;
     }
     let answer = closing_check(
@@ -86,5 +98,5 @@ pub extern "C" fn kapitsa_closing_check(
         values,
         sizes,
     );
-    tell_verdict(answer, verdict)
+    tell_verdict(answer, verdict, gap)
 }

@@ -2,3 +2,5 @@
 pub mod Kind
 pub mod Cross
 pub mod Stored
+pub mod Largest
+pub mod Above

@@ -3,3 +3,4 @@ pub mod Mass
 pub mod Impulse
 pub mod Tolerance
 pub mod Table
+pub mod Maxima

@@ -1,6 +1,7 @@
 // Constraint rows, masses, impulses and tolerances of Kapitsa's joint solver, read out of the lent tables.
 pub mod impulse; // impulse.rt: GeneralizedImpulse
 pub mod mass; // mass.rt: SolverMass with cross and diagonal
+pub mod maxima; // maxima.rt: Maxima, the largest number of each dimension
 pub mod row; // row.rt: ConstraintRow, read whole or in parts
 pub mod tolerance; // tolerance.rt: JointTolerance and RowDimension
 
@@ -9,6 +10,7 @@ pub use impulse::impulse_at;
 pub use impulse::put_impulse;
 pub use mass::SolverMass;
 pub use mass::mass_at;
+pub use maxima::Maxima;
 pub use row::ConstraintRow;
 pub use row::RowJacobian;
 pub use row::RowScalars;

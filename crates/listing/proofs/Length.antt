@@ -1,18 +1,19 @@
 -- How long a listing is: `listing-short`, at most 16,384 bytes at 128 rows and 64 bodies, and `refused-short`; hence `listing-room` and `refused-room`. Assumes nothing.
 use Prim.Native.Nat.{ℕ, zero, suc, _+_, _-_, _*_, _/_, _%_, _^_, _<_, _≤_}
 use mathlib.Core.Path.{_≡_, refl}
-use mathlib.Core.Bool.{Bool, true, false}
+use mathlib.Core.Bool.{Bool, true, false, cond}
 use mathlib.Core.List.{List, [], _∷_, _++_}
 use native.Mathlib.Nat.{pow-succ'}
 use native.Mathlib.Omega.{arith}
-use lib.Dec.{ltb}
+use lib.Dec.{leb, ltb}
 use lib.ListN.{length, length-append}
 use lib.Ieee.{Float}
 use borrow.Author.Tests.{ltb-true, ltb-false}
+use Rattle.kapitsa_joint.specs.declared.maxima.Maxima.{Maxima}
 use Rattle.listing.specs.Written.{Room, pieces}
 use Rattle.listing.specs.Digits.{decimalDigit, decimal, hexadecimal, number, double}
-use Rattle.listing.specs.Lines.{newline, solveName, gapName, closeName, rowName, bodyName, solveLine, gapLine, closeLine, rowLine, bodyLine}
-use Rattle.listing.specs.Listing.{flagOf, rowLines, bodyLines, listingOf, refusedListing}
+use Rattle.listing.specs.Lines.{newline, solveName, gapName, noneName, carriedName, closeName, rowName, bodyName, solveLine, maximaWords, gapLine, noGapLine, carriedLine, closeLine, rowLine, bodyLine}
+use Rattle.listing.specs.Listing.{flagOf, measuredLine, rowLines, bodyLines, listingOf, refusedListing}
 use Rattle.listing.proofs.Decimal.{decimal-small, decimal-more}
 
 -- ---- numbers
@@ -73,15 +74,25 @@ solve-short r n f h g k =
     let j = length-append (solveName ++ number r ++ number n ++ number f) newline in
     omega arith
 
-gap-long : (x y : Float) → length (gapLine x y) ≡ 38
+maxima-long : (m : Maxima) → length (maximaWords m) ≡ 34
+unfolding maximaWords
+maxima-long m = omega (arith, double-long (m .linear), double-long (m .angular), length-append (double (m .linear)) (double (m .angular)))
+
+gap-long : (m : Maxima) → length (gapLine m) ≡ 38
 unfolding gapLine gapName
-gap-long x y =
-    let a = double-long x in
-    let b = double-long y in
-    let c = length-append gapName (double x) in
-    let d = length-append (gapName ++ double x) (double y) in
-    let e = length-append (gapName ++ double x ++ double y) newline in
-    omega arith
+gap-long m = omega (arith, maxima-long m, length-append gapName (maximaWords m), length-append (gapName ++ maximaWords m) newline)
+
+carried-long : (m : Maxima) → length (carriedLine m) ≡ 42
+unfolding carriedLine carriedName
+carried-long m = omega (arith, maxima-long m, length-append carriedName (maximaWords m), length-append (carriedName ++ maximaWords m) newline)
+
+measured-short : (verdict : ℕ) (m : Maxima) → length (measuredLine verdict m) ≤ 38
+unfolding measuredLine
+measured-short verdict m = go (leb verdict 1)
+  where
+    go : (b : Bool) → length (cond b (gapLine m) noGapLine) ≤ 38
+    go true = omega (arith, gap-long m)
+    go false = unfold noGapLine gapName noneName in omega arith
 
 close-short : (verdict : ℕ) → verdict < 4294967296 → length (closeLine verdict) ≤ 17
 unfolding closeLine closeName
@@ -101,26 +112,29 @@ flag-small : (flag : Bool) → flagOf flag < 4294967296
 flag-small true = omega arith
 flag-small false = omega arith
 
-pub listing-short : (count : ℕ) (flag : Bool) (linear angular : Float) (verdict rows bodies : ℕ) (numbers impulses : List Float) → count < 4294967296 → verdict < 4294967296 → rows ≤ 128 → bodies ≤ 64 → length (listingOf count flag linear angular verdict rows bodies numbers impulses) ≤ 16384
+pub listing-short : (count : ℕ) (flag : Bool) (gap carried : Maxima) (verdict rows bodies : ℕ) (numbers impulses : List Float) → count < 4294967296 → verdict < 4294967296 → rows ≤ 128 → bodies ≤ 64
+    → length (listingOf count flag gap carried verdict rows bodies numbers impulses) ≤ 16384
 unfolding listingOf rowLines bodyLines
 listing-short count flag x y v rows bodies numbers impulses h g r b =
     let s = solveLine 0 count (flagOf flag) in
-    let p = gapLine x y in
+    let p = measuredLine v x in
+    let q = carriedLine y in
     let c = closeLine v in
     let t = rowLines numbers rows in
     let u = bodyLines impulses bodies in
     let ls : length s ≤ 39 = solve-short 0 count (flagOf flag) (omega arith) h (flag-small flag) in
-    let lp : length p ≡ 38 = gap-long x y in
+    let lp : length p ≤ 38 = measured-short v x in
+    let lq : length q ≡ 42 = carried-long y in
     let lc : length c ≤ 17 = close-short v g in
     let lt : length t ≤ rows * 32 = pieces-short _ 32 rows (λ i l. row-short i _ (omega arith)) in
     let lu : length u ≤ bodies * 118 = pieces-short _ 118 bodies (λ i l. body-short i _ (omega arith)) in
-    omega (arith, length-append s p, length-append (s ++ p) c, length-append (s ++ p ++ c) t, length-append (s ++ p ++ c ++ t) u)
+    omega (arith, length-append s p, length-append (s ++ p) q, length-append (s ++ p ++ q) c, length-append (s ++ p ++ q ++ c) t, length-append (s ++ p ++ q ++ c ++ t) u)
 
 -- ---- so there is room for it
 
 pub refused-room : (out : List ℕ) (refusal : ℕ) → refusal < 4294967296 → 39 ≤ length out → Room out 0 (refusedListing refusal)
 refused-room out r h l = let s = refused-short r h in record { fits = omega arith }
 
-pub listing-room : (out : List ℕ) (count : ℕ) (flag : Bool) (linear angular : Float) (verdict rows bodies : ℕ) (numbers impulses : List Float)
-    → count < 4294967296 → verdict < 4294967296 → rows ≤ 128 → bodies ≤ 64 → 16384 ≤ length out → Room out 0 (listingOf count flag linear angular verdict rows bodies numbers impulses)
+pub listing-room : (out : List ℕ) (count : ℕ) (flag : Bool) (gap carried : Maxima) (verdict rows bodies : ℕ) (numbers impulses : List Float)
+    → count < 4294967296 → verdict < 4294967296 → rows ≤ 128 → bodies ≤ 64 → 16384 ≤ length out → Room out 0 (listingOf count flag gap carried verdict rows bodies numbers impulses)
 listing-room out count flag x y v rows bodies numbers impulses h g r b l = let s = listing-short count flag x y v rows bodies numbers impulses h g r b in record { fits = omega arith }

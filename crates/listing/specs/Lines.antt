@@ -2,6 +2,7 @@
 use Prim.Native.Nat.{ℕ}
 use mathlib.Core.List.{List, [], _∷_, _++_}
 use lib.Ieee.{Float}
+use Rattle.kapitsa_joint.specs.declared.maxima.Maxima.{Maxima}
 use Rattle.listing.specs.Written.{pieces}
 use Rattle.listing.specs.Digits.{number, double}
 
@@ -14,6 +15,14 @@ solveName = 115 ∷ 111 ∷ 108 ∷ 118 ∷ 101 ∷ []
 -- "gap"
 unfoldable pub gapName : List ℕ
 gapName = 103 ∷ 97 ∷ 112 ∷ []
+
+-- "none"
+unfoldable pub noneName : List ℕ
+noneName = 110 ∷ 111 ∷ 110 ∷ 101 ∷ []
+
+-- "carried"
+unfoldable pub carriedName : List ℕ
+carriedName = 99 ∷ 97 ∷ 114 ∷ 114 ∷ 105 ∷ 101 ∷ 100 ∷ []
 
 -- "close"
 unfoldable pub closeName : List ℕ
@@ -36,9 +45,20 @@ newline = 10 ∷ []
 unfoldable pub solveLine : ℕ → ℕ → ℕ → List ℕ
 solveLine refusal count flag = solveName ++ number refusal ++ number count ++ number flag ++ newline
 
--- "residuals": the linear maximum first
-unfoldable pub gapLine : Float → Float → List ℕ
-gapLine linear angular = gapName ++ double linear ++ double angular ++ newline
+-- two numbers, the linear one first
+unfoldable pub maximaWords : Maxima → List ℕ
+maximaWords m = double (m .linear) ++ double (m .angular)
+
+-- document 02, h: "`gap` shows, for each dimension, the largest rounded |r| + E of the closing check, or the words `gap none` where the check gives 18"
+unfoldable pub gapLine : Maxima → List ℕ
+gapLine gap = gapName ++ maximaWords gap ++ newline
+
+unfoldable pub noGapLine : List ℕ
+noGapLine = gapName ++ (32 ∷ noneName) ++ newline
+
+-- "The old two numbers move to a `carried` line straight after it": the solve's residuals
+unfoldable pub carriedLine : Maxima → List ℕ
+carriedLine carried = carriedName ++ maximaWords carried ++ newline
 
 -- "verdict (0 open, 1 closed, 18)"
 unfoldable pub closeLine : ℕ → List ℕ

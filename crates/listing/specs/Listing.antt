@@ -1,11 +1,13 @@
--- Document 01, "Sheets to try": what "the job program ... prints": "refusal, count, flag; residuals; verdict; row and multiplier; body and six impulses", and of a refused job "its first line only, zeros after the number".
+-- Document 01, "Sheets to try": what "the job program ... prints": "refusal, count, flag; residuals; verdict; row and multiplier; body and six impulses", with the measured gap before the residuals (document 02, h), and of a refused job "its first line only, zeros after the number".
 use Prim.Native.Nat.{ℕ, _+_, _*_}
 use mathlib.Core.Bool.{Bool, cond}
 use mathlib.Core.List.{List, _++_}
+use lib.Dec.{leb}
 use lib.ListN.{getD}
 use lib.Ieee.{Float, nan}
+use Rattle.kapitsa_joint.specs.declared.maxima.Maxima.{Maxima}
 use Rattle.listing.specs.Written.{pieces}
-use Rattle.listing.specs.Lines.{solveLine, gapLine, closeLine, rowLine, bodyLine}
+use Rattle.listing.specs.Lines.{solveLine, gapLine, noGapLine, carriedLine, closeLine, rowLine, bodyLine}
 
 -- a line for each row, with its accumulated multiplier, which is number 24 of its 27
 unfoldable pub rowLines : List Float → ℕ → List ℕ
@@ -19,10 +21,14 @@ bodyLines impulses bodies = pieces (λ b. bodyLine b (λ k. getD impulses (6 * b
 abbrev pub flagOf : Bool → ℕ
 flagOf flag = cond flag 1 0
 
+-- the measured gap, where there is a verdict: 0 or 1, and no refusal
+unfoldable pub measuredLine : ℕ → Maxima → List ℕ
+measuredLine verdict gap = cond (leb verdict 1) (gapLine gap) noGapLine
+
 -- of an accepted job
-unfoldable pub listingOf : ℕ → Bool → Float → Float → ℕ → ℕ → ℕ → List Float → List Float → List ℕ
-listingOf count flag linear angular verdict rows bodies numbers impulses =
-    solveLine 0 count (flagOf flag) ++ gapLine linear angular ++ closeLine verdict ++ rowLines numbers rows ++ bodyLines impulses bodies
+unfoldable pub listingOf : ℕ → Bool → Maxima → Maxima → ℕ → ℕ → ℕ → List Float → List Float → List ℕ
+listingOf count flag gap carried verdict rows bodies numbers impulses =
+    solveLine 0 count (flagOf flag) ++ measuredLine verdict gap ++ carriedLine carried ++ closeLine verdict ++ rowLines numbers rows ++ bodyLines impulses bodies
 
 -- of a refused one
 unfoldable pub refusedListing : ℕ → List ℕ

@@ -4,12 +4,13 @@ ghost use lib.ListN.{length, getD};
 ghost use lib.Ieee.{nan};
 ghost use Rattle.listing.specs.Written.{Room, Wrote, pieces};
 ghost use Rattle.listing.specs.Digits.{double};
-ghost use Rattle.listing.specs.Lines.{solveLine, gapLine, closeLine, rowLine, bodyLine};
-ghost use Rattle.listing.specs.Listing.{rowLines, bodyLines};
+ghost use Rattle.listing.specs.Lines.{solveLine, maximaWords, gapLine, noGapLine, carriedLine, closeLine, rowLine, bodyLine};
+ghost use Rattle.listing.specs.Listing.{measuredLine, rowLines, bodyLines};
 use crate::digits::put_double;
 use crate::digits::put_number;
 use crate::text::put_byte;
 use crate::text::put_text;
+use kapitsa_joint::Maxima;
 
 pub fn solve_line(out: &mut [u8], at: usize, refusal: u32, count: u32, flag: u32) -> usize
     requires { ⌜ Room (now out) at (solveLine refusal count flag) ⌝ }
@@ -22,14 +23,49 @@ pub fn solve_line(out: &mut [u8], at: usize, refusal: u32, count: u32, flag: u32
     put_byte(out, d, b'\n')
 }
 
-pub fn gap_line(out: &mut [u8], at: usize, linear: f64, angular: f64) -> usize
-    requires { ⌜ Room (now out) at (gapLine linear angular) ⌝ }
-    ensures { λ r. ⌜ Wrote (now (out .entry)) at (gapLine linear angular) (now (out .exit)) r ⌝ }
+fn put_maxima(out: &mut [u8], at: usize, m: Maxima) -> usize
+    requires { ⌜ Room (now out) at (maximaWords m) ⌝ }
+    ensures { λ r. ⌜ Wrote (now (out .entry)) at (maximaWords m) (now (out .exit)) r ⌝ }
+{
+    let a = put_double(out, at, m.linear);
+    put_double(out, a, m.angular)
+}
+
+pub fn gap_line(out: &mut [u8], at: usize, gap: Maxima) -> usize
+    requires { ⌜ Room (now out) at (gapLine gap) ⌝ }
+    ensures { λ r. ⌜ Wrote (now (out .entry)) at (gapLine gap) (now (out .exit)) r ⌝ }
 {
     let a = put_text(out, at, b"gap");
-    let b = put_double(out, a, linear);
-    let c = put_double(out, b, angular);
-    put_byte(out, c, b'\n')
+    let b = put_maxima(out, a, gap);
+    put_byte(out, b, b'\n')
+}
+
+pub fn no_gap_line(out: &mut [u8], at: usize) -> usize
+    requires { ⌜ Room (now out) at noGapLine ⌝ }
+    ensures { λ r. ⌜ Wrote (now (out .entry)) at noGapLine (now (out .exit)) r ⌝ }
+{
+    let a = put_text(out, at, b"gap");
+    let b = put_text(out, a, b" none");
+    put_byte(out, b, b'\n')
+}
+
+pub fn measured_line(out: &mut [u8], at: usize, verdict: u32, gap: Maxima) -> usize
+    requires { ⌜ Room (now out) at (measuredLine verdict gap) ⌝ }
+    ensures { λ r. ⌜ Wrote (now (out .entry)) at (measuredLine verdict gap) (now (out .exit)) r ⌝ }
+{
+    if verdict <= 1 {
+        return gap_line(out, at, gap);
+    }
+    no_gap_line(out, at)
+}
+
+pub fn carried_line(out: &mut [u8], at: usize, carried: Maxima) -> usize
+    requires { ⌜ Room (now out) at (carriedLine carried) ⌝ }
+    ensures { λ r. ⌜ Wrote (now (out .entry)) at (carriedLine carried) (now (out .exit)) r ⌝ }
+{
+    let a = put_text(out, at, b"carried");
+    let b = put_maxima(out, a, carried);
+    put_byte(out, b, b'\n')
 }
 
 pub fn close_line(out: &mut [u8], at: usize, verdict: u32) -> usize

@@ -4,18 +4,20 @@ ghost use lib.ListN.{length};
 ghost use Rattle.listing.specs.Written.{Room, Wrote};
 ghost use Rattle.listing.specs.Listing.{listingOf, refusedListing};
 use crate::lines::body_lines;
+use crate::lines::carried_line;
 use crate::lines::close_line;
-use crate::lines::gap_line;
+use crate::lines::measured_line;
 use crate::lines::row_lines;
 use crate::lines::solve_line;
+use kapitsa_joint::Maxima;
 
-// What the solve answered (count, flag, residual maxima), the verdict or refusal of the closing check, the rows after the solve and the impulses.
+// Count and flag, the gap that the closing check measured, the residuals that the solve carried, the verdict or refusal of the check, the rows after the solve and the impulses.
 // No listing of 128 rows and 64 bodies has more than 16,384 bytes.
 pub fn write_listing(
     count: u32,
     flag: bool,
-    linear: f64,
-    angular: f64,
+    gap: Maxima,
+    carried: Maxima,
     verdict: u32,
     rows: u32,
     bodies: u32,
@@ -23,12 +25,13 @@ pub fn write_listing(
     impulses: &[f64],
     out: &mut [u8],
 ) -> usize
-    requires { ⌜ (27 * rows ≤ length (now numbers)) × (6 * bodies ≤ length (now impulses)) × Room (now out) 0 (listingOf count flag linear angular verdict rows bodies (now numbers) (now impulses)) ⌝ }
-    ensures { λ r. ⌜ Wrote (now (out .entry)) 0 (listingOf count flag linear angular verdict rows bodies (now (numbers .entry)) (now (impulses .entry))) (now (out .exit)) r ⌝ }
+    requires { ⌜ (27 * rows ≤ length (now numbers)) × (6 * bodies ≤ length (now impulses)) × Room (now out) 0 (listingOf count flag gap carried verdict rows bodies (now numbers) (now impulses)) ⌝ }
+    ensures { λ r. ⌜ Wrote (now (out .entry)) 0 (listingOf count flag gap carried verdict rows bodies (now (numbers .entry)) (now (impulses .entry))) (now (out .exit)) r ⌝ }
 {
     let solve = solve_line(out, 0, 0, count, flag as u32);
-    let gap = gap_line(out, solve, linear, angular);
-    let close = close_line(out, gap, verdict);
+    let measured = measured_line(out, solve, verdict, gap);
+    let residual = carried_line(out, measured, carried);
+    let close = close_line(out, residual, verdict);
     let row = row_lines(out, close, numbers, rows);
     body_lines(out, row, impulses, bodies)
 }

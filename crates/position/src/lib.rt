@@ -8,7 +8,6 @@ pub use multiplier::add_multipliers;
 pub use multiplier::multipliers_finite;
 pub use prepare::Begun;
 pub use prepare::begin;
-pub use residual::Maxima;
 pub use residual::position_vector_converged;
 pub use residual::residual_maxima;
 pub use tolerance::gather_tolerances;

@@ -6,14 +6,9 @@ ghost use lib.Ieee.{nan, le};
 ghost use Rattle.binary64.specs.Order.{absolute};
 ghost use Rattle.kapitsa_joint.specs.Tolerance.{dimensionOf};
 ghost use Rattle.kapitsa_joint.specs.Table.{tolerancesIn};
-ghost use Rattle.position.specs.Residual.{meetsOf, raisedBy, maximaOf};
-use kapitsa_joint::RowDimension;
+ghost use Rattle.position.specs.Residual.{meetsOf, maximaOf};
+use kapitsa_joint::Maxima;
 use kapitsa_joint::dimension;
-
-pub struct Maxima {
-    pub linear: f64,
-    pub angular: f64,
-}
 
 fn row_converged(tolerances: &[f64], residual: &[f64], i: usize) -> bool
     requires { ⌜ (i + 1 ≤ length (now tolerances)) × (i + 1 ≤ length (now residual)) ⌝ }
@@ -36,21 +31,6 @@ pub fn position_vector_converged(tolerances: &[f64], residual: &[f64]) -> bool
     true
 }
 
-fn raised(maxima: Maxima, dimension: RowDimension, size: f64) -> Maxima
-    ensures { λ r. ⌜ r ≡ raisedBy dimension size maxima ⌝ }
-{
-    match dimension {
-        RowDimension::Linear => Maxima {
-            linear: binary64::max(maxima.linear, size),
-            angular: maxima.angular,
-        },
-        RowDimension::Angular => Maxima {
-            linear: maxima.linear,
-            angular: binary64::max(maxima.angular, size),
-        },
-    }
-}
-
 // position_pcg_result of pcg.rs: its two maxima.
 pub fn residual_maxima(words: &[u32], residual: &[f64]) -> Maxima
     requires { ⌜ 8 * length (now residual) ≤ length (now words) ⌝ }
@@ -62,11 +42,7 @@ pub fn residual_maxima(words: &[u32], residual: &[f64]) -> Maxima
     };
     let mut i = 0;
     while i < residual.len() {
-        maxima = raised(
-            maxima,
-            dimension(words[8 * i + 1]),
-            binary64::abs(residual[i]),
-        );
+        maxima = maxima.raised(dimension(words[8 * i + 1]), binary64::abs(residual[i]));
         i += 1;
     }
     maxima

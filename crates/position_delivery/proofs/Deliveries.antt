@@ -36,7 +36,7 @@ use Rattle.position_delivery.specs.declared.answer.PositionPcg.the-varia
 use Rattle.kapitsa_joint.specs.Tolerance.{dimensionOf}
 use Rattle.position.specs.Residual.{maximaOf}
 use Rattle.recurrence.specs.Step.{Iterate}
-use Rattle.position.specs.declared.residual.Maxima.{Maxima}
+use Rattle.kapitsa_joint.specs.declared.maxima.Maxima.{Maxima}
 
 -- ---- `accept`
 pub accepts : (flag : Bool) (count : ℕ) (words : List ℕ) (residual : List Float) (m : Maxima) → m ≡ maximaOf (λ i. dimensionOf (getD words (8 * i + 1) 0)) residual (length residual)

@@ -24,7 +24,7 @@ use Rattle.recurrence.specs.Step.{Iterate, Carried, advanceOf, firstFrom, renew
 use Rattle.position.specs.Problem.{Problem}
 use Rattle.position.specs.Prepare.{rowsJudged, diagonals, residuals}
 use Rattle.position.specs.Residual.{meetsOf, maximaOf}
-use Rattle.position.specs.declared.residual.Maxima.{Maxima}
+use Rattle.kapitsa_joint.specs.declared.maxima.Maxima.{Maxima}
 use Rattle.steps.specs.Method.{Recurrence, Method}
 
 -- the joint of each row

@@ -16,3 +16,4 @@ pub mod Verdict
 pub mod TimesOne
 pub mod BitsOrder
 pub mod BitsTell
+pub mod Larger

@@ -8,13 +8,14 @@ use Rattle.loops.proofs.Every.{every-iff, every-same}
 use Rattle.loops.proofs.Judge.{judge-going}
 use Rattle.binary64.specs.Order.{absolute}
 use Rattle.kapitsa_joint.specs.Row.{jacobianOf}
+use Rattle.kapitsa_joint.proofs.Largest.{maxima-same}
 use Rattle.kapitsa_joint.specs.declared.mass.SolverMass.{SolverMass}
 use Rattle.kapitsa_joint.specs.declared.row.RowJacobian.{RowJacobian}
 use Rattle.joint_refusals.specs.Refusals.{isValidOf, passes7}
 use Rattle.mass_operator.specs.System.{System, systemOf}
 use Rattle.check_range.specs.Closing.{Closing}
 use Rattle.check_range.specs.Range.{massInRange, rowInRange, tableInRange}
-use Rattle.check_measure.specs.Verdict.{sizeOfRow, sizeOfMass, sizesOf, valueOf, sizeOf, reach, closes}
+use Rattle.check_measure.specs.Verdict.{sizeOfRow, sizeOfMass, sizesOf, valueOf, sizeOf, reach, closes, largestReaches}
 use Rattle.check_refusals.specs.Judged.{tableTests, judgements}
 use Rattle.check_refusals.proofs.Judgement.{passed-7}
 use Rattle.check_answer.specs.Answer.{verdictOf, checkOf}
@@ -69,9 +70,17 @@ module _ (c d : Closing) (w : ClosingsAgree c d) where
         value-same (sizesOf (systemOf (c .table))) (λ i. sizeOfRow (jacobianOf (d .table .row i))) (λ b. sizeOfMass (d .table .mass b)) (sizes-agree (systemOf (c .table)) (λ i. jacobianOf (d .table .row i)) (d .table .mass) agree)
         (λ k. absolute (c .listed k)) (λ k. absolute (d .listed k)) (λ k h. ap absolute (w .listed k h))
 
+    reach-same : (i : ℕ) → i < c .table .rows → reach (with c d) i ≡ reach c i
+    unfolding reach
+    reach-same i h = rw (value-of-same i h, size-of-same i h, w .error i h)
+
     closes-same : closes (with c d) ≡ closes c
-    unfolding closes reach
-    closes-same = every-same _ _ (c .table .rows) (λ i h. rw (value-of-same i h, size-of-same i h, w .error i h, w .tolerance i h))
+    unfolding closes
+    closes-same = every-same _ _ (c .table .rows) (λ i h. rw (reach-same i h, w .tolerance i h))
+
+    largest-same : largestReaches (with c d) ≡ largestReaches c
+    unfolding largestReaches
+    largest-same = maxima-same _ _ _ _ (c .table .rows) (λ i h. rw (w .table .row i h .dimension)) reach-same
 
   all-pass : {fits : Bool} → judge (judgements fits c) ≡ going tt → (fits ≡ true) × AllPass (tableTests c)
   unfolding AllPass
@@ -81,7 +90,7 @@ module _ (c d : Closing) (w : ClosingsAgree c d) where
   unfolding checkOf verdictOf
   with-same fits =
       rw (fours (c .table) (d .table) (w .table), sixes (c .table) (d .table) (w .table), sevens (c .table) (d .table) (w .table), eighteens)
-      (on-same (judge (judgements fits c)) _ _ (λ e. rw (closes-same (seven-below (passed-7 c (all-pass e .1))))))
+      (on-same (judge (judgements fits c)) _ _ (λ e. let inside = seven-below (passed-7 c (all-pass e .1)) in rw (closes-same inside, largest-same inside)))
 
   counts-same : d ≡ with c d
   counts-same = λ i. record {

@@ -13,6 +13,7 @@ use Rattle.loops.specs.Tabulate.{tabulate}
 use Rattle.loops.specs.Cleared.{plusZero, zeros}
 use Rattle.kapitsa_joint.specs.Table.{Table}
 use Rattle.kapitsa_joint.specs.Impulse.{impulseOf}
+use Rattle.kapitsa_joint.specs.Maxima.{maximaBy}
 use Rattle.kapitsa_joint.specs.declared.row.ConstraintRow.{ConstraintRow}
 use Rattle.kapitsa_joint.specs.declared.row.RowJacobian.{RowJacobian}
 use Rattle.kapitsa_joint.specs.declared.mass.SolverMass.{SolverMass}
@@ -40,7 +41,7 @@ pub no-rows : (bodies : ℕ) (row : ℕ → ConstraintRow) (mass : ℕ → Solve
     → let t : Table = record { rows = 0; bodies = bodies; row = row; mass = mass } in passes25 shift ≡ true → passes26 tolerance ≡ true → passes6 t ≡ true
     → solve (methodOf true (shiftedProblem t (twoTolerances tolerance t) shift) mode) limit
     ≡ going ((true, 0, record { solution = []; residual = [] }), record { accumulated = []; impulses = zeros (6 * bodies); maxima = record { linear = plusZero; angular = plusZero } })
-unfolding solve openingOf judge test check on counting beginOf rowsJudged judged turns factorHere meetsOf every residuals tabulate passes4 passes5 finishOf maximaIn maximaOf
+unfolding solve openingOf judge test check on counting beginOf rowsJudged judged turns factorHere meetsOf every residuals tabulate passes4 passes5 finishOf maximaIn maximaOf maximaBy
 no-rows bodies row mass tolerance shift mode limit p q r = rw (p, q, r)
 
 -- ---- "If every |residual| ≤ its row's tolerance: accepted with count 0, before any factor is built": the answer has no mode in it, and no step

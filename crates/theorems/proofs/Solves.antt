@@ -28,6 +28,7 @@ use Rattle.preconditioner.specs.declared.mode.Mode.{Mode}
 use Rattle.recurrence.specs.Step.{Iterate, advanceOf}
 use Rattle.position.specs.Problem.{Problem}
 use Rattle.position.specs.Prepare.{rowDiagonal, diagonalTests, rowJudged, validJudged, diagonalsJudged, rowsJudged, preparedDiagonal, preparedResidual, diagonals, residuals}
+use Rattle.kapitsa_joint.proofs.Largest.{maxima-same}
 use Rattle.position.specs.Residual.{meetsOf, maximaOf}
 use Rattle.steps.specs.Alike.{Alike}
 use Rattle.steps.specs.Solve.{solve}
@@ -59,11 +60,6 @@ module _ (p : Problem) where
       go : (b : Bool) → check b (next (validJudged p) (λ _. diagonalsJudged p)) (judged (rowJudged p) (p .table .rows)) ≡ going tt → (i : ℕ) → i < p .table .rows → BodiesBelow (p .table) i
       go true e = let (_, q, _) = next-going (validJudged p) _ tt .0 e in valid-judged q
       go false e = by-rows e
-
-maxima-same : (f g : ℕ → RowDimension) (residual : List Float) (n : ℕ) → ((i : ℕ) → i < n → f i ≡ g i) → maximaOf f residual n ≡ maximaOf g residual n
-unfolding maximaOf
-maxima-same f g residual zero e = refl
-maxima-same f g residual (suc n) e = rw (maxima-same f g residual n (λ i h. e i (omega arith)), e n (omega arith))
 
 -- a row's diagonal by what is read of the row
 abbrev jacobianDiagonal : (ℕ → SolverMass) → RowJacobian → Float
@@ -136,8 +132,8 @@ module _ (mode : Mode) (p q : Problem) (w : ProblemsAgree mode p q) where
   kept-same = tabulate-same _ _ (p .table .rows) (w .accumulated)
 
   maxima-in-same : (v : Iterate) → maximaIn (with p q .table) v ≡ maximaIn (p .table) v
-  unfolding maximaIn
-  maxima-in-same v = maxima-same _ _ (v .residual) (p .table .rows) (λ i h. rw (w .table .row i h .dimension))
+  unfolding maximaIn maximaOf
+  maxima-in-same v = maxima-same _ _ _ _ (p .table .rows) (λ i h. rw (w .table .row i h .dimension)) (λ i h. refl)
 
   meets-same : (residual : List Float) → meetsOf (q .tolerance) residual (p .table .rows) ≡ meetsOf (p .tolerance) residual (p .table .rows)
   unfolding meetsOf

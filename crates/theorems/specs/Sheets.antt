@@ -12,6 +12,7 @@ use Rattle.kapitsa_joint.specs.Table.{Table}
 use Rattle.kapitsa_joint.specs.declared.row.ConstraintRow.{ConstraintRow}
 use Rattle.kapitsa_joint.specs.declared.mass.SolverMass.{SolverMass}
 use Rattle.kapitsa_joint.specs.declared.tolerance.JointTolerance.{JointTolerance}
+use Rattle.kapitsa_joint.specs.declared.maxima.Maxima.{Maxima}
 use Rattle.joint_refusals.specs.Tolerances.{twoTolerances}
 use Rattle.preconditioner.specs.declared.mode.Mode.{Mode}
 use Rattle.preconditioner.specs.declared.mode.Mode.the-variants as modes
@@ -111,6 +112,10 @@ workedOf t tolerance mode limit =
 abbrev pub checked : Float → Closing
 checked tolerance = closingOf p1 (λ i. ofBits binary64 0x3fd0000000000000) (alike tolerance)
 
+-- document 02, h: "On P1, `gap` begins with the bits of 17·2^-52 and its angular half is +0.0"
+abbrev pub p1Gap : Maxima
+p1Gap = record { linear = ofBits binary64 0x3cf1000000000000; angular = plusZero }
+
 -- ---- the table: what the definitions give, and what document 01 says
 pub data Entry : Type 0 where
   solved : Worked → Worked → Entry
@@ -132,9 +137,9 @@ sheets =
     solved (workedOf p1 thousandth modes.Diagonal 4)
     (going (record { flag = true; count = 1; solution = ofBits binary64 0x3fd0000000000000 ∷ []; multipliers = ofBits binary64 0x3fd0000000000000 ∷ []; residual = plusZero }))
     -- P2: "P1's check at tolerance 2^-47: closed, as E = 17·2^-52". P3: "at 2^-48: open"
-    ∷ (verdict (checkOf true (checked (ofBits binary64 0x3d00000000000000))) Closed
+    ∷ (verdict (checkOf true (checked (ofBits binary64 0x3d00000000000000))) (Closed p1Gap)
     ∷ (number (radius (checked (ofBits binary64 0x3d00000000000000)) 0) (ofBits binary64 0x3cf1000000000000)
-    ∷ (verdict (checkOf true (checked (ofBits binary64 0x3cf0000000000000))) Open
+    ∷ (verdict (checkOf true (checked (ofBits binary64 0x3cf0000000000000))) (Open p1Gap)
     -- P4: "limit 1, mode 0: count 1, flag 0, linear residual 0.5, solution 0.5 and 0"
     ∷ (solved (workedOf chain thousandth modes.Diagonal 1)
     (going (record { flag = false; count = 1; solution = ofBits binary64 0x3fe0000000000000 ∷ (plusZero ∷ []); multipliers = ofBits binary64 0x3fe0000000000000 ∷ (plusZero ∷ []); residual = ofBits binary64 0x3fe0000000000000 }))

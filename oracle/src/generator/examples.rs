@@ -20,7 +20,7 @@ pub fn push_x_row(job: &mut Job, a: u32, b: u32, error: f64) {
     job.set(row, ERROR, &[error]);
 }
 
-/// A job of document 01's table, and what document 01 says of it: lines of its listing.
+/// A job of document 01's table, and what documents 01 and 02 say of it: lines of its listing.
 pub struct Example {
     pub name: &'static str,
     pub job: Job,
@@ -38,8 +38,8 @@ pub fn examples() -> Vec<Example> {
     let example = |name, job, says| Example { name, job, says };
     vec![
         example("P1", p1.clone(), &P1_LISTING),
-        example("P2", at(two(-47)), &["solve 0 1 1", "close 1"]),
-        example("P3", at(two(-48)), &["solve 0 1 1", "close 0"]),
+        example("P2", at(two(-47)), &["solve 0 1 1", P1_GAP, "close 1"]),
+        example("P3", at(two(-48)), &["solve 0 1 1", P1_GAP, "close 0"]),
         example("P4", p4.clone(), &P4_LISTING),
         example("P4-limit-2", Job { limit: 2, ..p4 }, &["solve 0 2 1"]),
         example("P5", p5.clone(), &["solve 15 0 0"]),
@@ -50,9 +50,13 @@ pub fn examples() -> Vec<Example> {
     ]
 }
 
-const P1_LISTING: [&str; 6] = [
+/// 17·2^-52, the E of P1's row, whose measured r is 0.
+const P1_GAP: &str = "gap 3cf1000000000000 0000000000000000";
+
+const P1_LISTING: [&str; 7] = [
     "solve 0 1 1",
-    "gap 0000000000000000 0000000000000000",
+    P1_GAP,
+    "carried 0000000000000000 0000000000000000",
     "close 1",
     "row 0 3fd0000000000000",
     "body 0 3fd0000000000000 0000000000000000 0000000000000000 0000000000000000 0000000000000000 0000000000000000",
@@ -61,7 +65,7 @@ const P1_LISTING: [&str; 6] = [
 
 const P4_LISTING: [&str; 4] = [
     "solve 0 1 0",
-    "gap 3fe0000000000000 0000000000000000",
+    "carried 3fe0000000000000 0000000000000000",
     "row 0 3fe0000000000000",
     "row 1 0000000000000000",
 ];

@@ -1,4 +1,4 @@
-//! The closing check: measured r, radius E, verdict.
+//! The closing check: measured r, radius E, verdict and gap.
 
 use super::algebra::{Mass, Side};
 use super::operator;
@@ -6,8 +6,15 @@ use super::table::{Row, Table, counts_fit, tolerances_fit, words_fit};
 use super::{Judged, all_finite, pass};
 use crate::job::*;
 
-/// true where closed, or refusal 3, 4, 26, 6, 7 or 18. The job's limit and mode are not read.
-pub fn closing_check(job: &Job, list: &[f64]) -> Judged<bool> {
+/// What a check gives where it is not refused.
+pub struct Checked {
+    pub closed: bool,
+    /// For each dimension the largest rounded |r| + E of its rows, from +0.0 upward.
+    pub gap: [f64; 2],
+}
+
+/// Verdict and gap, or refusal 3, 4, 26, 6, 7 or 18. The job's limit and mode are not read.
+pub fn closing_check(job: &Job, list: &[f64]) -> Judged<Checked> {
     pass(3, counts_fit(job) && list.len() == job.rows as usize)?;
     pass(4, words_fit(job))?;
     pass(26, tolerances_fit(job))?;
@@ -16,7 +23,23 @@ pub fn closing_check(job: &Job, list: &[f64]) -> Judged<bool> {
     pass(7, table.rows.iter().all(|row| row.valid))?;
     pass(18, sized(job, list))?;
     let measured = measure(job, list);
-    Ok(measured.iter().enumerate().all(|(row, found)| found.reach() <= table.tolerance(row)))
+    let within = |(row, found): (usize, &Measured)| found.reach() <= table.tolerance(row);
+    let closed = measured.iter().enumerate().all(within);
+    let mut gap = [0.0_f64; 2];
+    for (row, found) in table.rows.iter().zip(&measured) {
+        gap[row.dimension] = gap[row.dimension].max(found.reach());
+    }
+    Ok(Checked { closed, gap })
+}
+
+/// As the C functions give it: refusal, 1 where closed, and the bits of both gaps.
+pub fn check_words(answer: &Judged<Checked>) -> [u64; 4] {
+    match answer {
+        Err(number) => [u64::from(*number), 0, 0, 0],
+        Ok(Checked { closed, gap: [linear, angular] }) => {
+            [0, u64::from(*closed), linear.to_bits(), angular.to_bits()]
+        }
+    }
 }
 
 /// What the check finds of a row.

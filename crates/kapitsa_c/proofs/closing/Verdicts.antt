@@ -5,10 +5,14 @@ use mathlib.Core.Bool.{Bool, true, false, not, _&&_}
 use mathlib.Core.List.{List, [], _∷_}
 use mathlib.Core.Logic.{_↔_}
 use native.Mathlib.Omega.{arith}
+use lib.Dec.{eqb}
 use lib.ListN.{length, set}
+use lib.Ieee.{Float}
 use borrow.Author.Tests.{not-true, not-false, eqb-true}
 use Rattle.loops.specs.Run.{check}
+use Rattle.loops.proofs.Both.{both as both-true}
 use Rattle.loops.proofs.Ranges.{Listed}
+use Rattle.kapitsa_joint.specs.declared.maxima.Maxima.{Maxima}
 use Rattle.check_range.specs.Closing.{Closing}
 use Rattle.check_answer.specs.Answer.{checkOf}
 use Rattle.check_answer.specs.declared.CheckAnswer.{CheckAnswer}
@@ -17,55 +21,52 @@ use Rattle.check_answer.proofs.Meaning.{refusal-above}
 use Rattle.check_work.specs.Work.{CheckMemory}
 use Rattle.closing_check.specs.Checked.{Checked}
 use Rattle.closing_check.proofs.Entry.{checked-3}
-use Rattle.kapitsa_c.specs.Closing.{VerdictTold, verdictTold, verdictFits, CheckTold}
+use Rattle.kapitsa_c.specs.Closing.{VerdictTold, both, verdictTold, verdictFits, CheckTold}
 
 -- ---- the promise
 -- 0 is told for a verdict alone
-zero-is : (verdict : List ℕ) (a : CheckAnswer) → ((n : ℕ) → a ≡ Refused n → 1 < n) → (verdictTold a verdict .number ≡ 0) ↔ ((n : ℕ) → a ≡ Refused n → ⊥)
+zero-is : (verdict : List ℕ) (gap : List Float) (a : CheckAnswer) → ((n : ℕ) → a ≡ Refused n → 1 < n) → (verdictTold a verdict gap .number ≡ 0) ↔ ((n : ℕ) → a ≡ Refused n → ⊥)
 unfolding verdictTold
-zero-is verdict Closed above = (λ _ n h. let z : _≡_ {A = ℕ} 0 1 = cc in omega arith, λ _. refl)
-zero-is verdict Open above = (λ _ n h. let z : _≡_ {A = ℕ} 0 1 = cc in omega arith, λ _. refl)
-zero-is verdict (Refused k) above = (λ e n h. let l = above k refl in omega arith, λ h. absurd (h k refl))
+zero-is verdict gap (Closed m) above = (λ _ n h. let z : _≡_ {A = ℕ} 0 1 = cc in omega arith, λ _. refl)
+zero-is verdict gap (Open m) above = (λ _ n h. let z : _≡_ {A = ℕ} 0 1 = cc in omega arith, λ _. refl)
+zero-is verdict gap (Refused k) above = (λ e n h. let l = above k refl in omega arith, λ h. absurd (h k refl))
 
-module _ (c : Closing) (above : Listed (λ n. 1 < n) (c .toleranceTests)) (verdict : List ℕ) (before : CheckMemory) where
-  told-so : {fits : Bool} {told : VerdictTold} {a : CheckAnswer} {after : CheckMemory} → Checked fits c a before after → told ≡ verdictTold a verdict → CheckTold fits c verdict told before after
+module _ (c : Closing) (above : Listed (λ n. 1 < n) (c .toleranceTests)) (verdict : List ℕ) (gap : List Float) (before : CheckMemory) where
+  told-so : {fits : Bool} {told : VerdictTold} {a : CheckAnswer} {after : CheckMemory} → Checked fits c a before after → told ≡ verdictTold a verdict gap → CheckTold fits c verdict gap told before after
   told-so {fits} k h =
       let means = rw (k .answered) at (k .means) in
-      rw (h, k .answered) (record { answered = refl; means = means; zero = zero-is verdict (checkOf fits c) (λ n e. refusal-above fits c above n (means .refused n .0 e)); memory = k .memory })
+      rw (h, k .answered) (record { answered = refl; means = means; zero = zero-is verdict gap (checkOf fits c) (λ n e. refusal-above fits c above n (means .refused n .0 e)); memory = k .memory })
 
-  -- refusal 3 of the verdict's slice, then of the others
+  -- refusal 3 of the slices of verdict and gap, then of the others
   module _ {r v : Bool} (p : Bool) (e : r ≡ v) where
-    pub untold : not r ≡ true → CheckTold (v && p) c verdict (record { number = 3; verdict = verdict }) before before
+    pub untold : not r ≡ true → CheckTold (v && p) c verdict gap (record { number = 3; verdict = verdict; gap = gap }) before before
     unfolding verdictTold
     untold h = told-so (checked-3 c before (sym (ap (λ (b : Bool). b && p) (sym e ∙ not-true r h))) refl) refl
 
-    pub told-on : {told : VerdictTold} {a : CheckAnswer} {after : CheckMemory} → not r ≡ false → Checked p c a before after → told ≡ verdictTold a verdict → CheckTold (v && p) c verdict told before after
+    pub told-on : {told : VerdictTold} {a : CheckAnswer} {after : CheckMemory} → not r ≡ false → Checked p c a before after → told ≡ verdictTold a verdict gap → CheckTold (v && p) c verdict gap told before after
     told-on h k w = rw (sym e ∙ not-false r h) (told-so k w)
 
--- 26 is not the number of a verdict
-pub two-above : (b : Bool) → Listed (λ n. 1 < n) ((26, b) ∷ [])
-unfolding Listed
-two-above b = (omega arith, tt)
-
--- ---- the slice of the verdict
-pub verdict-length : (verdict : List ℕ) {r : Bool} → r ≡ verdictFits verdict → not r ≡ false → length verdict ≡ 1
+-- ---- the slices of verdict and gap
+pub told-lengths : (verdict : List ℕ) (gap : List Float) {r : Bool} → r ≡ verdictFits verdict gap → not r ≡ false → (length verdict ≡ 1) × (length gap ≡ 2)
 unfolding verdictFits
-verdict-length verdict {r} e h = eqb-true (length verdict) 1 (sym e ∙ not-false r h)
+told-lengths verdict gap {r} e h =
+    let (p, q) = both-true (eqb (length verdict) 1) (eqb (length gap) 2) (sym e ∙ not-false r h) in
+    (eqb-true (length verdict) 1 p, eqb-true (length gap) 2 q)
 
 set-only : (l : List ℕ) (w : ℕ) → length l ≡ 1 → set l 0 w ≡ w ∷ []
 set-only [] w e = absurd (omega arith)
 set-only (x ∷ []) w e = refl
 set-only (x ∷ y ∷ l) w e = absurd (omega arith)
 
-module _ {a : CheckAnswer} (verdict : List ℕ) where
-  pub told-closed : a ≡ Closed → length verdict ≡ 1 → record { number = 0; verdict = set verdict 0 1 } ≡ verdictTold a verdict
+module _ {a : CheckAnswer} {m : Maxima} (verdict : List ℕ) (gap : List Float) {gap′ : List Float} where
+  pub told-closed : a ≡ Closed m → length verdict ≡ 1 → gap′ ≡ both m → record { number = 0; verdict = set verdict 0 1; gap = gap′ } ≡ verdictTold a verdict gap
   unfolding verdictTold
-  told-closed e h = rw (e, set-only verdict 1 h)
+  told-closed e h g = rw (e, set-only verdict 1 h, g)
 
-  pub told-open : a ≡ Open → length verdict ≡ 1 → record { number = 0; verdict = set verdict 0 0 } ≡ verdictTold a verdict
+  pub told-open : a ≡ Open m → length verdict ≡ 1 → gap′ ≡ both m → record { number = 0; verdict = set verdict 0 0; gap = gap′ } ≡ verdictTold a verdict gap
   unfolding verdictTold
-  told-open e h = rw (e, set-only verdict 0 h)
+  told-open e h g = rw (e, set-only verdict 0 h, g)
 
-  pub told-refused : {number : ℕ} → a ≡ Refused number → record { number = number; verdict = verdict } ≡ verdictTold a verdict
-  unfolding verdictTold
-  told-refused e = rw e
+pub told-refused : {a : CheckAnswer} (verdict : List ℕ) (gap : List Float) {number : ℕ} → a ≡ Refused number → record { number = number; verdict = verdict; gap = gap } ≡ verdictTold a verdict gap
+unfolding verdictTold
+told-refused verdict gap e = rw e

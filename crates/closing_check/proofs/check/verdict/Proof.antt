@@ -1,6 +1,6 @@
 -- `closing_check::check::verdict` meets its contract. Assumes nothing.
-use mathlib.Core.Path.{sym}
-use Rattle.loops.proofs.Inverse.{check-true, check-false}
+use borrow.Author.Needs.{needs}
+use Rattle.closing_check.proofs.Measured.{all-within, one-misses}
 use Rattle.closing_check.proofs.check.verdict.Statement.{statement}
 use Rattle.closing_check.proofs.check.verdict.Tie as tie
 
@@ -8,5 +8,7 @@ pub verdict-spec : {M : Type 1} → statement M
 verdict-spec =
     tie.close
     (tie.spec
-    (λ c. sym (check-true _ _ _ (c .if1 .taken)))  -- returns
-    (λ c. sym (check-false _ _ _ (c .if1 .left))))  -- returns-2
+    (λ c κs. search needs)  -- largest-reaches-requires
+    (λ c κs. search needs)  -- rows-close-requires
+    (λ c. all-within _ _ _ _ ((c .before .rows-close) .ensures) ((c .before .before .largest-reaches) .ensures) (c .if1 .taken))  -- returns
+    (λ c. one-misses _ _ _ _ ((c .before .rows-close) .ensures) ((c .before .before .largest-reaches) .ensures) (c .if1 .left)))  -- returns-2

@@ -10,5 +10,7 @@ compared-spec =
     tie.close
     (tie.spec
     (λ c κs. search needs)  -- number-requires
+    (λ c κs. search needs)  -- gap-requires
     (λ c. search needs)  -- cast-result
-    (λ c. rw (c .number .ensures)))  -- returns
+    (λ c κs. search needs)  -- same-gap-requires
+    (λ c. rw (c .same-gap .ensures, c .before .gap .ensures, c .before .before .number .ensures)))  -- returns

@@ -13,6 +13,8 @@ read-in-spec =
     (λ c κs. search needs)  -- double-requires
     (λ c κs. search needs)  -- double-requires-2
     (λ c κs. search needs)  -- word-requires
+    (λ c κs. search needs)  -- word-requires-2
+    (λ c κs. search needs)  -- word-requires-3
     (λ c κs. search needs)  -- read-doubles-requires
     (λ c. search needs)  -- mul-read-halves
     (λ c. search needs)  -- add-read-halves
@@ -27,4 +29,18 @@ read-in-spec =
     (λ c. (c .before .before .before .before .before .before .before .before .before .before .before .before .before .before .before .words) .given)  -- same-length-2
     (λ c. (c .before .before .before .before .before .before .before .before .before .before .before .masses) .given)  -- same-length-3
     (λ c. (c .before .before .before .before .before .before .before .multipliers) .given)  -- same-length-4
-    (λ c. seen-in _ _ _ ((c .before .before .before .before .before .before .before .before .before .before .before .before .before .before .before .before .before .before .before .before .before .before .before .before .before .before .before .before .before .before) .pre .1 .0) ((c .before .before .before .before .before .before .before .before .before .before .before .before .before .before .before .before .before .before .before .before .before .before .before .before .before .before .before .before .before .before) .pre .1 .1) ((c .before .before .before .before .before .before .before .before .before .before .before .before .before .before .before .before .before .before .before .before .before .before .before .before .before .before .before .before .before .before) .pre .1 .2) ((c .before .before .before .before .before .before .before .before .before .before .before .before .before .before .before .before .before .before .before .before .before .before .before .before .before .before .before .before .before .before) .pre .1 .3) ((c .before .before .before .before .before .before .before .before .before .before .before .before .before .before .before .before .before .before .before .before .read-doubles) .ensures) ((c .before .before .before .before .before .before .before .before .before .before .before .before .before .before .before .before .read-halves) .ensures) ((c .before .before .before .before .before .before .before .before .before .before .before .before .read-doubles2) .ensures) ((c .before .before .before .before .before .before .before .before .read-doubles3) .ensures) ((c .before .before .before .before .before .before .before .before .before .before .before .before .before .before .before .before .before .before .before .before .before .before .before .before .double) .ensures) ((c .before .before .before .before .before .before .before .before .before .before .before .before .before .before .before .before .before .before .before .before .before .before .before .double2) .ensures) ((c .before .checked) .ensures .0) ((c .before .before .before .before .before .before .before .before .before .before .before .before .before .before .before .before .before .before .before .before .before .before .word) .ensures) ((c .compared) .ensures)))  -- returns
+    (λ c.
+    let multipliers = c .before .before .before .before .before .before .before .before in
+    let masses = multipliers .before .before .before .before in
+    let words = masses .before .before .before .before in
+    let numbers = words .before .before .before .before in
+    let angular = numbers .before .before in
+    let linear = angular .before in
+    let recorded = linear .before in
+    let second = recorded .before in
+    let first = second .before in
+    let long = first .before .before .before .before .before .before .pre .1 in
+    seen-in _ _ _ (long .0) (long .1) (long .2) (long .3)
+    (numbers .read-doubles .ensures) (words .read-halves .ensures) (masses .read-doubles2 .ensures) (multipliers .read-doubles3 .ensures)
+    (first .double .ensures) (second .double2 .ensures) (c .before .checked .ensures .0)
+    (recorded .word .ensures) (linear .word2 .ensures) (angular .word3 .ensures) (c .compared .ensures)))  -- returns

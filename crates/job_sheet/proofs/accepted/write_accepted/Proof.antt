@@ -11,8 +11,20 @@ pub write-accepted-spec : {M : Type 1} → statement M
 write-accepted-spec =
     tie.close
     (tie.spec
-    (λ c κs. ((c .before .before .before .before .before .before) .pre .0 .few-rows, (c .before .before .before .before .before .before) .pre .0 .few-bodies))  -- checked-small-requires
+    (λ c κs. let room = c .before .before .before .before .before .before .pre .0 in (room .few-rows, room .few-bodies))  -- checked-small-requires
+    (λ c κs. search needs)  -- gap-requires
     (λ c κs. search needs)  -- number-requires
-    (λ c κs. (omega (arith, (c .before .before .before .before .before .before .before .before .before) .pre .0 .numbers-long), omega (arith, (c .before .before .before .before .before .before .before .before .before) .pre .0 .impulses-long), listing-room _ _ _ _ _ _ _ _ _ _ (search needs) (search needs) ((c .before .before .before .before .before .before .before .before .before) .pre .0 .few-rows) ((c .before .before .before .before .before .before .before .before .before) .pre .0 .few-bodies) ((c .before .before .before .before .before .before .before .before .before) .pre .1)))  -- write-listing-requires
+    (λ c κs.
+    let start = c .before .before .before .before .before .before .before .before .before .before in
+    let room = start .pre .0 in
+    let text = listing-room _ _ _ _ _ _ _ _ _ _ (search needs) (search needs) (room .few-rows) (room .few-bodies) (start .pre .1) in
+    (omega (arith, room .numbers-long), omega (arith, room .impulses-long), text))  -- write-listing-requires
     (λ c. (c .before .out) .given)  -- same-length
-    (λ c. wrote-as (printed-is ((c .before .before .before .before .before .before .before .before .before .before .before .before) .args .trailer) ((c .before .before .before .before .before .before .before .before .before .before .before .before) .args .result) ((c .before .before .before .before .before .before .before .before .before .before .before .before) .args .numbers .now) ((c .before .before .before .before .before .before .before .before .before .before .before .before) .args .words .now) ((c .before .before .before .before .before .before .before .before .before .before .before .before) .args .masses .now) ((c .before .before .before .before .before .before .before .before .before .before .before .before) .args .solution .now) ((c .before .before .before .before .before .before .before .before .before .before .before .before) .args .impulses .now) ((c .before .before .before .before .before .before .before .before .before .before .before .before) .pre .0) ((c .before .before .before .before .before .checked-small) .ensures .0) ((c .before .before .before .before .number) .ensures)) ((c .before .before .write-listing) .ensures)))  -- returns
+    (λ c.
+    let told = c .before .before .before .before in
+    let start = told .before .before .before .before .before .before .before .before .before in
+    let a = start .args in
+    let answered = told .before .before .checked-small .ensures .0 in
+    let printed = printed-is (a .trailer) (a .result) (a .numbers .now) (a .words .now) (a .masses .now) (a .solution .now) (a .impulses .now)
+    (start .pre .0) answered (told .before .gap .ensures) (told .number .ensures) in
+    wrote-as printed (c .before .before .write-listing .ensures)))  -- returns

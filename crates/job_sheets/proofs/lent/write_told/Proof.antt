@@ -19,11 +19,14 @@ write-told-spec =
     (λ c. search needs)  -- same-length-2
     (λ c. search needs)  -- returns
     (λ c. search needs)  -- slice-aggregate-verdict
+    (λ c. search needs)  -- slice-aggregate-verdict-2
     (λ c κs. search needs)  -- verdict-requires
     (λ c. search needs)  -- array-read-write-accepted
     (λ c. search needs)  -- array-read-write-accepted-2
-    (λ c. search needs)  -- array-read-write-accepted-3
-    (λ c. search needs)  -- array-read-write-accepted-4
+    (λ c. search needs)  -- array-read-t40
+    (λ c. search needs)  -- array-read-t43
+    (λ c. search needs)  -- array-read-t47
+    (λ c. search needs)  -- array-read-t50
     (λ c. search needs)  -- slice-aggregate-write-accepted
     (λ c κs. (omega arith, omega arith, omega arith))  -- write-accepted-requires
     (λ c. search needs)  -- same-length-3

@@ -12,9 +12,21 @@ gap-line-spec =
     tie.close
     (tie.spec
     (λ c. search loops)  -- slice-aggregate-put-text
-    (λ c κs. room-as gap-name (room-first _ (room-first _ (room-first _ ((c .before .before .before) .pre)))))  -- put-text-requires
-    (λ c κs. room-rest (room-first _ (room-first _ ((c .before .before .before .before .before .before .before) .pre))) (wrote-as gap-name ((c .before .before .before .put-text) .ensures)))  -- put-double-requires
-    (λ c κs. room-rest (room-first _ ((c .before .before .before .before .before .before .before .before .before .before .before) .pre)) (wrote-join (wrote-as gap-name ((c .before .before .before .before .before .before .before .put-text) .ensures)) ((c .before .before .before .put-double) .ensures)))  -- put-double-requires-2
-    (λ c κs. room-rest ((c .before .before .before .before .before .before .before .before .before .before .before .before .before .before .before) .pre) (wrote-join (wrote-join (wrote-as gap-name ((c .before .before .before .before .before .before .before .before .before .before .before .put-text) .ensures)) ((c .before .before .before .before .before .before .before .put-double) .ensures)) ((c .before .before .before .put-double2) .ensures)))  -- put-byte-requires
-    (λ c. length-wrote (wrote-join (wrote-join (wrote-join (wrote-as gap-name ((c .before .before .before .before .before .before .before .before .before .before .before .before .before .before .put-text) .ensures)) ((c .before .before .before .before .before .before .before .before .before .before .put-double) .ensures)) ((c .before .before .before .before .before .before .put-double2) .ensures)) ((c .before .before .put-byte) .ensures)))  -- same-length
-    (λ c. wrote-join (wrote-join (wrote-join (wrote-as gap-name ((c .before .before .before .before .before .before .before .before .before .before .before .before .before .before .put-text) .ensures)) ((c .before .before .before .before .before .before .before .before .before .before .put-double) .ensures)) ((c .before .before .before .before .before .before .put-double2) .ensures)) ((c .before .before .put-byte) .ensures)))  -- returns
+    (λ c κs. room-as gap-name (room-first _ (room-first _ ((c .before .before .before) .pre))))  -- put-text-requires
+    (λ c κs.
+    let name = c .before .before .before in
+    room-rest (room-first _ ((name .before .before .before .before) .pre)) (wrote-as gap-name (name .put-text .ensures)))  -- put-maxima-requires
+    (λ c κs.
+    let words = c .before .before .before in
+    let name = words .before .before .before .before in
+    room-rest ((name .before .before .before .before) .pre) (wrote-join (wrote-as gap-name (name .put-text .ensures)) (words .put-maxima .ensures)))  -- put-byte-requires
+    (λ c.
+    let end = c .before .before in
+    let words = end .before .before .before .before in
+    let name = words .before .before .before .before in
+    length-wrote (wrote-join (wrote-join (wrote-as gap-name (name .put-text .ensures)) (words .put-maxima .ensures)) (end .put-byte .ensures)))  -- same-length
+    (λ c.
+    let end = c .before .before in
+    let words = end .before .before .before .before in
+    let name = words .before .before .before .before in
+    wrote-join (wrote-join (wrote-as gap-name (name .put-text .ensures)) (words .put-maxima .ensures)) (end .put-byte .ensures)))  -- returns

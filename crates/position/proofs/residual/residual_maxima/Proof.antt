@@ -1,14 +1,17 @@
 -- `position::residual::residual_maxima` meets its contract: maxima are those of the rows below i. Assumes nothing.
 use Prim.Native.Nat.{_*_, _+_, _-_}
 use lib.ListN.{getD, length}
+use lib.Ieee.{nan}
 use borrow.Author.Needs.{needs}
 use Rattle.kapitsa_joint.specs.Tolerance.{dimensionOf}
-use Rattle.position.proofs.Largest.{Largest, largest-end, largest-more, largest-none}
+use Rattle.binary64.specs.Order.{absolute}
+use Rattle.kapitsa_joint.proofs.Largest.{Largest, largest-end, largest-more, largest-none}
+use Rattle.position.specs.Residual.{maximaOf}
 use Rattle.position.proofs.residual.residual_maxima.Statement.{statement}
 use Rattle.position.proofs.residual.residual_maxima.Tie as tie
 
 abbrev Inv-loop : tie.InvT-loop
-Inv-loop words residual maxima₀ i₀ maxima i = Largest (λ k. dimensionOf (getD words (8 * k + 1) 0)) residual (length residual) i maxima
+Inv-loop words residual maxima₀ i₀ maxima i = Largest (λ k. dimensionOf (getD words (8 * k + 1) 0)) (λ k. absolute (getD residual k nan)) (length residual) i maxima
 
 abbrev μ-loop : tie.MeasureT-loop
 μ-loop words residual maxima₀ i₀ maxima i = length residual - i
@@ -16,6 +19,7 @@ abbrev μ-loop : tie.MeasureT-loop
 ruleset known = (largest-none, largest-more, largest-end, needs)
 
 pub residual-maxima-spec : {M : Type 1} → statement M
+unfolding maximaOf
 residual-maxima-spec =
     tie.close
     (tie.spec Inv-loop μ-loop

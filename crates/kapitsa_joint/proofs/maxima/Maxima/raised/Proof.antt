@@ -1,8 +1,8 @@
--- `position::residual::raised` meets its contract. Assumes nothing.
+-- `kapitsa_joint::maxima::Maxima::raised` meets its contract. Assumes nothing.
 use borrow.Author.Needs.{needs}
-use Rattle.position.proofs.Largest.{raised-angular, raised-linear}
-use Rattle.position.proofs.residual.raised.Statement.{statement}
-use Rattle.position.proofs.residual.raised.Tie as tie
+use Rattle.kapitsa_joint.proofs.Largest.{raised-angular, raised-linear}
+use Rattle.kapitsa_joint.proofs.maxima.Maxima.raised.Statement.{statement}
+use Rattle.kapitsa_joint.proofs.maxima.Maxima.raised.Tie as tie
 
 pub raised-spec : {M : Type 1} → statement M
 raised-spec =
