@@ -10,7 +10,7 @@ import os
 import re
 
 ENTRIES = [
-    ("The solve", "pcg/src/solve.rt"),
+    ("The solve", "pcg/src/prepared.rt"),
     ("The closing check", "closing_check/src/check.rt"),
 ]
 SIGNATURE = re.compile(r"^(\s*)(?:unfoldable |abbrev )?(?:pub )?([^\s:(){}]+) : ")
@@ -68,10 +68,10 @@ def modules():
 
 
 def used(path):
-    """What the contract of a file's public function uses."""
+    """What the contract of the entry uses: of the file's last public function."""
     text = open(f"crates/{path}", encoding="utf-8").read()
     module = Module(text)
-    public = set(NAME.findall(text[text.index("pub fn"):]))
+    public = set(NAME.findall(text[text.rindex("pub fn"):]))
     return [at for name, at in module.imports.items() if name in public]
 
 

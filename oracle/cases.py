@@ -29,7 +29,7 @@ import sys
 HOME = pathlib.Path(__file__).resolve().parent
 
 # The requests of document 02 that are in place. A case is left out while it needs another.
-LANDED = {"f", "h", "j"}
+LANDED = {"f", "h", "j", "k"}
 
 # The request that brings a kind of case.
 BROUGHT_BY = {"groups": "g", "margins": "m", "write": "e", "convert": "e", "same": "e", "sequence": "l"}
@@ -40,6 +40,7 @@ TRAILER_BYTES = 48
 
 # Fills lent outputs beforehand: what stays as it was shows. The bits of a NaN with a payload.
 UNTOUCHED = 0x7FF800005EED5EED
+UNTOUCHED_WORD = 0x5EED5EED
 
 
 def bytes_of(text):
@@ -78,6 +79,7 @@ class Job:
         trailer = trailer_of(container)
         self.rows, self.bodies, self.limit, self.mode = trailer[:4]
         self.tolerances = [trailer.linear, trailer.angular]
+        self.tolerance_bits = struct.unpack("<2Q", container[-24:-8])
         mass_bytes = 104 if trailer.layout == 1 else 80
 
         def records(offset, count, size):
@@ -104,6 +106,10 @@ def bits(memory):
 
 def outputs(length):
     return lent(ctypes.c_double, struct.pack("<Q", UNTOUCHED) * length)
+
+
+def word_outputs(length):
+    return lent(ctypes.c_uint32, struct.pack("<I", UNTOUCHED_WORD) * length)
 
 
 class Library:
@@ -134,40 +140,50 @@ class Library:
         numbers = lent(ctypes.c_double, job.numbers)
         words, masses = lent(ctypes.c_uint32, job.words), lent(ctypes.c_double, job.masses)
         solution, impulses = outputs(min(job.rows, 600)), outputs(6 * min(job.bodies, 600))
+        rule_numbers = word_outputs(min(job.rows, 600))
         answer = (ctypes.c_uint64 * 5)(*[UNTOUCHED] * 5)
         self.call(
-            "oracle_solve_position", numbers, words, masses, *job.tolerances,
-            job.rows, job.bodies, job.limit, job.mode, case.shift, solution, impulses, answer,
+            "oracle_solve_position", numbers, words, masses, *case.lent_rules(), job.rows,
+            job.bodies, job.limit, job.mode, case.shift, solution, impulses, rule_numbers, answer,
         )  # fmt: skip
         before = bits(lent(ctypes.c_double, job.numbers))
         if expect["refusal"]:
             wanted = [expect["refusal"], 0, 0, 0, 0]
             wanted_solution, wanted_impulses = [UNTOUCHED] * len(solution), [UNTOUCHED] * len(impulses)
+            wanted_rules = [UNTOUCHED_WORD] * len(rule_numbers)
         else:
             wanted = [0, expect["count"], expect["flag"], *bits_of(expect["maxima"])]
             wanted_solution, wanted_impulses = bits_of(expect["solution"]), bits_of(expect["impulses"])
+            wanted_rules = expect["rules"]
             before[MULTIPLIER::ROW_NUMBERS] = bits_of(expect["multipliers"])
         return self.work() + different(
             ("answer", list(answer), wanted),
             ("solution", bits(solution), wanted_solution),
             ("multipliers or row numbers", bits(numbers), before),
             ("impulses", bits(impulses), wanted_impulses),
+            ("rule numbers", list(rule_numbers), wanted_rules),
         )
 
     def check(self, case):
         job, expect = case.job, case.expect
         numbers, masses = lent(ctypes.c_double, job.numbers), lent(ctypes.c_double, job.masses)
         words = lent(ctypes.c_uint32, job.words)
+        rule_numbers = word_outputs(min(job.rows, 600))
         answer = (ctypes.c_uint64 * 4)(*[UNTOUCHED] * 4)
         self.call(
-            "oracle_closing_check", numbers, words, masses, *job.tolerances,
-            job.rows, job.bodies, lent(ctypes.c_double, case.list), answer,
+            "oracle_closing_check", numbers, words, masses, *case.lent_rules(), job.rows,
+            job.bodies, lent(ctypes.c_double, case.list), rule_numbers, answer,
         )  # fmt: skip
         if expect["refusal"]:
             wanted = [expect["refusal"], 0, 0, 0]
+            wanted_rules = [UNTOUCHED_WORD] * len(rule_numbers)
         else:
             wanted = [0, expect["closed"], *bits_of(expect["gap"])]
-        return self.work() + different(("refusal, verdict and gap", list(answer), wanted))
+            wanted_rules = [rule for row in case.rules_of_rows() for rule in row]
+        return self.work() + different(
+            ("refusal, verdict and gap", list(answer), wanted),
+            ("rule numbers", list(rule_numbers), wanted_rules),
+        )
 
 
 class Program:
@@ -206,7 +222,27 @@ class Case:
         self.file = bytes_of(given["file"]) if "file" in given else None
         self.list = b"".join(struct.pack("<Q", one) for one in bits_of(given.get("list", "")))
         self.shift = double(bits_of(given["shift"])[0]) if "shift" in given else 0.0
+        self.rules = [(*words, bits_of(tolerance)[0]) for *words, tolerance in given.get("rules", [])]
         self.has_rules, self.has_shift = "rules" in given, "shift" in given
+        if self.job and not self.has_rules:
+            linear, angular = self.job.tolerance_bits
+            self.rules = [(0, 0, 255, linear), (1, 0, 255, angular)]
+
+    def lent_rules(self):
+        """Three words a rule, and its tolerance, whose NaN keeps its payload."""
+        words = [word for rule in self.rules for word in rule[:3]]
+        tolerances = [rule[3] for rule in self.rules]
+        return (
+            lent(ctypes.c_uint32, struct.pack(f"<{len(words)}I", *words)),
+            lent(ctypes.c_double, struct.pack(f"<{len(tolerances)}Q", *tolerances)),
+        )
+
+    def rules_of_rows(self):
+        """For each row the rules that it is under; a check's outcome does not list them."""
+        words = list(lent(ctypes.c_uint32, self.job.words))
+        for key, dimension in zip(words[0::8], words[1::8]):
+            held = [first <= key <= last and kind == dimension for kind, first, last, _ in self.rules]
+            yield [number for number, holds in enumerate(held) if holds]
 
     def waits_for(self):
         """The requests that must be in place before the case can be compared. Centres can be left

@@ -56,8 +56,47 @@ enum { PATTERN = 0x5a };
 
 enum { ROWS = 3, BODIES = 3, LIMIT = 50 };
 
+/* A table of rules, one more than there may be, and what is lent of it: of rule_numbers so many
+   more than rows. */
+struct rules {
+    double tolerances[KAPITSA_MAX_RULES + 1];
+    uint32_t words[3 * (KAPITSA_MAX_RULES + 1)], words_len, tolerances_len;
+    int more_numbers;
+};
+
+static void add_rule(struct rules *to, uint32_t dimension, uint32_t first, uint32_t last,
+                     double tolerance)
+{
+    uint32_t *rule = to->words + 3 * to->tolerances_len;
+    rule[0] = dimension;
+    rule[1] = first;
+    rule[2] = last;
+    to->tolerances[to->tolerances_len++] = tolerance;
+    to->words_len += 3;
+}
+
+static struct rules no_rules(void)
+{
+    struct rules to;
+    memset(&to, 0, sizeof to);
+    return to;
+}
+
+/* One tolerance for all rows. */
+static struct rules two_rules(double tolerance)
+{
+    static const uint32_t words[] = KAPITSA_TWO_RULES;
+    struct rules to = no_rules();
+    memcpy(to.words, words, sizeof words);
+    to.words_len = 6;
+    to.tolerances[0] = to.tolerances[1] = tolerance;
+    to.tolerances_len = 2;
+    return to;
+}
+
 struct job {
-    double numbers[27 * ROWS], masses[10 * BODIES], tolerance, shift; /* shift 0 but in shifts() */
+    double numbers[27 * ROWS], masses[10 * BODIES], shift; /* shift 0 but in shifts() */
+    struct rules rules;
     uint32_t words[8 * ROWS], rows, bodies;
 };
 
@@ -83,7 +122,7 @@ static struct job p1(double error, double tolerance)
     job.masses[0] = job.masses[10] = 0.5;
     job.rows = 1;
     job.bodies = 2;
-    job.tolerance = tolerance;
+    job.rules = two_rules(tolerance);
     return job;
 }
 
@@ -105,7 +144,7 @@ static struct job chain(void)
         mass[1] = mass[5] = mass[9] = 1.1; /* the inertia's diagonal */
     }
     job.rows = job.bodies = 3;
-    job.tolerance = 1e-9;
+    job.rules = two_rules(1e-9);
     return job;
 }
 
@@ -160,7 +199,7 @@ static size_t length(size_t need, int more)
 
 struct solved {
     double numbers[27 * ROWS], solution[ROWS], impulses[6 * BODIES], maxima[2];
-    uint32_t counts[2], refusal, control;
+    uint32_t rule_numbers[ROWS + 1], counts[2], refusal, control;
 };
 
 /* A solve in a floating-point mode; .control is the mode that it leaves. */
@@ -176,9 +215,11 @@ static struct solved solve(const struct job *job, uint32_t mode, unsigned contro
     const unsigned before = _mm_getcsr();
     _mm_setcsr(control);
     to.refusal = kapitsa_solve_in(
-        to.numbers, 27 * n, job->words, 8 * n, job->masses, 10 * b, job->tolerance, job->tolerance,
-        n, b, LIMIT, mode, job->shift, to.solution, n, to.impulses, 6 * b, to.counts, to.maxima,
-        doubles, doubles_len, words, words_len);
+        to.numbers, 27 * n, job->words, 8 * n, job->masses, 10 * b, job->rules.words,
+        job->rules.words_len, job->rules.tolerances, job->rules.tolerances_len, n, b, LIMIT, mode,
+        job->shift, to.solution, n, to.impulses, 6 * b, to.rule_numbers,
+        length(n, job->rules.more_numbers), to.counts, to.maxima, doubles, doubles_len, words,
+        words_len);
     to.control = _mm_getcsr();
     _mm_setcsr(before);
     return to;
@@ -186,7 +227,7 @@ static struct solved solve(const struct job *job, uint32_t mode, unsigned contro
 
 struct checked {
     double gap[2];
-    uint32_t refusal, verdict, control;
+    uint32_t rule_numbers[ROWS + 1], refusal, verdict, control;
 };
 
 static struct checked check(const struct job *job, const double *multipliers, unsigned control,
@@ -201,9 +242,10 @@ static struct checked check(const struct job *job, const double *multipliers, un
     const unsigned before = _mm_getcsr();
     _mm_setcsr(control);
     to.refusal = kapitsa_check_in(
-        job->numbers, 27 * n, job->words, 8 * n, job->masses, 10 * b, job->tolerance,
-        job->tolerance, n, b, multipliers, n, &to.verdict, to.gap, doubles, doubles_len, words,
-        words_len);
+        job->numbers, 27 * n, job->words, 8 * n, job->masses, 10 * b, job->rules.words,
+        job->rules.words_len, job->rules.tolerances, job->rules.tolerances_len, n, b, multipliers,
+        n, to.rule_numbers, length(n, job->rules.more_numbers), &to.verdict, to.gap, doubles,
+        doubles_len, words, words_len);
     to.control = _mm_getcsr();
     _mm_setcsr(before);
     return to;
@@ -226,14 +268,15 @@ static uint32_t raw_solve(const struct job *job, unsigned control, double *solut
     double numbers[27 * ROWS], impulses[6 * BODIES], maxima[2], jacobians[12 * ROWS];
     double tolerances[ROWS], diagonal[ROWS], residual[ROWS], pending[ROWS], direction[ROWS];
     double product[ROWS], body_impulses[6 * BODIES];
-    uint32_t counts[2], links[2 * ROWS];
+    uint32_t rule_numbers[ROWS], counts[2], links[2 * ROWS];
     const uint32_t n = job->rows, b = job->bodies;
     memcpy(numbers, job->numbers, sizeof numbers);
     const unsigned before = _mm_getcsr();
     _mm_setcsr(control);
     uint32_t refusal = kapitsa_solve_position(
-        numbers, 27 * n, job->words, 8 * n, job->masses, 10 * b, job->tolerance, job->tolerance,
-        n, b, LIMIT, KAPITSA_DIAGONAL, 0.0, solution, n, impulses, 6 * b, counts, 2, maxima, 2,
+        numbers, 27 * n, job->words, 8 * n, job->masses, 10 * b, job->rules.words,
+        job->rules.words_len, job->rules.tolerances, job->rules.tolerances_len, n, b, LIMIT,
+        KAPITSA_DIAGONAL, 0.0, solution, n, impulses, 6 * b, rule_numbers, n, counts, 2, maxima, 2,
         jacobians, 12 * n, links, 2 * n, tolerances, n, diagonal, n, residual, n, pending, n,
         direction, n, product, n, body_impulses, 6 * b, NULL, 0, NULL, 0, NULL, 0);
     _mm_setcsr(before);
@@ -245,13 +288,14 @@ static uint32_t raw_check(const struct job *job, const double *multipliers, unsi
 {
     double jacobians[12 * ROWS], mass_sizes[10 * BODIES], multiplier_sizes[ROWS];
     double impulses[6 * BODIES], values[ROWS], sizes[ROWS];
-    uint32_t links[2 * ROWS];
+    uint32_t rule_numbers[ROWS], links[2 * ROWS];
     const uint32_t n = job->rows, b = job->bodies;
     const unsigned before = _mm_getcsr();
     _mm_setcsr(control);
     uint32_t refusal = kapitsa_closing_check(
-        job->numbers, 27 * n, job->words, 8 * n, job->masses, 10 * b, job->tolerance,
-        job->tolerance, n, b, multipliers, n, verdict, verdict_len, gap, gap_len,
+        job->numbers, 27 * n, job->words, 8 * n, job->masses, 10 * b, job->rules.words,
+        job->rules.words_len, job->rules.tolerances, job->rules.tolerances_len, n, b, multipliers,
+        n, rule_numbers, n, verdict, verdict_len, gap, gap_len,
         jacobians, 12 * n, links, 2 * n, mass_sizes, 10 * b, multiplier_sizes, n, impulses,
         6 * b, values, n, sizes, n);
     _mm_setcsr(before);
@@ -322,7 +366,7 @@ static uint64_t least_tolerance(struct job job, const double *multipliers, unsig
     uint64_t open = 0, closed = INFINITE;
     while (closed - open > 1) {
         uint64_t middle = open + (closed - open) / 2;
-        job.tolerance = from_bits(middle);
+        job.rules = two_rules(from_bits(middle));
         if (says(check(&job, multipliers, control, exactly), KAPITSA_CLOSED))
             closed = middle;
         else
@@ -343,12 +387,12 @@ static void checks_in_all_modes(void)
         expect(measures(check(&rows, solved.solution, controls[i].word, exactly).gap, least, 0),
                "it is the measured gap", controls[i].name);
         expect(check(&below, no_multipliers, controls[i].word, exactly).refusal
-                   == KAPITSA_REFUSED_TOLERANCE,
+                   == KAPITSA_REFUSED_RULE,
                "a tolerance below zero", controls[i].name);
     }
 }
 
-/* Arithmetic in a call's arguments is the caller's, in the caller's mode: rounded up, the sum is
+/* Arithmetic for a call's arguments is the caller's, in the caller's mode: rounded up, the sum is
    the least tolerance that closes P1, 17 * 2^-52; rounded to nearest, one unit less. */
 static void arguments(void)
 {
@@ -356,13 +400,14 @@ static void arguments(void)
     const struct job sheet = p1(-0.25, 0.0);
     volatile double less = from_bits(0x3cf0ffffffffffffu), little = from_bits(0x3000000000000000u);
     for (uint32_t up = 0; up < 2; up++) {
-        uint32_t verdict = 9;
-        double gap[2] = {9.0, 9.0};
+        uint32_t verdict = 9, rule_number = 9;
+        double gap[2] = {9.0, 9.0}, tolerances[2] = {0.0, 0.0};
         const unsigned before = _mm_getcsr();
         _mm_setcsr(KAPITSA_CONTROL | (up ? UP : 0));
+        tolerances[0] = less + little;
         uint32_t refusal = kapitsa_check_in(
-            sheet.numbers, 27, sheet.words, 8, sheet.masses, 20, less + little, 0.0, 1, 2,
-            multiplier, 1, &verdict, gap, doubles, 47, words, 2);
+            sheet.numbers, 27, sheet.words, 8, sheet.masses, 20, sheet.rules.words, 6, tolerances,
+            2, 1, 2, multiplier, 1, &rule_number, 1, &verdict, gap, doubles, 47, words, 2);
         _mm_setcsr(before);
         expect(refusal == 0 && verdict == up && measures(gap, P1_GAP, 0),
                "a sum as argument", up ? "up" : "to nearest");
@@ -403,7 +448,7 @@ static void verdicts(void)
     for (size_t i = 0; i < CONTROLS; i++) {
         found = check(&tiny, no_multipliers, controls[i].word, exactly);
         expect(found.refusal == KAPITSA_REFUSED_RANGE && KEPT(found.verdict) && KEPT(found.gap)
-               && work_clear(47, 2), "18 for a subnormal error, and no verdict", controls[i].name);
+               && KEPT(found.rule_numbers) && work_clear(47, 2), "18 for a subnormal error, and no verdict", controls[i].name);
         if (controls[i].word == 0)
             continue; /* the raw check would be ended by an exception */
         uint32_t verdict = 9;
@@ -440,6 +485,14 @@ static void lengths_told(void)
 
 #define SMALL_SHIFT from_bits(0x3eb0000000000000u) /* 2^-20 */
 
+/* True where nothing that a solve is lent to write into has been written. */
+static int nothing_written(const struct job *job, const struct solved *found)
+{
+    return !memcmp(found->numbers, job->numbers, sizeof found->numbers) && KEPT(found->solution)
+        && KEPT(found->impulses) && KEPT(found->rule_numbers) && KEPT(found->maxima)
+        && KEPT(found->counts);
+}
+
 /* True where the solve is refused by 25, in any mode of the processor, and has written nothing. */
 static int refused_shift(const struct job *job, uint32_t mode)
 {
@@ -448,9 +501,7 @@ static int refused_shift(const struct job *job, uint32_t mode)
     for (size_t i = 0; i < CONTROLS; i++) {
         const struct solved found = solve(job, mode, controls[i].word, exactly);
         if (found.refusal != KAPITSA_REFUSED_SHIFT || !work_clear(d, w)
-            || memcmp(found.numbers, job->numbers, sizeof found.numbers)
-            || !(KEPT(found.solution) && KEPT(found.impulses) && KEPT(found.maxima)
-                 && KEPT(found.counts)))
+            || !nothing_written(job, &found))
             return 0;
     }
     return 1;
@@ -497,6 +548,219 @@ static void shifts(void)
         rows.rows = rows.bodies = 0;
         expect(refused_shift(&rows, mode), "25 without rows", "an odd shift");
     }
+}
+
+/* ---- rules */
+
+/* The chain, its rows of keys 10, 20 and 30, the last of them angular. */
+static struct job kinds(void)
+{
+    struct job job = chain();
+    for (uint32_t i = 0; i < 3; i++)
+        job.words[8 * i] = 10 * (i + 1);
+    job.words[8 * 2 + 1] = KAPITSA_ANGULAR;
+    return job;
+}
+
+/* A rule for each row, the last row's first, and with these tolerances for rows 0 to 2. */
+static struct rules three_rules(double first, double second, double third)
+{
+    struct rules to = no_rules();
+    add_rule(&to, KAPITSA_ANGULAR, 0, KAPITSA_MAX_KEY, third);
+    add_rule(&to, KAPITSA_LINEAR, 11, KAPITSA_MAX_KEY, second);
+    add_rule(&to, KAPITSA_LINEAR, 0, 10, first);
+    return to;
+}
+
+/* Solve and check under rules that are let pass: the bits of two rules but for the rule numbers,
+   where all tolerances are the same. */
+static void judged_by(const char *what, struct job job, const struct rules *rules,
+                      const uint32_t numbers[3])
+{
+    for (uint32_t mode = 0; mode < 3; mode++) {
+        job.rules = two_rules(1e-9);
+        struct solved wanted = solve(&job, mode, KAPITSA_CONTROL, exactly);
+        struct checked verdict = check(&job, wanted.solution, KAPITSA_CONTROL, exactly);
+        job.rules = *rules;
+        const struct solved found = solve(&job, mode, KAPITSA_CONTROL, exactly);
+        const struct checked checked = check(&job, wanted.solution, KAPITSA_CONTROL, exactly);
+        memcpy(wanted.rule_numbers, numbers, 3 * sizeof numbers[0]);
+        memcpy(verdict.rule_numbers, numbers, 3 * sizeof numbers[0]);
+        expect(wanted.refusal == 0 && !memcmp(&found, &wanted, sizeof found), what, "solve");
+        expect(says(verdict, KAPITSA_CLOSED) && !memcmp(&checked, &verdict, sizeof checked), what,
+               "check");
+        alike(what, &job, mode);
+    }
+}
+
+static void sound_rules(void)
+{
+    static const uint32_t by_dimension[] = {0, 0, 1}, reversed[] = {2, 1, 0}, last[] = {63, 61, 62};
+    const struct job job = kinds();
+    struct rules rules = two_rules(1e-9);
+    judged_by("two rules", job, &rules, by_dimension);
+    rules = three_rules(1e-9, 1e-9, 1e-9);
+    judged_by("a rule a row", job, &rules, reversed);
+    add_rule(&rules, KAPITSA_LINEAR, 30, 40, 1e-9); /* over another where no row is */
+    add_rule(&rules, KAPITSA_ANGULAR, 0, 29, 0.0);
+    add_rule(&rules, KAPITSA_ANGULAR, 31, 255, from_bits(MINUS));
+    judged_by("rules over each other where no row is", job, &rules, reversed);
+    rules = no_rules();
+    while (rules.tolerances_len < 61)
+        add_rule(&rules, KAPITSA_LINEAR, 40, 40 + rules.tolerances_len, 0.0);
+    add_rule(&rules, KAPITSA_LINEAR, 20, 20, 1e-9);
+    add_rule(&rules, KAPITSA_ANGULAR, 30, 30, 1e-9);
+    add_rule(&rules, KAPITSA_LINEAR, 10, 10, 1e-9);
+    judged_by("64 rules", job, &rules, last);
+}
+
+/* Each row is judged by its own tolerance, in the solve and in the check. */
+static void own_tolerances(void)
+{
+    struct job job = kinds();
+    const struct solved plain = solve(&job, 0, KAPITSA_CONTROL, exactly);
+    const double *list = plain.solution;
+    struct checked found = check(&job, list, KAPITSA_CONTROL, exactly);
+    expect(bits_of(found.gap[0]) > 0 && bits_of(found.gap[1]) > 0, "a gap above 0", "own rules");
+    for (uint32_t row = 0; row < 3; row++) {
+        job.rules = three_rules(row == 0 ? 0.0 : 1.0, row == 1 ? 0.0 : 1.0, row == 2 ? 0.0 : 1.0);
+        expect(says(check(&job, list, KAPITSA_CONTROL, exactly), KAPITSA_OPEN),
+               "one row's tolerance at 0 is enough to open", "own rules");
+    }
+    job.rules = three_rules(1.0, 1.0, found.gap[1]);
+    expect(says(check(&job, list, KAPITSA_CONTROL, exactly), KAPITSA_CLOSED),
+           "closed at the gap of the angular row", "own rules");
+    job.rules.tolerances[0] = from_bits(bits_of(found.gap[1]) - 1);
+    expect(says(check(&job, list, KAPITSA_CONTROL, exactly), KAPITSA_OPEN), "open one unit below",
+           "own rules");
+    job.rules = three_rules(1.0, 1.0, 1.0);
+    struct solved solved = solve(&job, 0, KAPITSA_CONTROL, exactly);
+    expect(solved.refusal == 0 && solved.counts[0] == 0 && solved.rule_numbers[0] == 2
+           && solved.rule_numbers[1] == 1 && solved.rule_numbers[2] == 0
+           && KEPT(solved.rule_numbers[3]), "rule numbers at count 0", "own rules");
+    job.rules = three_rules(1.0, 1e-9, 1.0);
+    solved = solve(&job, 0, KAPITSA_CONTROL, exactly);
+    expect(solved.refusal == 0 && solved.counts[0] > 0 && solved.counts[1] == 1,
+           "steps for one row's tolerance", "own rules");
+}
+
+/* Solve, in every mode, and check are refused by this number, and nothing is written. */
+static void refused_by(uint32_t refusal, const char *what, const struct job *job)
+{
+    const uint32_t n = job->rows, b = job->bodies;
+    const int clears = refusal != KAPITSA_REFUSED_LENGTH;
+    for (size_t i = 0; i < CONTROLS; i++) {
+        for (uint32_t mode = 0; mode < 3; mode++) {
+            const struct solved found = solve(job, mode, controls[i].word, exactly);
+            expect(found.refusal == refusal && nothing_written(job, &found)
+                   && work_clear(clears ? kapitsa_solve_doubles(n, b, mode) : 0,
+                                 clears ? kapitsa_solve_words(n, b, mode) : 0), what, "solve");
+        }
+        const struct checked found = check(job, no_multipliers, controls[i].word, exactly);
+        expect(found.refusal == refusal && KEPT(found.verdict) && KEPT(found.gap)
+               && KEPT(found.rule_numbers)
+               && work_clear(clears ? kapitsa_check_doubles(n, b) : 0,
+                             clears ? kapitsa_check_words(n, b) : 0), what, "check");
+    }
+}
+
+/* The job with this rule behind those that it has. */
+static struct job with_rule(struct job job, uint32_t dimension, uint32_t first, uint32_t last,
+                            double tolerance)
+{
+    add_rule(&job.rules, dimension, first, last, tolerance);
+    return job;
+}
+
+static void odd_rules(void)
+{
+    static const uint64_t odd[] = {MINUS | SMALLEST, MINUS | 0x3ff0000000000000u, INFINITE,
+                                   MINUS | INFINITE, 0x7ff8000000000000u, 0x7ff0000000000001u,
+                                   0xfff8000000000007u};
+    const struct job rows = kinds();
+    struct job none = rows;
+    none.rows = 0;
+    for (uint32_t without = 0; without < 2; without++) {
+        const struct job job = without ? none : rows;
+        struct job found = with_rule(job, KAPITSA_LINEAR, 41, 40, 0.5);
+        refused_by(KAPITSA_REFUSED_RULE, "first above last", &found);
+        found = with_rule(job, 2, 40, 40, 0.5);
+        refused_by(KAPITSA_REFUSED_RULE, "dimension 2", &found);
+        found = with_rule(job, UINT32_MAX, 40, 40, 0.5);
+        refused_by(KAPITSA_REFUSED_RULE, "the largest dimension", &found);
+        found = with_rule(job, KAPITSA_ANGULAR, 40, 256, 0.5);
+        refused_by(KAPITSA_REFUSED_RULE, "last key 256", &found);
+        found = with_rule(job, KAPITSA_LINEAR, 256, 256, 0.5);
+        refused_by(KAPITSA_REFUSED_RULE, "first and last key 256", &found);
+        found = with_rule(job, KAPITSA_LINEAR, 40, UINT32_MAX, 0.5);
+        refused_by(KAPITSA_REFUSED_RULE, "the largest last key", &found);
+        for (size_t i = 0; i < sizeof odd / sizeof odd[0]; i++) {
+            found = with_rule(job, KAPITSA_LINEAR, 40, 40, from_bits(odd[i]));
+            refused_by(KAPITSA_REFUSED_RULE, "an odd tolerance that no row uses", &found);
+            found = job;
+            found.rules.tolerances[i % 2] = from_bits(odd[i]);
+            refused_by(KAPITSA_REFUSED_RULE, "an odd tolerance", &found);
+        }
+    }
+    struct job job = with_rule(rows, 2, 20, 20, 0.5);
+    job.rules.words[0] = 1; /* the linear rule is angular: 28 too */
+    job.masses[0] = from_bits(INFINITE);
+    refused_by(KAPITSA_REFUSED_RULE, "27 before 28 and 6", &job);
+    job.words[7] = 1; /* spare */
+    refused_by(KAPITSA_REFUSED_WORD, "4 before 27", &job);
+}
+
+static void rules_of_rows(void)
+{
+    struct job job = kinds();
+    job.rules = no_rules();
+    refused_by(KAPITSA_REFUSED_RULES_OF_ROW, "no rule", &job);
+    add_rule(&job.rules, KAPITSA_LINEAR, 0, 255, 1e-9);
+    refused_by(KAPITSA_REFUSED_RULES_OF_ROW, "no rule for the angular row", &job);
+    job = kinds();
+    job.rules.words[1] = 11;
+    refused_by(KAPITSA_REFUSED_RULES_OF_ROW, "a key below the first", &job);
+    job = kinds();
+    job.rules.words[2] = 19;
+    refused_by(KAPITSA_REFUSED_RULES_OF_ROW, "a key above the last", &job);
+    job = with_rule(kinds(), KAPITSA_ANGULAR, 30, 30, 1e-9);
+    refused_by(KAPITSA_REFUSED_RULES_OF_ROW, "a second rule over a row", &job);
+    job.masses[0] = from_bits(INFINITE);
+    refused_by(KAPITSA_REFUSED_RULES_OF_ROW, "28 before 6", &job);
+    job.words[4] = 1; /* force_driven: 5 */
+    refused_by(KAPITSA_REFUSED_RULES_OF_ROW, "28 before 5", &job);
+    job.words[4] = 2;
+    refused_by(KAPITSA_REFUSED_WORD, "4 before 28", &job);
+}
+
+/* Lengths that do not belong together, and one rule too many: 3, whatever the rules say. */
+static void lengths_of_rules(void)
+{
+    struct job job = kinds();
+    for (int more = -1; more < 2; more += 2) {
+        struct job found = job;
+        found.rules.words_len = (uint32_t)((int)found.rules.words_len + more);
+        refused_by(KAPITSA_REFUSED_LENGTH, "words of another length", &found);
+        found = job;
+        found.rules.tolerances_len = (uint32_t)((int)found.rules.tolerances_len + more);
+        refused_by(KAPITSA_REFUSED_LENGTH, "tolerances of another length", &found);
+        found = job;
+        found.rules.more_numbers = more;
+        refused_by(KAPITSA_REFUSED_LENGTH, "rule numbers of another length", &found);
+    }
+    job.rules.more_numbers = NONE;
+    refused_by(KAPITSA_REFUSED_LENGTH, "no room for rule numbers", &job);
+    job = kinds();
+    while (job.rules.tolerances_len < KAPITSA_MAX_RULES + 1)
+        add_rule(&job.rules, 2, 40, 40, 0.5); /* 27 */
+    refused_by(KAPITSA_REFUSED_LENGTH, "65 rules", &job);
+    job.rules.words_len -= 3;
+    job.rules.tolerances_len--;
+    refused_by(KAPITSA_REFUSED_RULE, "64 rules", &job);
+    job.rows = 0;
+    refused_by(KAPITSA_REFUSED_RULE, "64 rules without rows", &job);
+    add_rule(&job.rules, KAPITSA_LINEAR, 40, 40, 0.5);
+    refused_by(KAPITSA_REFUSED_LENGTH, "65 rules without rows", &job);
 }
 
 /* ---- work memory */
@@ -554,19 +818,17 @@ static void work_memory(void)
         for (uint32_t mode = 0; mode < 3; mode++) {
             const struct solved found = solve(&rows, mode, KAPITSA_CONTROL, too_short[i]);
             expect(found.refusal == KAPITSA_REFUSED_LENGTH && work_clear(0, 0)
-                   && !memcmp(found.numbers, rows.numbers, sizeof found.numbers)
-                   && KEPT(found.solution) && KEPT(found.impulses) && KEPT(found.maxima)
-                   && KEPT(found.counts), "too short", "solve");
+                   && nothing_written(&rows, &found), "too short", "solve");
         }
         const struct checked found = check(&rows, solved.solution, KAPITSA_CONTROL, too_short[i]);
         expect(found.refusal == KAPITSA_REFUSED_LENGTH && work_clear(0, 0) && KEPT(found.verdict)
-               && KEPT(found.gap), "too short", "check");
+               && KEPT(found.gap) && KEPT(found.rule_numbers), "too short", "check");
     }
 }
 
 /* ---- empty jobs, the limits and beyond */
 
-/* Nothing but the answer and work memory is lent. True where the answer is refusal, and is written
+/* Nothing but the answer and work memory is lent, no rule either. True where the answer is refusal, and is written
    exactly where that is 0: count 0, flag 1, maxima +0.0; closed, gap +0.0. */
 static int solve_of_nothing(uint32_t rows, uint32_t bodies, uint32_t mode, double *work,
                             size_t work_len, uint32_t *more, size_t more_len, uint32_t refusal)
@@ -575,9 +837,9 @@ static int solve_of_nothing(uint32_t rows, uint32_t bodies, uint32_t mode, doubl
     double maxima[2];
     memset(counts, PATTERN, sizeof counts);
     memset(maxima, PATTERN, sizeof maxima);
-    const uint32_t found = kapitsa_solve_in(NULL, 0, NULL, 0, NULL, 0, 0.0, 0.0, rows, bodies, 0,
-                                            mode, 0.0, NULL, 0, NULL, 0, counts, maxima, work,
-                                            work_len, more, more_len);
+    const uint32_t found = kapitsa_solve_in(NULL, 0, NULL, 0, NULL, 0, NULL, 0, NULL, 0, rows,
+                                            bodies, 0, mode, 0.0, NULL, 0, NULL, 0, NULL, 0, counts,
+                                            maxima, work, work_len, more, more_len);
     return found == refusal
         && (found ? KEPT(counts) && KEPT(maxima)
                   : counts[0] == 0 && counts[1] == 1 && all(0, maxima, sizeof maxima));
@@ -589,8 +851,9 @@ static int check_of_nothing(uint32_t rows, uint32_t bodies, double *work, size_t
     uint32_t verdict = 9;
     double gap[2];
     memset(gap, PATTERN, sizeof gap);
-    const uint32_t found = kapitsa_check_in(NULL, 0, NULL, 0, NULL, 0, 0.0, 0.0, rows, bodies, NULL,
-                                            0, &verdict, gap, work, work_len, more, more_len);
+    const uint32_t found = kapitsa_check_in(NULL, 0, NULL, 0, NULL, 0, NULL, 0, NULL, 0, rows,
+                                            bodies, NULL, 0, NULL, 0, &verdict, gap, work, work_len,
+                                            more, more_len);
     return found == refusal && verdict == (found ? 9 : KAPITSA_CLOSED)
         && (found ? KEPT(gap) : measures(gap, 0, 0));
 }
@@ -623,33 +886,47 @@ static void beyond_the_limits(void)
     }
 }
 
-/* 512 rows on 256 bodies, each row twice, so that mode 1 finds a pivot of 0. */
+/* 512 rows on 256 bodies under 64 rules, each row twice, so that mode 1 finds a pivot of 0. */
 static void at_the_limits(void)
 {
-    enum { N = KAPITSA_MAX_ROWS, B = KAPITSA_MAX_BODIES };
+    enum { N = KAPITSA_MAX_ROWS, B = KAPITSA_MAX_BODIES, R = KAPITSA_MAX_RULES };
     static double numbers[27 * N], masses[10 * B], solution[N], impulses[6 * B], maxima[2];
-    static uint32_t row_words[8 * N], counts[2];
-    for (uint32_t i = 0; i < N; i++)
+    static uint32_t row_words[8 * N], rule_numbers[N], counts[2];
+    struct rules rules = no_rules();
+    for (uint32_t i = 0; i < N; i++) {
         set_row(numbers + 27 * i, row_words + 8 * i, i / 2, (i / 2 + 1) % B, i);
+        row_words[8 * i] = i % 256; /* key */
+    }
+    for (uint32_t i = 0; i < R; i++)
+        add_rule(&rules, KAPITSA_LINEAR, 4 * i, 4 * i + 3, 1e-9);
     for (uint32_t j = 0; j < B; j++)
         masses[10 * j] = 0.5;
     numbers[15] = 0.01; /* the first row's error */
     for (uint32_t mode = 0; mode < 3; mode++) {
         const size_t d = kapitsa_solve_doubles(N, B, mode), w = kapitsa_solve_words(N, B, mode);
         fill_work();
+        for (uint32_t i = 0; i < N; i++)
+            rule_numbers[i] = 999;
         const uint32_t refusal = kapitsa_solve_in(
-            numbers, 27 * N, row_words, 8 * N, masses, 10 * B, 1e-9, 1e-9, N, B, 1, mode, 0.0,
-            solution, N, impulses, 6 * B, counts, maxima, doubles, d, words, w);
+            numbers, 27 * N, row_words, 8 * N, masses, 10 * B, rules.words, 3 * R, rules.tolerances,
+            R, N, B, 1, mode, 0.0, solution, N, impulses, 6 * B, rule_numbers, N, counts, maxima,
+            doubles, d, words, w);
         expect(refusal == (mode == 1 ? KAPITSA_REFUSED_PIVOT : KAPITSA_ACCEPTED)
                && work_clear(d, w), "512 rows", "solve");
+        for (uint32_t i = 0; i < N; i++)
+            expect(rule_numbers[i] == (mode == 1 ? 999 : i % 256 / 4),
+                   "the rule of each of 512 rows", "solve");
     }
     const size_t d = kapitsa_check_doubles(N, B), w = kapitsa_check_words(N, B);
     uint32_t verdict = 9;
     double gap[2];
     fill_work();
+    memset(rule_numbers, PATTERN, sizeof rule_numbers);
     const uint32_t refusal = kapitsa_check_in(
-        numbers, 27 * N, row_words, 8 * N, masses, 10 * B, 1e-9, 1e-9, N, B, solution, N, &verdict,
-        gap, doubles, d, words, w);
+        numbers, 27 * N, row_words, 8 * N, masses, 10 * B, rules.words, 3 * R, rules.tolerances, R,
+        N, B, solution, N, rule_numbers, N, &verdict, gap, doubles, d, words, w);
+    for (uint32_t i = 0; i < N; i++)
+        expect(rule_numbers[i] == i % 256 / 4, "the rule of each of 512 rows", "check");
     expect(refusal == 0 && verdict == KAPITSA_OPEN && bits_of(gap[0]) > bits_of(1e-9)
            && bits_of(gap[0]) < INFINITE && bits_of(gap[1]) == 0 && work_clear(d, w), "512 rows",
            "check");
@@ -670,6 +947,11 @@ int main(void)
     verdicts();
     lengths_told();
     shifts();
+    sound_rules();
+    own_tolerances();
+    odd_rules();
+    rules_of_rows();
+    lengths_of_rules();
     sizes();
     work_memory();
     empty_jobs();

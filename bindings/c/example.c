@@ -8,7 +8,9 @@
 int main(void)
 {
     double numbers[27] = {0}, masses[20] = {0}, solution[1] = {0}, impulses[12] = {0};
-    uint32_t words[8] = {0, 0, 0, 1, 0, 1, 0, 0}, counts[2], verdict;
+    uint32_t words[8] = {0, 0, 0, 1, 0, 1, 0, 0}, rule_numbers[1], counts[2], verdict;
+    const uint32_t rule_words[] = KAPITSA_TWO_RULES;
+    const double rule_tolerances[] = {0.001, 0.001};
     double maxima[2], gap[2];
     numbers[0] = 1.0;        /* linear_a */
     numbers[9] = -1.0;       /* linear_b */
@@ -30,13 +32,13 @@ int main(void)
         return 1;
 
     uint32_t refusal = kapitsa_solve_in(
-        numbers, 27, words, 8, masses, 20, 0.001, 0.001, 1, 2, 4, KAPITSA_DIAGONAL, 0.0,
-        solution, 1, impulses, 12, counts, maxima,
+        numbers, 27, words, 8, masses, 20, rule_words, 6, rule_tolerances, 2, 1, 2, 4,
+        KAPITSA_DIAGONAL, 0.0, solution, 1, impulses, 12, rule_numbers, 1, counts, maxima,
         work_doubles, doubles_len, work_words, words_len);
     if (refusal == 0)
         refusal = kapitsa_check_in(
-            numbers, 27, words, 8, masses, 20, 0.001, 0.001, 1, 2, solution, 1, &verdict,
-            gap, work_doubles, doubles_len, work_words, words_len);
+            numbers, 27, words, 8, masses, 20, rule_words, 6, rule_tolerances, 2, 1, 2, solution,
+            1, rule_numbers, 1, &verdict, gap, work_doubles, doubles_len, work_words, words_len);
     free(work_doubles);
     free(work_words);
     if (refusal != 0) {
@@ -46,6 +48,6 @@ int main(void)
     printf("count %u, flag %u\n", (unsigned)counts[0], (unsigned)counts[1]);
     printf("multiplier %g, %s\n", numbers[24], verdict == KAPITSA_CLOSED ? "closed" : "open");
     printf("gap at most %g, %g\n", gap[0], gap[1]);
-    return !(counts[0] == 1 && counts[1] == 1 && verdict == KAPITSA_CLOSED
+    return !(counts[0] == 1 && counts[1] == 1 && verdict == KAPITSA_CLOSED && rule_numbers[0] == 0
              && 0.0 < gap[0] && gap[0] <= 0.001 && gap[1] == 0.0);
 }

@@ -2,14 +2,21 @@
    of `rt staticlib kapitsa_c`, an archive for x86-64.
 
    A slice is a pointer, then its length; where the length is 0 the pointer may be NULL. For n rows
-   and b bodies numbers has 27 n doubles, words 8 n, masses 10 b; solution and multipliers have n,
-   impulses 6 b. Row i has its doubles from numbers[27 * i]: linear_a (3), angular_a (3),
+   and b bodies numbers has 27 n doubles, words 8 n, masses 10 b; solution, multipliers and
+   rule_numbers have n, impulses 6 b. Row i has its doubles from numbers[27 * i]: linear_a (3), angular_a (3),
    position_angular_a (3), linear_b (3), angular_b (3), error, target_velocity, force_bias,
    compliance, damping, min_multiplier, max_multiplier, min_impulse, max_impulse,
    accumulated_multiplier, accumulated_impulse, cached_velocity_effective_mass; its words from
    words[8 * i]: key, dimension (0 linear, 1 angular), body_a, body_b, force_driven,
    position_enabled, owner, spare (0). Body j has its inverse mass and its inverse inertia by
    columns from masses[10 * j].
+
+   Tolerances are given by rules, at most KAPITSA_MAX_RULES: for r rules rule_words has 3 r,
+   rule_tolerances r. Rule i has dimension, first key and last key from rule_words[3 * i] and its
+   tolerance, in metres or radians, at rule_tolerances[i]. It applies to the rows of its dimension
+   whose key is from the first to the last. Each row must be under one rule and no second; keys that
+   no row bears need none, and there rules may overlap. rule_numbers gets the number of each row's
+   rule, from 0. One tolerance for each dimension is KAPITSA_TWO_RULES.
 
    Every call returns 0 or the number of a refusal; what it finds it writes into lent memory, and
    only where it returns 0. The work memory is 0 after every call but one refused by 3, which
@@ -44,8 +51,23 @@ extern "C" {
 enum kapitsa_limit {
     KAPITSA_MAX_ROWS = 512,
     KAPITSA_MAX_BODIES = 256,
-    KAPITSA_MAX_PAIRS = 16384 /* rows that share a body, two by two; mode 1 */
+    KAPITSA_MAX_PAIRS = 16384, /* rows that share a body, two by two; mode 1 */
+    KAPITSA_MAX_RULES = 64,
+    KAPITSA_MAX_KEY = 255
 };
+
+enum kapitsa_dimension {
+    KAPITSA_LINEAR = 0,
+    KAPITSA_ANGULAR = 1
+};
+
+/* The rule_words of two rules, linear and angular, over all keys:
+   const uint32_t rule_words[] = KAPITSA_TWO_RULES; const double rule_tolerances[] = {1e-6, 1e-6}; */
+#define KAPITSA_TWO_RULES                                          \
+    {                                                              \
+        KAPITSA_LINEAR, 0, KAPITSA_MAX_KEY,                        \
+        KAPITSA_ANGULAR, 0, KAPITSA_MAX_KEY                        \
+    }
 
 enum kapitsa_mode {
     KAPITSA_DIAGONAL = 0,
@@ -61,7 +83,7 @@ enum kapitsa_verdict {
 /* MIN is 2^-1022. */
 enum kapitsa_refusal {
     KAPITSA_ACCEPTED = 0,
-    KAPITSA_REFUSED_LENGTH = 3,     /* a count, the mode or a slice's length does not fit */
+    KAPITSA_REFUSED_LENGTH = 3,     /* a count, the mode or a slice's length does not fit; 65 rules */
     KAPITSA_REFUSED_WORD = 4,       /* a row has a key, dimension, flag or spare that there is not */
     KAPITSA_REFUSED_OPENING = 5,    /* rows and limit 0, or a row off, soft, driven or bounded */
     KAPITSA_REFUSED_MASS = 6,       /* a mass number is not finite */
@@ -81,7 +103,10 @@ enum kapitsa_refusal {
     KAPITSA_REFUSED_SYMMETRY = 22,  /* inverse: two numbers are farther apart than 2^-47 allows */
     KAPITSA_REFUSED_DEFINITE = 23,  /* inverse: not positive definite */
     KAPITSA_REFUSED_SHIFT = 25,     /* the shift is not finite, below 0 or above 1; right after 3 */
-    KAPITSA_REFUSED_TOLERANCE = 26  /* a tolerance is negative, NaN or infinite; right after 4 */
+    /* Right after 4, in this order. 26 is the job program's alone. */
+    KAPITSA_REFUSED_RULE = 27,        /* a rule has first above last, a dimension over 1, a last key
+                                         over 255, or a tolerance negative, NaN or infinite */
+    KAPITSA_REFUSED_RULES_OF_ROW = 28 /* a row is under no rule, or under several */
 };
 
 /* MXCSR as a program starts: round to nearest, subnormal numbers kept, exceptions masked. */
@@ -131,29 +156,32 @@ enum kapitsa_refusal {
 
 /* ---- the raw functions; at their end a pointer and a length for each work slice, in order */
 
-/* Refusals 3, 25, 4, 26 and 5 to 17. counts (2) gets count and flag, maxima (2) the linear and the
-   angular residual maximum; with them accumulated multipliers (in numbers), solution and impulses
-   are written. In mode 1 each pivot starts from diagonal * (1 + shift): 0 is the plain factor, a
+/* Refusals 3, 25, 4, 27, 28 and 5 to 17. counts (2) gets count and flag, maxima (2) the linear and
+   the angular residual maximum; with them accumulated multipliers (in numbers), solution, impulses
+   and rule_numbers are written. 27 judges rules that no row is under too, and a job without rows.
+   In mode 1 each pivot starts from diagonal * (1 + shift): 0 is the plain factor, a
    little more lets rows pass that say almost the same and that 13 turns back. Modes 0 and 2 use no
    shift, but it must be from 0 to 1 there too, and in a job without rows. */
 KAPITSA_MUST_USE uint32_t kapitsa_solve_position(
     double *numbers, size_t numbers_len, const uint32_t *words, size_t words_len,
-    const double *masses, size_t masses_len,
-    double linear_tolerance, double angular_tolerance,
+    const double *masses, size_t masses_len, const uint32_t *rule_words, size_t rule_words_len,
+    const double *rule_tolerances, size_t rule_tolerances_len,
     uint32_t rows, uint32_t bodies, uint32_t limit, uint32_t mode, double shift,
     double *solution, size_t solution_len, double *impulses, size_t impulses_len,
+    uint32_t *rule_numbers, size_t rule_numbers_len,
     uint32_t *counts, size_t counts_len, double *maxima, size_t maxima_len
     KAPITSA_SOLVE_WORK(KAPITSA_TAKES_DOUBLES, KAPITSA_TAKES_WORDS));
 
-/* Refusals 3, 4, 26, 6, 7 and 18. multipliers are the gains since the errors were measured, such as
-   a solve's solution. verdict (1) gets KAPITSA_OPEN or KAPITSA_CLOSED, gap (2) the measured gap of
-   the linear rows and of the angular ones: no row's exact gap is larger, and 0 stands where there
-   is no such row. */
+/* Refusals 3, 4, 27, 28, 6, 7 and 18. multipliers are the gains since the errors were measured,
+   such as a solve's solution. verdict (1) gets KAPITSA_OPEN or KAPITSA_CLOSED, by each row's own
+   tolerance, gap (2) the measured gap of the linear rows and of the angular ones: no row's exact
+   gap is larger, and 0 stands where there is no such row. */
 KAPITSA_MUST_USE uint32_t kapitsa_closing_check(
     const double *numbers, size_t numbers_len, const uint32_t *words, size_t words_len,
-    const double *masses, size_t masses_len,
-    double linear_tolerance, double angular_tolerance,
+    const double *masses, size_t masses_len, const uint32_t *rule_words, size_t rule_words_len,
+    const double *rule_tolerances, size_t rule_tolerances_len,
     uint32_t rows, uint32_t bodies, const double *multipliers, size_t multipliers_len,
+    uint32_t *rule_numbers, size_t rule_numbers_len,
     uint32_t *verdict, size_t verdict_len, double *gap, size_t gap_len
     KAPITSA_CHECK_WORK(KAPITSA_TAKES_DOUBLES, KAPITSA_TAKES_WORDS));
 
@@ -235,11 +263,11 @@ static inline uint32_t *kapitsa_carve_words(uint32_t **rest, size_t length)
 
 KAPITSA_APART uint32_t kapitsa_solve_in(
     double *numbers, size_t numbers_len, const uint32_t *words, size_t words_len,
-    const double *masses, size_t masses_len,
-    double linear_tolerance, double angular_tolerance,
+    const double *masses, size_t masses_len, const uint32_t *rule_words, size_t rule_words_len,
+    const double *rule_tolerances, size_t rule_tolerances_len,
     uint32_t rows, uint32_t bodies, uint32_t limit, uint32_t mode, double shift,
     double *solution, size_t solution_len, double *impulses, size_t impulses_len,
-    uint32_t counts[2], double maxima[2],
+    uint32_t *rule_numbers, size_t rule_numbers_len, uint32_t counts[2], double maxima[2],
     double *work_doubles, size_t work_doubles_len, uint32_t *work_words, size_t work_words_len)
 {
     if (!kapitsa_within(rows, bodies, mode)
@@ -252,20 +280,21 @@ KAPITSA_APART uint32_t kapitsa_solve_in(
     _mm_setcsr(KAPITSA_CONTROL);
     uint32_t refusal = kapitsa_solve_position(
         numbers, numbers_len, words, words_len, masses, masses_len,
-        linear_tolerance, angular_tolerance, rows, bodies, limit, mode, shift,
-        solution, solution_len, impulses, impulses_len, counts, 2, maxima, 2
+        rule_words, rule_words_len, rule_tolerances, rule_tolerances_len,
+        rows, bodies, limit, mode, shift, solution, solution_len, impulses, impulses_len,
+        rule_numbers, rule_numbers_len, counts, 2, maxima, 2
         KAPITSA_SOLVE_WORK(KAPITSA_LEND, KAPITSA_LEND));
     _mm_setcsr(control);
     return refusal;
 }
 
-/* Read *verdict and gap only where 0 was returned: a refusal leaves there what was there. */
+/* Read *verdict, gap and rule_numbers only where 0 was returned: a refusal leaves there what was there. */
 KAPITSA_APART uint32_t kapitsa_check_in(
     const double *numbers, size_t numbers_len, const uint32_t *words, size_t words_len,
-    const double *masses, size_t masses_len,
-    double linear_tolerance, double angular_tolerance,
+    const double *masses, size_t masses_len, const uint32_t *rule_words, size_t rule_words_len,
+    const double *rule_tolerances, size_t rule_tolerances_len,
     uint32_t rows, uint32_t bodies, const double *multipliers, size_t multipliers_len,
-    uint32_t *verdict, double gap[2],
+    uint32_t *rule_numbers, size_t rule_numbers_len, uint32_t *verdict, double gap[2],
     double *work_doubles, size_t work_doubles_len, uint32_t *work_words, size_t work_words_len)
 {
     if (!kapitsa_within(rows, bodies, 0)
@@ -278,7 +307,8 @@ KAPITSA_APART uint32_t kapitsa_check_in(
     _mm_setcsr(KAPITSA_CONTROL);
     uint32_t refusal = kapitsa_closing_check(
         numbers, numbers_len, words, words_len, masses, masses_len,
-        linear_tolerance, angular_tolerance, rows, bodies, multipliers, multipliers_len,
+        rule_words, rule_words_len, rule_tolerances, rule_tolerances_len,
+        rows, bodies, multipliers, multipliers_len, rule_numbers, rule_numbers_len,
         verdict, 1, gap, 2
         KAPITSA_CHECK_WORK(KAPITSA_LEND, KAPITSA_LEND));
     _mm_setcsr(control);

@@ -29,7 +29,10 @@ static int joined(void)
 {
     double numbers[27] = {0}, masses[20], solution[1], impulses[12], maxima[2], gap[2];
     double work_doubles[64];
-    uint32_t words[8] = {0, 0, 0, 1, 0, 1, 0, 0}, counts[2], verdict, work_words[8];
+    uint32_t words[8] = {0, 0, 0, 1, 0, 1, 0, 0}, rule_numbers[1], counts[2], verdict;
+    uint32_t work_words[8];
+    const uint32_t rule_words[] = KAPITSA_TWO_RULES;
+    const double rule_tolerances[] = {0.001, 0.001};
     if (mass_of(2.0, LINK, masses) != 0 || mass_of(2.0, LINK, masses + 10) != 0)
         return 0;
     for (int i = 0; i < 10; i++)
@@ -43,11 +46,12 @@ static int joined(void)
     numbers[15] = -0.25; /* error */
     numbers[20] = -from_bits(0x7ff0000000000000u);
     numbers[21] = from_bits(0x7ff0000000000000u);
-    if (kapitsa_solve_in(numbers, 27, words, 8, masses, 20, 0.001, 0.001, 1, 2, 4,
-                         KAPITSA_DIAGONAL, 0.0, solution, 1, impulses, 12, counts, maxima,
-                         work_doubles, 64, work_words, 8) != 0
-        || kapitsa_check_in(numbers, 27, words, 8, masses, 20, 0.001, 0.001, 1, 2, solution, 1,
-                            &verdict, gap, work_doubles, 64, work_words, 8) != 0)
+    if (kapitsa_solve_in(numbers, 27, words, 8, masses, 20, rule_words, 6, rule_tolerances, 2, 1, 2,
+                         4, KAPITSA_DIAGONAL, 0.0, solution, 1, impulses, 12, rule_numbers, 1,
+                         counts, maxima, work_doubles, 64, work_words, 8) != 0
+        || kapitsa_check_in(numbers, 27, words, 8, masses, 20, rule_words, 6, rule_tolerances, 2, 1,
+                            2, solution, 1, rule_numbers, 1, &verdict, gap, work_doubles, 64,
+                            work_words, 8) != 0)
         return 0;
     printf("multiplier %g, %s\n", solution[0], verdict == KAPITSA_CLOSED ? "closed" : "open");
     return counts[0] == 1 && counts[1] == 1 && verdict == KAPITSA_CLOSED;

@@ -9,7 +9,8 @@
 
 enum { JOINTS = 8, ROWS = 2 * JOINTS, BODIES = JOINTS + 1, LIMIT = 100 };
 
-static const double TOLERANCE = 1e-9; /* a nanometre */
+static const uint32_t RULES[] = KAPITSA_TWO_RULES;
+static const double TOLERANCES[] = {1e-9, 1e-9}; /* a nanometre */
 
 struct frame {
     double numbers[27 * ROWS], masses[10 * BODIES];
@@ -45,18 +46,18 @@ static int try_it(uint32_t mode, double shift, uint32_t refused, uint32_t steps)
     const size_t w = sizeof work_words / sizeof work_words[0];
     struct frame frame;
     double solution[ROWS], impulses[6 * BODIES], maxima[2], gap[2];
-    uint32_t counts[2], verdict;
+    uint32_t rule_numbers[ROWS], counts[2], verdict;
     make(&frame);
     printf("mode %u, shift %g: ", (unsigned)mode, shift);
     uint32_t refusal = kapitsa_solve_in(
-        frame.numbers, 27 * ROWS, frame.words, 8 * ROWS, frame.masses, 10 * BODIES, TOLERANCE,
-        TOLERANCE, ROWS, BODIES, LIMIT, mode, shift, solution, ROWS, impulses, 6 * BODIES, counts,
-        maxima, work_doubles, d, work_words, w);
+        frame.numbers, 27 * ROWS, frame.words, 8 * ROWS, frame.masses, 10 * BODIES, RULES, 6,
+        TOLERANCES, 2, ROWS, BODIES, LIMIT, mode, shift, solution, ROWS, impulses, 6 * BODIES,
+        rule_numbers, ROWS, counts, maxima, work_doubles, d, work_words, w);
     if (refusal == 0)
         refusal = kapitsa_check_in(
-            frame.numbers, 27 * ROWS, frame.words, 8 * ROWS, frame.masses, 10 * BODIES, TOLERANCE,
-            TOLERANCE, ROWS, BODIES, solution, ROWS, &verdict, gap, work_doubles, d, work_words,
-            w);
+            frame.numbers, 27 * ROWS, frame.words, 8 * ROWS, frame.masses, 10 * BODIES, RULES, 6,
+            TOLERANCES, 2, ROWS, BODIES, solution, ROWS, rule_numbers, ROWS, &verdict, gap,
+            work_doubles, d, work_words, w);
     if (refusal != 0) {
         printf("refused by %u\n", (unsigned)refusal);
         return refusal == refused;

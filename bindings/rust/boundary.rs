@@ -1,5 +1,5 @@
 //! The boundary between the port and Rust, as bindings/c/boundary.c has it for C: floating-point
-//! modes, 18, lengths, empty jobs and the limits. The last line is `N passed, 0 failed`.
+//! modes, 18, rules, lengths, empty jobs and the limits. The last line is `N passed, 0 failed`.
 //! Rust itself assumes the default mode: in another one nothing is computed here.
 
 #[allow(dead_code)] // the limits of pairs
@@ -30,7 +30,7 @@ struct Job {
     numbers: Vec<f64>,
     words: Vec<u32>,
     masses: Vec<f64>,
-    tolerance: f64,
+    rules: Rules,
     shift: f64,
 }
 
@@ -55,7 +55,7 @@ impl Job {
 
 /// Document 01's P1, with another error and tolerance.
 fn p1(error: f64, tolerance: f64) -> Job {
-    let mut job = Job { tolerance, ..Job::default() };
+    let mut job = Job { rules: Rules::two(tolerance, tolerance), ..Job::default() };
     job.row(0, 1, 0, error);
     (0..2).for_each(|_| job.mass(0.5, 0.0));
     job
@@ -63,7 +63,7 @@ fn p1(error: f64, tolerance: f64) -> Job {
 
 /// Three rows of two joints on three bodies, with numbers that nothing divides evenly.
 fn chain() -> Job {
-    let mut job = Job { tolerance: 1e-9, ..Job::default() };
+    let mut job = Job { rules: Rules::two(1e-9, 1e-9), ..Job::default() };
     for (i, (a, error)) in [(0, 0.1), (0, -0.03), (1, 0.07)].into_iter().enumerate() {
         let row = job.row(a, a + 1, a, error);
         row[i] = 0.9;
@@ -77,7 +77,7 @@ fn chain() -> Job {
 
 /// Two rows that say the same but for 2^-28 in one number: mode 1 finds a pivot of 0.
 fn worn(shift: f64) -> Job {
-    let mut job = Job { tolerance: 1e-9, shift, ..Job::default() };
+    let mut job = Job { rules: Rules::two(1e-9, 1e-9), shift, ..Job::default() };
     job.row(0, 1, 0, -0.25);
     job.row(0, 1, 1, -0.25)[1] = 1.0 / 268_435_456.0; // 2^-28
     (0..2).for_each(|_| job.mass(0.5, 0.0));
@@ -109,23 +109,29 @@ fn within<T>(mode: u32, call: impl FnOnce() -> T) -> (T, u32) {
     (found, after)
 }
 
-/// Everything that a solve and the check of its solution leave, doubles as bits.
+/// Everything that a solve and the check of its solution leave, doubles as bits; the rule numbers
+/// of both, `KEPT` where nothing was written.
 #[derive(Debug, PartialEq)]
 struct Outcome {
     solved: Result<(bool, u32, [u64; 2]), Refusal>,
     checked: Result<(Verdict, [u64; 2]), Refusal>,
     numbers: Vec<u64>,
+    rules: [Vec<u32>; 2],
 }
+
+const KEPT: u32 = 0x5eed;
 
 fn outcome(job: &Job, mode: Mode, work: &mut Work) -> Outcome {
     let mut numbers = job.numbers.clone();
-    let mut solution = vec![0.0; job.words.len() / 8];
+    let rows = job.words.len() / 8;
+    let mut solution = vec![0.0; rows];
     let mut impulses = vec![0.0; 6 * (job.masses.len() / 10)];
+    let mut rules = [vec![KEPT; rows], vec![KEPT; rows]];
     let mut tables = Tables { numbers: &mut numbers, words: &job.words, masses: &job.masses };
-    let tolerance = Tolerance { linear_m: job.tolerance, angular_rad: job.tolerance };
-    let (x, j) = (&mut solution, &mut impulses);
-    let solved = solve_position(&mut tables, tolerance, 50, mode, job.shift, x, j, work);
-    let checked = closing_check(&tables, tolerance, &solution, work);
+    let to =
+        Delivered { solution: &mut solution, impulses: &mut impulses, rule_numbers: &mut rules[0] };
+    let solved = solve_position(&mut tables, &job.rules, 50, mode, job.shift, to, work);
+    let checked = closing_check(&tables, &job.rules, &solution, &mut rules[1], work);
     let lists = numbers.iter().chain(&solution).chain(&impulses);
     Outcome {
         solved: solved.map(|answer| {
@@ -137,6 +143,7 @@ fn outcome(job: &Job, mode: Mode, work: &mut Work) -> Outcome {
             (found.verdict, gap.map(f64::to_bits))
         }),
         numbers: lists.map(|number| number.to_bits()).collect(),
+        rules,
     }
 }
 
@@ -173,8 +180,8 @@ fn floating_point_modes(tests: &mut Tests) {
         tests.expect(found.solved == Err(Refusal::Residual), "14 for a subnormal error");
         tests.expect(found.checked == Err(Refusal::Range), "18 for a subnormal error");
         let found = outcome(&below_zero, mode, &mut work);
-        tests.expect(found.solved == Err(Refusal::Tolerance), "26 for a tolerance below zero");
-        tests.expect(found.checked == Err(Refusal::Tolerance), "26 by the check too");
+        tests.expect(found.solved == Err(Refusal::Rule), "27 for a tolerance below zero");
+        tests.expect(found.checked == Err(Refusal::Rule), "27 by the check too");
         for job in [p1(-0.25, 0.001), chain(), tiny.clone(), below_zero.clone()] {
             let wanted = outcome(&job, mode, &mut work);
             for (name, control) in MODES {
@@ -220,21 +227,129 @@ fn shifts(tests: &mut Tests) {
     }
 }
 
+/// The chain, its rows of keys 10, 20 and 30, the last of them angular, under these rules.
+fn kinds(rules: Rules) -> Job {
+    let mut job = Job { rules, ..chain() };
+    (0..3).for_each(|row| job.words[8 * row] = 10 * (row as u32 + 1));
+    job.words[8 * 2 + 1] = Dimension::Angular as u32;
+    job
+}
+
+/// A rule for each row, the last row's first, with these tolerances for rows 0 to 2.
+fn three([first, second, third]: [f64; 3]) -> Rules {
+    Rules::default()
+        .with(Dimension::Angular, 0, MAX_KEY, third)
+        .with(Dimension::Linear, 11, MAX_KEY, second)
+        .with(Dimension::Linear, 0, 10, first)
+}
+
+fn rules(tests: &mut Tests) {
+    let mut work = Work::default();
+    for mode in ALL {
+        let plain = outcome(&kinds(Rules::two(1e-9, 1e-9)), mode, &mut work);
+        tests.expect(plain.solved.is_ok_and(|(flag, ..)| flag), "two rules");
+        tests.expect(plain.checked.is_ok_and(|(verdict, _)| verdict == Verdict::Closed), "closed");
+        tests.expect(plain.rules == [[0, 0, 1], [0, 0, 1]], "the rule numbers of two rules");
+        let aside = three([1e-9; 3]).with(Dimension::Angular, 0, 29, 0.0);
+        for rules in [three([1e-9; 3]), aside] {
+            let found = outcome(&kinds(rules), mode, &mut work);
+            tests.expect(found.rules == [[2, 1, 0], [2, 1, 0]], "a rule a row");
+            tests.expect(found.numbers == plain.numbers, "the bits of two rules");
+            let same = found.solved == plain.solved && found.checked == plain.checked;
+            tests.expect(same, "the answers of two rules");
+        }
+        let at_once = outcome(&kinds(three([1.0; 3])), mode, &mut work);
+        tests.expect(at_once.solved.is_ok_and(|(flag, count, _)| flag && count == 0), "count 0");
+        tests.expect(at_once.rules[0] == [2, 1, 0], "rule numbers at count 0");
+        for row in 0..3 {
+            let mut tolerances = [1.0; 3];
+            tolerances[row] = 1e-9;
+            let found = outcome(&kinds(three(tolerances)), mode, &mut work);
+            tests.expect(found.solved.is_ok_and(|(_, count, _)| count > 0), "steps for one row");
+        }
+    }
+    refused_rules(tests, &mut work);
+}
+
+/// 27 and 28 by solve and check, in every mode: nothing is written.
+fn refused_rules(tests: &mut Tests, work: &mut Work) {
+    let two = || Rules::two(1e-9, 1e-9);
+    let words = |words: [u32; 3]| {
+        let mut rules = two();
+        rules.words.extend(words);
+        rules.tolerances.push(0.5);
+        rules
+    };
+    let odd = |tolerance| two().with(Dimension::Linear, 40, 40, tolerance);
+    let again = two().with(Dimension::Angular, 30, 30, 1e-9);
+    let linear = Rules::default().with(Dimension::Linear, 0, MAX_KEY, 1e-9);
+    for (rules, refusal, what) in [
+        (words([0, 41, 40]), Refusal::Rule, "first above last"),
+        (words([2, 40, 40]), Refusal::Rule, "dimension 2"),
+        (words([1, 40, 256]), Refusal::Rule, "last key 256"),
+        (words([0, u32::MAX, u32::MAX]), Refusal::Rule, "the largest keys"),
+        (odd(-f64::from_bits(1)), Refusal::Rule, "a tolerance below zero that no row uses"),
+        (odd(f64::INFINITY), Refusal::Rule, "an infinite tolerance"),
+        (odd(f64::NAN), Refusal::Rule, "a tolerance that is NaN"),
+        (again, Refusal::RulesOfRow, "a second rule over a row"),
+        (linear, Refusal::RulesOfRow, "no rule for a row"),
+        (Rules::default(), Refusal::RulesOfRow, "no rule at all"),
+    ] {
+        let job = kinds(rules.clone());
+        for (mode, (name, control)) in ALL.iter().flat_map(|mode| MODES.map(|two| (mode, two))) {
+            let (found, _) = within(control, || outcome(&job, *mode, work));
+            let told = (found.solved, found.checked);
+            tests.expect(told == (Err(refusal), Err(refusal)), &format!("{what}, {name}"));
+            tests.expect(found.rules == [[KEPT; 3], [KEPT; 3]], "rule numbers stay");
+            let mut numbers = found.numbers.iter().zip(&job.numbers);
+            tests.expect(numbers.all(|(l, r)| *l == r.to_bits()), "multipliers stay");
+        }
+        let empty = outcome(&Job { rules, ..Job::default() }, Mode::Diagonal, work);
+        let wanted = if refusal == Refusal::Rule { Some(refusal) } else { None };
+        let told = [empty.solved.err(), empty.checked.err()];
+        tests.expect(told == [wanted; 2], "27 without rows, and no 28");
+    }
+    let mut many = two();
+    (2..MAX_RULES).for_each(|_| many = many.clone().with(Dimension::Linear, 40, 40, 0.5));
+    let most = outcome(&kinds(many.clone()), Mode::Diagonal, work);
+    tests.expect(most.solved.is_ok() && most.checked.is_ok(), "64 rules");
+    let [mut longer, mut shorter] = [two(), two()];
+    longer.words.push(0);
+    shorter.tolerances.pop();
+    for rules in [many.with(Dimension::Linear, 40, 40, 0.5), longer, shorter] {
+        let found = outcome(&kinds(rules), Mode::Diagonal, work);
+        let told = (found.solved, found.checked);
+        tests.expect(
+            told == (Err(Refusal::Length), Err(Refusal::Length)),
+            "3 by the rules' lengths",
+        );
+        tests.expect(found.rules == [[KEPT; 3], [KEPT; 3]], "rule numbers stay after 3");
+    }
+}
+
 type Tried = (Result<u32, Refusal>, Result<Checked, Refusal>);
 
-/// A solve in each mode, its count, and a check over zeros: numbers, words, masses, solution and
-/// impulses of these lengths.
-fn tried([numbers, words, masses, solution, impulses]: [usize; 5], shift: f64) -> [Tried; 3] {
+/// A solve in each mode, its count, and a check over zeros: numbers, words, masses, solution,
+/// impulses and rule numbers of these lengths.
+fn tried(
+    [numbers, words, masses, solution, impulses, rules]: [usize; 6],
+    shift: f64,
+) -> [Tried; 3] {
     let mut numbers = vec![0.0; numbers];
     let (words, masses) = (vec![0; words], vec![0.0; masses]);
     let (mut solution, mut impulses) = (vec![0.0; solution], vec![0.0; impulses]);
+    let mut rule_numbers = vec![0; rules];
     let mut tables = Tables { numbers: &mut numbers, words: &words, masses: &masses };
-    let tolerance = Tolerance { linear_m: 1.0, angular_rad: 1.0 };
+    let rules = Rules::two(1.0, 1.0);
     let mut work = Work::default();
     ALL.map(|mode| {
-        let (x, j) = (&mut solution, &mut impulses);
-        let solved = solve_position(&mut tables, tolerance, 1, mode, shift, x, j, &mut work);
-        let checked = closing_check(&tables, tolerance, &solution, &mut work);
+        let to = Delivered {
+            solution: &mut solution,
+            impulses: &mut impulses,
+            rule_numbers: &mut rule_numbers,
+        };
+        let solved = solve_position(&mut tables, &rules, 1, mode, shift, to, &mut work);
+        let checked = closing_check(&tables, &rules, &solution, &mut rule_numbers, &mut work);
         (solved.map(|answer| answer.iterations), checked)
     })
 }
@@ -245,16 +360,18 @@ fn lengths(tests: &mut Tests) {
     let refused = (Err(Refusal::Length), Err(Refusal::Length));
     let fitting = (Err(Refusal::Opening), Err(Refusal::Row)); // zeros make no row
     for (lengths, wanted, what) in [
-        ([0, 0, 0, 0, 0], accepted, "an empty job"),
-        ([0, 0, 10 * 256, 0, 6 * 256], accepted, "256 bodies"),
-        ([0, 0, 10 * 257, 0, 6 * 257], refused, "257 bodies"),
-        ([27 * 512, 8 * 512, 2560, 512, 1536], fitting, "512 rows"),
-        ([27 * 513, 8 * 513, 2560, 513, 1536], refused, "513 rows"),
-        ([26, 8, 20, 1, 12], refused, "numbers too short"),
-        ([27, 9, 20, 1, 12], refused, "words too long"),
-        ([27, 8, 21, 1, 12], refused, "masses too long"),
-        ([27, 8, 20, 0, 12], refused, "solution and multipliers too short"),
-        ([27, 8, 20, 1, 12], fitting, "one row"),
+        ([0, 0, 0, 0, 0, 0], accepted, "an empty job"),
+        ([0, 0, 10 * 256, 0, 6 * 256, 0], accepted, "256 bodies"),
+        ([0, 0, 10 * 257, 0, 6 * 257, 0], refused, "257 bodies"),
+        ([27 * 512, 8 * 512, 2560, 512, 1536, 512], fitting, "512 rows"),
+        ([27 * 513, 8 * 513, 2560, 513, 1536, 513], refused, "513 rows"),
+        ([26, 8, 20, 1, 12, 1], refused, "numbers too short"),
+        ([27, 9, 20, 1, 12, 1], refused, "words too long"),
+        ([27, 8, 21, 1, 12, 1], refused, "masses too long"),
+        ([27, 8, 20, 0, 12, 1], refused, "solution and multipliers too short"),
+        ([27, 8, 20, 1, 12, 0], refused, "rule numbers too short"),
+        ([27, 8, 20, 1, 12, 2], refused, "rule numbers too long"),
+        ([27, 8, 20, 1, 12, 1], fitting, "one row"),
     ] {
         tests.expect(tried(lengths, 0.0) == [wanted; 3], what);
         // 25 is right after 3.
@@ -262,7 +379,7 @@ fn lengths(tests: &mut Tests) {
         tests.expect(tried(lengths, f64::NAN) == [(solved, wanted.1); 3], what);
     }
     for shift in [0.0, f64::NAN] {
-        let found = tried([27, 8, 20, 1, 11], shift)[0].0;
+        let found = tried([27, 8, 20, 1, 11, 1], shift)[0].0;
         tests.expect(found == Err(Refusal::Length), "impulses too short");
     }
 }
@@ -271,9 +388,12 @@ fn main() {
     let mut tests = Tests::default();
     floating_point_modes(&mut tests);
     shifts(&mut tests);
+    rules(&mut tests);
     lengths(&mut tests);
-    let numbers = [Refusal::Length as u32, Refusal::Range as u32, Refusal::Shift as u32];
-    tests.expect(numbers == [3, 18, 25], "the numbers of refusals");
+    let refusals =
+        [Refusal::Length, Refusal::Range, Refusal::Shift, Refusal::Rule, Refusal::RulesOfRow];
+    let numbers = refusals.map(|refusal| refusal as u32);
+    tests.expect(numbers == [3, 18, 25, 27, 28], "the numbers of refusals");
     println!("{} passed, {} failed", tests.passed, tests.failed);
     std::process::exit(i32::from(tests.failed != 0));
 }

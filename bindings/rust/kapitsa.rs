@@ -12,6 +12,15 @@ compile_error!("the archive of rt staticlib kapitsa_c is for x86-64");
 pub const MAX_ROWS: usize = 512;
 pub const MAX_BODIES: usize = 256;
 pub const MAX_PAIRS: usize = 16_384;
+pub const MAX_RULES: usize = 64;
+pub const MAX_KEY: u32 = 255;
+
+#[derive(Clone, Copy, Debug, PartialEq, Eq)]
+#[repr(u32)]
+pub enum Dimension {
+    Linear = 0,
+    Angular = 1,
+}
 
 #[derive(Clone, Copy, Debug, PartialEq, Eq)]
 #[repr(u32)]
@@ -58,7 +67,7 @@ macro_rules! refusals {
 
 // MIN is 2^-1022.
 refusals! {
-    Length = 3, "a count, the mode or a slice's length does not fit";
+    Length = 3, "a count, the mode or a slice's length does not fit, or more than 64 rules";
     Word = 4, "a row has a key, dimension, flag or spare that there is not";
     Opening = 5, "rows and limit 0, or a row off, soft, driven or bounded";
     Mass = 6, "a mass number is not finite";
@@ -78,7 +87,8 @@ refusals! {
     Symmetry = 22, "inverse: two numbers are farther apart than 2^-47 allows";
     Definite = 23, "inverse: not positive definite";
     Shift = 25, "the shift is not finite, below 0 or above 1";
-    Tolerance = 26, "a tolerance is negative, NaN or infinite";
+    Rule = 27, "a rule has first above last, a dimension over 1, a last key over 255 or an odd tolerance";
+    RulesOfRow = 28, "a row is under no rule, or under several";
 }
 
 impl fmt::Display for Refusal {
@@ -89,10 +99,29 @@ impl fmt::Display for Refusal {
 
 impl std::error::Error for Refusal {}
 
-#[derive(Clone, Copy, Debug)]
-pub struct Tolerance {
-    pub linear_m: f64,
-    pub angular_rad: f64,
+/// Tolerances by kind of joint, at most `MAX_RULES`, numbered from 0: three words a rule
+/// (dimension, first key, last key), and its tolerance in metres or radians. A rule applies to the
+/// rows of its dimension whose key is from the first to the last. Each row must be under one rule
+/// and no second; keys that no row bears need none, and there rules may overlap.
+#[derive(Clone, Debug, Default)]
+pub struct Rules {
+    pub words: Vec<u32>,
+    pub tolerances: Vec<f64>,
+}
+
+impl Rules {
+    /// One tolerance for each dimension, over all keys.
+    pub fn two(linear_m: f64, angular_rad: f64) -> Self {
+        let linear = Self::default().with(Dimension::Linear, 0, MAX_KEY, linear_m);
+        linear.with(Dimension::Angular, 0, MAX_KEY, angular_rad)
+    }
+
+    /// With one rule more, behind the others.
+    pub fn with(mut self, dimension: Dimension, first: u32, last: u32, tolerance: f64) -> Self {
+        self.words.extend([dimension as u32, first, last]);
+        self.tolerances.push(tolerance);
+        self
+    }
 }
 
 #[derive(Clone, Copy, Debug, PartialEq)]
@@ -171,23 +200,31 @@ fn factor_lengths(n: usize, mode: Mode) -> (usize, usize, usize) {
     }
 }
 
-/// Solves; multipliers (in `tables.numbers`), solution (one a row) and impulses (six a body)
-/// are written only where the answer is `Ok`. In mode 1 each pivot starts from diagonal ×
+/// What a solve delivers besides the multipliers, which it writes into the rows: solution, one a
+/// row; impulses, six a body; and the number of each row's rule.
+pub struct Delivered<'a> {
+    pub solution: &'a mut [f64],
+    pub impulses: &'a mut [f64],
+    pub rule_numbers: &'a mut [u32],
+}
+
+/// Solves; multipliers (in `tables.numbers`) and what is delivered are written only where the
+/// answer is `Ok`. In mode 1 each pivot starts from diagonal ×
 /// (1 + shift): 0 is the plain factor, a little more lets rows pass that say almost the same. The
 /// other modes use no shift, but it must be from 0 to 1 there too. Not inlined, as the check: a
 /// compiler may move its caller's arithmetic past a change of the control word.
 #[inline(never)]
 pub fn solve_position(
     tables: &mut Tables,
-    tolerance: Tolerance,
+    rules: &Rules,
     limit: u32,
     mode: Mode,
     shift: f64,
-    solution: &mut [f64],
-    impulses: &mut [f64],
+    to: Delivered,
     work: &mut Work,
 ) -> Result<Answer, Refusal> {
     let (n, b) = tables.counts()?;
+    let Delivered { solution, impulses, rule_numbers } = to;
     let (pattern_len, order_len, values_len) = factor_lengths(n, mode);
     let (mut doubles, mut words) =
         work.lend(18 * n + 6 * b + values_len, 2 * n + pattern_len + order_len);
@@ -213,9 +250,11 @@ pub fn solve_position(
             tables.numbers.as_mut_ptr(), tables.numbers.len(),
             tables.words.as_ptr(), tables.words.len(),
             tables.masses.as_ptr(), tables.masses.len(),
-            tolerance.linear_m, tolerance.angular_rad,
+            rules.words.as_ptr(), rules.words.len(),
+            rules.tolerances.as_ptr(), rules.tolerances.len(),
             n as u32, b as u32, limit, mode as u32, shift,
             solution.as_mut_ptr(), solution.len(), impulses.as_mut_ptr(), impulses.len(),
+            rule_numbers.as_mut_ptr(), rule_numbers.len(),
             counts.as_mut_ptr(), counts.len(), maxima.as_mut_ptr(), maxima.len(),
             jacobians.as_mut_ptr(), jacobians.len(), links.as_mut_ptr(), links.len(),
             tolerances.as_mut_ptr(), tolerances.len(), diagonal.as_mut_ptr(), diagonal.len(),
@@ -237,12 +276,14 @@ pub fn solve_position(
     }
 }
 
-/// Measures every joint's gap from `multipliers`, the gains since the errors were measured.
+/// Measures every joint's gap from `multipliers`, the gains since the errors were measured, and
+/// judges each row by its own rule, whose number is written only where the answer is `Ok`.
 #[inline(never)]
 pub fn closing_check(
     tables: &Tables,
-    tolerance: Tolerance,
+    rules: &Rules,
     multipliers: &[f64],
+    rule_numbers: &mut [u32],
     work: &mut Work,
 ) -> Result<Checked, Refusal> {
     let (n, b) = tables.counts()?;
@@ -264,8 +305,10 @@ pub fn closing_check(
             tables.numbers.as_ptr(), tables.numbers.len(),
             tables.words.as_ptr(), tables.words.len(),
             tables.masses.as_ptr(), tables.masses.len(),
-            tolerance.linear_m, tolerance.angular_rad, n as u32, b as u32,
-            multipliers.as_ptr(), multipliers.len(), verdict.as_mut_ptr(), verdict.len(),
+            rules.words.as_ptr(), rules.words.len(),
+            rules.tolerances.as_ptr(), rules.tolerances.len(), n as u32, b as u32,
+            multipliers.as_ptr(), multipliers.len(),
+            rule_numbers.as_mut_ptr(), rule_numbers.len(), verdict.as_mut_ptr(), verdict.len(),
             gap.as_mut_ptr(), gap.len(),
             jacobians.as_mut_ptr(), jacobians.len(), links.as_mut_ptr(), links.len(),
             mass_sizes.as_mut_ptr(), mass_sizes.len(),
@@ -333,10 +376,11 @@ fn load_control(word: u32) {
 unsafe extern "C" {
     fn kapitsa_solve_position(
         numbers: *mut f64, numbers_len: usize, words: *const u32, words_len: usize,
-        masses: *const f64, masses_len: usize,
-        linear_tolerance: f64, angular_tolerance: f64,
+        masses: *const f64, masses_len: usize, rule_words: *const u32, rule_words_len: usize,
+        rule_tolerances: *const f64, rule_tolerances_len: usize,
         rows: u32, bodies: u32, limit: u32, mode: u32, shift: f64,
         solution: *mut f64, solution_len: usize, impulses: *mut f64, impulses_len: usize,
+        rule_numbers: *mut u32, rule_numbers_len: usize,
         counts: *mut u32, counts_len: usize, maxima: *mut f64, maxima_len: usize,
         jacobians: *mut f64, jacobians_len: usize, links: *mut u32, links_len: usize,
         tolerances: *mut f64, tolerances_len: usize, diagonal: *mut f64, diagonal_len: usize,
@@ -352,9 +396,10 @@ unsafe extern "C" {
 
     fn kapitsa_closing_check(
         numbers: *const f64, numbers_len: usize, words: *const u32, words_len: usize,
-        masses: *const f64, masses_len: usize,
-        linear_tolerance: f64, angular_tolerance: f64, rows: u32, bodies: u32,
-        multipliers: *const f64, multipliers_len: usize, verdict: *mut u32, verdict_len: usize,
+        masses: *const f64, masses_len: usize, rule_words: *const u32, rule_words_len: usize,
+        rule_tolerances: *const f64, rule_tolerances_len: usize, rows: u32, bodies: u32,
+        multipliers: *const f64, multipliers_len: usize,
+        rule_numbers: *mut u32, rule_numbers_len: usize, verdict: *mut u32, verdict_len: usize,
         gap: *mut f64, gap_len: usize,
         jacobians: *mut f64, jacobians_len: usize, links: *mut u32, links_len: usize,
         mass_sizes: *mut f64, mass_sizes_len: usize,

@@ -1,15 +1,15 @@
 #!/usr/bin/env python3
 """Closing checks worked in exact rational arithmetic.
 
-Written from document 01 ("The closing check", refusals 3, 4, 6, 7, 18) and 02 (26, the gap) alone: every operation
-is done on fractions, and where the document rounds, the exact result is rounded to the nearest double once. For each
-check the exact gap is formed as well, and what verdict and measured gap mean is tested on it before the check is
-listed.
+Written from document 01 ("The closing check", refusals 3, 4, 6, 7, 18) and 02 (27, the gap) alone, the two
+tolerances taken as two rules over keys 0 to 255, so that 28 finds nothing wrong: every operation is done on
+fractions, and where the document rounds, the exact result is rounded to the nearest double once. For each check the
+exact gap is formed as well, and what verdict and measured gap mean is tested on it before the check is listed.
 
     cd crates/closing_recorded && ../../oracle/closing/record.py > stdin 2> stdout
 
 `stdin` is the list and `stdout` what the program must print of it. First come 1,500 drawn checks, then those that
-are not drawn: two refusals at once, the largest counts and one beyond, tolerances on both sides of 26 and at the
+are not drawn: two refusals at once, the largest counts and one beyond, tolerances on both sides of 27 and at the
 reach.
 
 A check is a run of 64-bit words, little end first: its length in bytes, rows n, bodies b, the linear and the
@@ -106,7 +106,8 @@ def passes_4(word):
     return word[0] <= 255 and all(word[i] <= 1 for i in (1, 4, 5)) and word[7] == 0
 
 
-def passes_26(tolerance):
+def passes_27(tolerance):
+    """Of a rule over all keys of its dimension nothing else can be odd."""
     return math.isfinite(tolerance) and tolerance >= 0.0
 
 
@@ -157,8 +158,8 @@ def refusal(sheet):
         return 3
     if not all(map(passes_4, sheet.words)):
         return 4
-    if not all(map(passes_26, sheet.tolerances)):
-        return 26
+    if not all(map(passes_27, sheet.tolerances)):
+        return 27
     if not all(math.isfinite(x) for mass in sheet.masses for x in mass):
         return 6
     if not all(passes_7(row, word, bodies) for row, word in zip(sheet.numbers, sheet.words)):
@@ -308,7 +309,7 @@ LEAST = math.nextafter(0.0, 1.0)
 # What each refusal looks at and those before it do not, in the order in which they are judged.
 FAULTS = {
     4: [put(("words", at), value) for at, value in ((0, 256), (1, 2), (4, 2), (5, 2), (7, 1))],
-    26: [put(("tolerances", 0), value) for value in (-LEAST, math.nan, math.inf)],
+    27: [put(("tolerances", 0), value) for value in (-LEAST, math.nan, math.inf)],
     6: [put(("masses", 0), math.nan), put(("masses", 4), math.inf), put(("masses", 9), -math.inf)],
     7: [
         put(("numbers", 6), math.nan),
@@ -358,7 +359,7 @@ def counts():
 
 
 def without_rows():
-    """Closed at any tolerance that 26 lets pass; 3, 6 and 18 look at the masses still."""
+    """Closed at any tolerance that 27 lets pass; 3, 6 and 18 look at the masses still."""
     for tolerances in ([math.nan, -1.0], [0.0, 0.0], [-math.inf, 1.0], [-0.0, LEAST], [1.0, math.inf], [-LEAST, 0.0]):
         sheet = plain_sheet(0, 2)
         sheet.tolerances = tolerances
@@ -371,8 +372,8 @@ def without_rows():
         yield sheet
 
 
-def at_26():
-    """26 by one tolerance alone, and what it lets pass: a gap of 0 closes at −0.0."""
+def at_27():
+    """27 by one tolerance alone, and what it lets pass: a gap of 0 closes at −0.0."""
     passing, odd = (0.0, -0.0, LEAST, sys.float_info.max), (-LEAST, -1.0, -math.inf, math.inf, math.nan)
     for value, place in itertools.product(passing + odd, (0, 1)):
         sheet = plain_sheet(2, 2)
@@ -380,7 +381,7 @@ def at_26():
             row[ERROR] = 0.0
         sheet.multipliers = [0.0, 0.0]
         sheet.tolerances[place] = value
-        assert answer(sheet) == (1 if value in passing else 26)
+        assert answer(sheet) == (1 if value in passing else 27)
         yield sheet
 
 
@@ -413,7 +414,7 @@ def not_drawn(chance):
     yield from all_faults(plain_sheet(3, 3))
     yield from counts()
     yield from without_rows()
-    yield from at_26()
+    yield from at_27()
     for rows in (5, 6, 7, 8):
         for bodies in (2, 3, 4, 2):
             yield from at_own_reach(rows, bodies, [chance.uniform(-2.0, 2.0) for _ in range(40)], chance)
@@ -433,7 +434,7 @@ def words_of(sheet, told, gap):
     return [8 * (len(words) + 1), *words]
 
 
-PRINTED = {1: "closed", 0: "open", **{number: f"refused by {number}" for number in (3, 4, 26, 6, 7, 18)}}
+PRINTED = {1: "closed", 0: "open", **{number: f"refused by {number}" for number in (3, 4, 27, 6, 7, 18)}}
 
 
 def main():

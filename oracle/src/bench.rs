@@ -2,8 +2,8 @@
 //! implementation if one is given; and of an implementation's closing check. Buffers stay
 //! warm; nothing but the solve or the check is timed.
 
-use crate::generator::{Shape, joined};
-use crate::implementation::Implementation;
+use crate::generator::{Shape, joined, split};
+use crate::implementation::{Implementation, Outputs};
 use crate::job::*;
 use crate::random::Random;
 use std::hint::black_box;
@@ -133,12 +133,30 @@ fn untimed(job: &Job) -> Solve<'_> {
 }
 
 fn implemented<'a>(implementation: &'a Implementation, job: &Job) -> Solve<'a> {
-    let mut job = job.clone();
-    let mut solution = vec![0.0; job.rows as usize];
-    let mut impulses = vec![0.0; IMPULSE_NUMBERS * job.bodies as usize];
+    let (mut job, rules) = (job.clone(), job.rules());
+    let mut to = Outputs {
+        solution: vec![0.0; job.rows as usize],
+        impulses: vec![0.0; IMPULSE_NUMBERS * job.bodies as usize],
+        rule_numbers: vec![0; job.rows as usize],
+    };
     Box::new(move || {
-        black_box(implementation.solve(&mut job, &mut solution, &mut impulses));
+        black_box(implementation.solve(&mut job, &rules, &mut to));
     })
+}
+
+/// The same job under 64 rules, 32 of each dimension, all keys in use; they agree, so that the
+/// Rust, which has none, does the same steps.
+fn under_64_rules(job: Job) -> Job {
+    let mut random = Random::of(7, 64);
+    let mut rules = Rules::default();
+    for dimension in 0..2 {
+        for [first, last] in split(MOST_RULES / 2, &mut random) {
+            rules.push(dimension, first, last, job.tolerances[dimension as usize]);
+        }
+    }
+    let mut job = Job { rules: Some(rules), ..job };
+    (0..job.rows).for_each(|row| job.set_word(row as usize, KEY, row % (MOST_KEY + 1)));
+    job
 }
 
 const HEAD: &str = "| job | rows | mode | count | published min | median | untimed min | median |";
@@ -157,6 +175,16 @@ pub fn table(library: Option<&str>) -> Result<bool, String> {
             let job = mechanism(shape, joints, rows_a_joint, mode);
             let label = format!("{name} {joints}×{rows_a_joint}");
             print_row(&label, &job, implementation.as_ref());
+        }
+        // 512 rows under 64 rules; at tolerance 1 no step is made, and the rules weigh most.
+        let job = mechanism(Shape::Chain, 128, 4, mode);
+        let met = Job { tolerances: [1.0; 2], ..job.clone() };
+        for (label, job) in [
+            ("chain 128×4, 64 rules", under_64_rules(job)),
+            ("chain 128×4, met at once", met.clone()),
+            ("chain 128×4, met at once, 64 rules", under_64_rules(met)),
+        ] {
+            print_row(label, &job, implementation.as_ref());
         }
     }
     Ok(true)
@@ -185,21 +213,28 @@ fn short(value: f64) -> String {
     format!("{value:.places$}")
 }
 
-/// The closing check of 512 rows on 256 bodies, with the solve's own multipliers, beside
-/// three products of the reference's operator on the same table and list.
+/// The closing check of 512 rows on 256 bodies, with the solve's own multipliers, under two rules
+/// and under 64, beside three products of the reference's operator on the same table and list.
 pub fn closing(library: &str) -> Result<bool, String> {
     let own = Implementation::open(library)?;
     let job = mechanism(Shape::Loop, 256, 2, INCOMPLETE_CHOLESKY);
     let list = crate::model::solve(&job).solution;
-    let [refusal, closed, ..] = own.close(&job, &list);
-    if refusal != 0 {
+    let ruled = under_64_rules(job.clone());
+    let (two, many) = (job.rules(), ruled.rules());
+    let [mut numbers, mut more] = [(); 2].map(|()| vec![0; job.rows as usize]);
+    let [refusal, closed, ..] = own.close(&job, &two, &list, &mut numbers);
+    let [again, ..] = own.close(&ruled, &many, &list, &mut more);
+    if let Some(refusal) = [refusal, again].into_iter().find(|refusal| *refusal != 0) {
         return Err(format!("the check is refused by {refusal}: no time of a verdict"));
     }
     let mut operator = reference::Operator::new(&job.numbers, &job.words, &job.masses);
     operator.product(&list).map_err(|error| format!("{error:?}"))?;
     let solves: Vec<Solve> = vec![
         Box::new(|| {
-            black_box(own.close(&job, black_box(&list)));
+            black_box(own.close(&job, &two, black_box(&list), &mut numbers));
+        }),
+        Box::new(|| {
+            black_box(own.close(&ruled, &many, black_box(&list), &mut more));
         }),
         Box::new(|| {
             for _ in 0..3 {
@@ -209,7 +244,7 @@ pub fn closing(library: &str) -> Result<bool, String> {
     ];
     let verdict = if closed == 1 { "closed" } else { "open" };
     println!("{} rows, {} bodies: {verdict}; µs, minimum and median", job.rows, job.bodies);
-    let names = ["closing check", "three products of the Rust"];
+    let names = ["closing check", "under 64 rules", "three products of the Rust"];
     for (name, times) in names.iter().zip(&times(solves)) {
         println!("{name}: {} {}", short(times.minimum), short(times.median));
     }

@@ -7,7 +7,7 @@ mod job;
 mod judge;
 mod model;
 
-use job::{Answer, Job, MULTIPLIER, ROW_NUMBERS};
+use job::{Answer, Job, MULTIPLIER, ROW_NUMBERS, Rules};
 use std::slice::{from_raw_parts, from_raw_parts_mut};
 
 /// The reference and the model differ: an answer that no job has.
@@ -22,28 +22,46 @@ pub unsafe extern "C" fn kapitsa_solve_position(
     numbers: *mut f64, numbers_len: usize,
     words: *const u32, words_len: usize,
     masses: *const f64, masses_len: usize,
-    linear_tolerance: f64, angular_tolerance: f64,
+    rule_words: *const u32, rule_words_len: usize,
+    rule_tolerances: *const f64, rule_tolerances_len: usize,
     rows: u32, bodies: u32, limit: u32, mode: u32, shift: f64,
     solution: *mut f64, solution_len: usize,
     impulses: *mut f64, impulses_len: usize,
+    rule_numbers: *mut u32, rule_numbers_len: usize,
     answer: *mut u64, answer_len: usize,
 ) {
     let numbers = unsafe { from_raw_parts_mut(numbers, numbers_len) };
-    let solution = unsafe { from_raw_parts_mut(solution, solution_len) };
-    let impulses = unsafe { from_raw_parts_mut(impulses, impulses_len) };
+    let to = Outputs {
+        solution: unsafe { from_raw_parts_mut(solution, solution_len) },
+        impulses: unsafe { from_raw_parts_mut(impulses, impulses_len) },
+        rule_numbers: unsafe { from_raw_parts_mut(rule_numbers, rule_numbers_len) },
+    };
     let answer = unsafe { from_raw_parts_mut(answer, answer_len) };
+    let rules = Rules {
+        words: unsafe { from_raw_parts(rule_words, rule_words_len) }.to_vec(),
+        tolerances: unsafe { from_raw_parts(rule_tolerances, rule_tolerances_len) }.to_vec(),
+    };
     let job = Job {
         numbers: numbers.to_vec(),
         words: unsafe { from_raw_parts(words, words_len) }.to_vec(),
         masses: unsafe { from_raw_parts(masses, masses_len) }.to_vec(),
-        tolerances: [linear_tolerance, angular_tolerance],
+        rules: Some(rules),
         rows, bodies, limit, mode, shift,
+        ..Job::default()
     };
-    answer.copy_from_slice(&solve(&job, numbers, solution, impulses));
+    answer.copy_from_slice(&solve(&job, numbers, to));
 }
 
-fn solve(job: &Job, numbers: &mut [f64], solution: &mut [f64], impulses: &mut [f64]) -> [u64; 5] {
-    if solution.len() != job.rows as usize || impulses.len() != 6 * job.bodies as usize {
+struct Outputs<'a> {
+    solution: &'a mut [f64],
+    impulses: &'a mut [f64],
+    rule_numbers: &'a mut [u32],
+}
+
+fn solve(job: &Job, numbers: &mut [f64], to: Outputs) -> [u64; 5] {
+    let (rows, bodies) = (job.rows as usize, job.bodies as usize);
+    let lengths = [to.solution.len(), to.impulses.len(), to.rule_numbers.len()];
+    if lengths != [rows, 6 * bodies, rows] {
         return Answer::Refused(3).words();
     }
     let judged = judge::judge(job);
@@ -52,8 +70,9 @@ fn solve(job: &Job, numbers: &mut [f64], solution: &mut [f64], impulses: &mut [f
     }
     let solved = judged.solved;
     if let Answer::Accepted { .. } = solved.answer {
-        solution.copy_from_slice(&solved.solution);
-        impulses.copy_from_slice(&solved.impulses);
+        to.solution.copy_from_slice(&solved.solution);
+        to.impulses.copy_from_slice(&solved.impulses);
+        to.rule_numbers.copy_from_slice(&solved.rules);
         for (row, multiplier) in numbers.chunks_exact_mut(ROW_NUMBERS).zip(solved.multipliers) {
             row[MULTIPLIER] = multiplier;
         }
@@ -70,19 +89,32 @@ pub unsafe extern "C" fn kapitsa_closing_check(
     numbers: *const f64, numbers_len: usize,
     words: *const u32, words_len: usize,
     masses: *const f64, masses_len: usize,
-    linear_tolerance: f64, angular_tolerance: f64,
+    rule_words: *const u32, rule_words_len: usize,
+    rule_tolerances: *const f64, rule_tolerances_len: usize,
     rows: u32, bodies: u32,
     multipliers: *const f64, multipliers_len: usize,
+    rule_numbers: *mut u32, rule_numbers_len: usize,
     answer: *mut u64, answer_len: usize,
 ) {
+    let rules = Rules {
+        words: unsafe { from_raw_parts(rule_words, rule_words_len) }.to_vec(),
+        tolerances: unsafe { from_raw_parts(rule_tolerances, rule_tolerances_len) }.to_vec(),
+    };
     let job = Job {
         numbers: unsafe { from_raw_parts(numbers, numbers_len) }.to_vec(),
         words: unsafe { from_raw_parts(words, words_len) }.to_vec(),
         masses: unsafe { from_raw_parts(masses, masses_len) }.to_vec(),
-        tolerances: [linear_tolerance, angular_tolerance],
-        rows, bodies, limit: 0, mode: 0, shift: 0.0,
+        rules: Some(rules),
+        rows, bodies,
+        ..Job::default()
     };
     let list = unsafe { from_raw_parts(multipliers, multipliers_len) };
+    let rule_numbers = unsafe { from_raw_parts_mut(rule_numbers, rule_numbers_len) };
     let answer = unsafe { from_raw_parts_mut(answer, answer_len) };
-    answer.copy_from_slice(&model::check_words(&model::closing_check(&job, list)));
+    let fits = rule_numbers.len() == rows as usize;
+    let checked = if fits { model::closing_check(&job, list) } else { Err(3) };
+    if let Ok(found) = &checked {
+        rule_numbers.copy_from_slice(&found.rules);
+    }
+    answer.copy_from_slice(&model::check_words(&checked));
 }

@@ -1,4 +1,4 @@
-//! Lists of multipliers and tolerances for the closing check.
+//! Lists of multipliers, and tolerances, for the closing check.
 
 use crate::job::{Job, ROW_NUMBERS, Solved, two};
 use crate::model::{self, Checked};
@@ -33,11 +33,27 @@ fn edge(random: &mut Random) -> f64 {
     if random.chance(80) { random.sign() * random.pick(&sizes) } else { random.pick(&odd) }
 }
 
-/// Both tolerances at the largest reach, or one unit below it.
+/// Both tolerances at the largest reach, or one unit below it; where there are rules, each at the
+/// largest reach of its own rows, and one of them perhaps a unit below.
 fn at_reach(job: &mut Job, list: &[f64], random: &mut Random) {
-    if let Ok(Checked { gap: [linear, angular], .. }) = model::closing_check(job, list) {
+    let Ok(Checked { gap: [linear, angular], rules: numbers, measured, .. }) =
+        model::closing_check(job, list)
+    else {
+        return;
+    };
+    let Some(rules) = &mut job.rules else {
         let largest = linear.max(angular);
         let tolerance = if random.chance(50) { largest } else { largest.next_down() };
         job.tolerances = [tolerance; 2];
+        return;
+    };
+    rules.tolerances.fill(0.0);
+    for (number, found) in numbers.iter().zip(&measured) {
+        let tolerance = &mut rules.tolerances[*number as usize];
+        *tolerance = tolerance.max(found.reach());
+    }
+    if !numbers.is_empty() && random.chance(50) {
+        let tolerance = &mut rules.tolerances[random.pick(&numbers) as usize];
+        *tolerance = if *tolerance > 0.0 { tolerance.next_down() } else { *tolerance };
     }
 }

@@ -21,7 +21,7 @@ struct Seen {
     bodies: u32,
     refusal: u32,
     odd_tolerance: bool,
-    /// What a job that is refused by 26 would be refused by at tolerance 0.
+    /// What a job that is refused by 27 would be refused by at tolerance 0.
     else_by: u32,
     /// A tolerance is −0.0, and the job is not refused.
     minus_zero: bool,
@@ -50,7 +50,7 @@ impl Seen {
         seen.odd_tolerance = !tolerances_fit(job);
         let minus_zero = |value: &f64| value.to_bits() == (-0.0_f64).to_bits();
         seen.minus_zero = refusal == 0 && job.tolerances.iter().any(minus_zero);
-        if refusal == 26 {
+        if refusal == 27 {
             seen.else_by = solve(&Job { tolerances: [0.0; 2], ..job.clone() }).answer.refusal();
         }
         if let Some((table, begun)) = at_factor(job) {

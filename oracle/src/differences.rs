@@ -37,6 +37,18 @@ fn refusals() -> Vec<Difference> {
     push_x_row(&mut worn, 0, 1, -0.25);
     worn.set(1, LINEAR_A, &[1.0, two(-28), 0.0]);
     let at = |tolerances, job: Job| Job { tolerances, ..job };
+    let under = |rules: &[(u32, u32, u32, f64)], job: Job| {
+        let mut table = Rules::default();
+        rules.iter().for_each(|rule| table.push(rule.0, rule.1, rule.2, rule.3));
+        Job { rules: Some(table), ..job }
+    };
+    let unused = under(&[(0, 0, 255, 0.001), (1, 7, 6, 0.001)], p1());
+    let none = under(&[(0, 1, 255, 0.001), (1, 0, 255, 0.001)], p1());
+    let twice = under(&[(0, 0, 255, 0.001), (0, 0, 0, 0.001)], p1());
+    let mut kinds = chain_along_x(1.0, &[-1.0, 0.0]);
+    kinds.set_word(1, KEY, 7);
+    let kinds = under(&[(0, 0, 6, 0.001), (0, 7, 7, 1.0)], kinds);
+    let kinds = Job { limit: 1, ..kinds };
     let named = |name, input, job| Difference { name, input, job };
     vec![
         named("17-bodies", "P1, inverse masses 2^-1000, multiplier the largest double", moved),
@@ -50,6 +62,10 @@ fn refusals() -> Vec<Difference> {
         named("26-infinite", "P1, linear tolerance infinite", at([f64::INFINITY, 0.001], p1())),
         named("26-nan", "P1, angular tolerance NaN", at([0.001, f64::NAN], p1())),
         named("26-no-rows", "no rows, tolerances -1", at([-1.0; 2], Job::default())),
+        named("27", "P1, a second rule over keys 7 to 6, which no row uses", unused),
+        named("28-none", "P1, whose key is 0, under rules over keys 1 to 255", none),
+        named("28-several", "P1, a second rule over key 0", twice),
+        named("rules", "P4, limit 1, the second row's key 7, tolerance 1 for that key", kinds),
         named("25", "P1 with shift 1.5", Job { shift: 1.5, ..p1() }),
         named("shift", "P1's row and one with linear_a (1, 2^-28, 0), mode 1, shift 2^-20", worn),
     ]
@@ -96,8 +112,9 @@ pub fn run() -> bool {
     for difference in refusals().iter().chain(&methods()) {
         println!("{}: {}", difference.name, difference.input);
         println!("  Rust:        {}", rust(&difference.job));
-        // Neither the Rust nor document 01 has a shift or judges a tolerance.
-        let same = difference.job.shift == 0.0 && model::tolerances_fit(&difference.job);
+        // Neither the Rust nor document 01 has a shift or rules, or judges a tolerance.
+        let Job { rules, shift, .. } = &difference.job;
+        let same = rules.is_none() && *shift == 0.0 && model::tolerances_fit(&difference.job);
         let measure = if same { "01" } else { "02" };
         println!("  document {measure}: {}", document(&difference.job));
     }
@@ -105,8 +122,10 @@ pub fn run() -> bool {
     true
 }
 
+/// What a caller that lends rules is told, and without rules what the job program prints.
 fn document(job: &Job) -> String {
-    let solved = model::solve(job);
+    let solve = if job.rules.is_some() { model::solve } else { model::solve_file };
+    let solved = solve(job);
     match solved.answer {
         Answer::Refused(number) => format!("refusal {number}, nothing written"),
         Answer::Accepted { flag, count, linear, angular } => {
@@ -120,8 +139,8 @@ fn document(job: &Job) -> String {
 fn check(job: &Job, list: &[f64]) -> String {
     match model::closing_check(job, list) {
         Err(refusal) => format!("check refuses by {refusal}"),
-        Ok(Checked { closed, gap: [linear, angular] }) => {
-            let sizes = model::measure(job, list).into_iter().map(|found| found.r.abs());
+        Ok(Checked { closed, gap: [linear, angular], measured, .. }) => {
+            let sizes = measured.into_iter().map(|found| found.r.abs());
             let (largest, verdict) =
                 (sizes.fold(0.0, f64::max), if closed { "closed" } else { "open" });
             format!("check {verdict}, |r| {largest:e}, gap {linear:e} {angular:e}")
@@ -130,7 +149,7 @@ fn check(job: &Job, list: &[f64]) -> String {
 }
 
 fn rust(job: &Job) -> String {
-    let (outcome, prepared) = run_reference(job);
+    let (outcome, prepared) = run_reference(job, job.tolerances);
     let told = match outcome {
         Outcome::Accepted { count, converged, linear, angular } => {
             return accepted(converged, count, linear, angular, prepared.solution());

@@ -1,8 +1,8 @@
 //! The differential driver: an implementation against the judge, job by job.
 
 use crate::closing_jobs::closing_job;
-use crate::generator::{Sizes, job, shifted};
-use crate::implementation::Implementation;
+use crate::generator::{Sizes, job, ruled, shifted};
+use crate::implementation::{Implementation, Outputs};
 use crate::job::{Answer, INCOMPLETE_CHOLESKY, Job, MULTIPLIER, ROW_NUMBERS, Solved, same_bits};
 use crate::judge::judge;
 use crate::random::Random;
@@ -13,6 +13,7 @@ use std::path::Path;
 
 /// Fills lent outputs beforehand: what stays as it was shows.
 const UNTOUCHED: f64 = f64::from_bits(0x7ff8_0000_5eed_5eed);
+const UNTOUCHED_WORD: u32 = 0x5eed_5eed;
 
 /// Prints each mismatch and the closing line; true where there is none.
 pub fn run(library: &str, jobs: u64, seed: u64, home: &Path) -> Result<bool, String> {
@@ -22,6 +23,12 @@ pub fn run(library: &str, jobs: u64, seed: u64, home: &Path) -> Result<bool, Str
 /// The same with a shift for each job. Those of shift 0 are held to the Rust too.
 pub fn shifts(library: &str, jobs: u64, seed: u64, home: &Path) -> Result<bool, String> {
     drive(library, jobs, seed, home, shifted)
+}
+
+/// The same with a table of rules for each job. Where the rules of a dimension agree, it is held to
+/// the Rust too.
+pub fn rules(library: &str, jobs: u64, seed: u64, home: &Path) -> Result<bool, String> {
+    drive(library, jobs, seed, home, ruled)
 }
 
 /// The jobs of a seed, each as `draw` has it.
@@ -48,20 +55,19 @@ fn drive(
         effect.add(&job, &solved);
         let name = format!("{seed}-{index}");
         if !found.is_empty() {
-            println!("job {name}, shift {:e}: {}", job.shift, found.join("; "));
+            println!("job {name}, shift {:e}, {:?}: {}", job.shift, job.rules, found.join("; "));
             save(home, &format!("{name}.job"), &job_file::write(&job))?;
         }
         let (closing, list) = closing_job(&job, &solved, &mut random);
-        let (wanted, given) = compare_check(&implementation, &closing, &list);
-        let cleared = implementation.cleared();
-        *verdicts.entry([wanted[0], wanted[1]]).or_insert(0) += 1;
-        if given != wanted || !cleared {
-            println!("closing check {name}: {given:x?}, wanted {wanted:x?}; cleared: {cleared}");
+        let (told, differ) = compare_check(&implementation, &closing, &list, &mut random);
+        *verdicts.entry(told).or_insert(0) += 1;
+        if !differ.is_empty() {
+            println!("closing check {name}, {:?}: {}", closing.rules, differ.join("; "));
             let listed: Vec<u8> = list.iter().flat_map(|value| value.to_le_bytes()).collect();
             save(home, &format!("{name}-closing.job"), &job_file::write(&closing))?;
             save(home, &format!("{name}-closing.list"), &listed)?;
         }
-        mismatches += u64::from(!found.is_empty() || given != wanted || !cleared);
+        mismatches += u64::from(!found.is_empty() || !differ.is_empty());
     }
     if implementation.solves() {
         solves.print();
@@ -72,16 +78,25 @@ fn drive(
     Ok(mismatches == 0)
 }
 
-/// What the shifts of the jobs come to.
+/// What the shifts and the rules of the jobs come to.
 #[derive(Default)]
 struct Effect {
     shifted: u64,
     changed: u64,
     instead_of_13: u64,
+    ruled: u64,
+    agreeing: u64,
+    by_rules: u64,
 }
 
 impl Effect {
     fn add(&mut self, job: &Job, solved: &Solved) {
+        if job.rules.is_some() && !matches!(solved.answer.refusal(), 3 | 25 | 4 | 27 | 28) {
+            let plain = model::solve(&Job { rules: None, ..job.clone() });
+            self.ruled += 1;
+            self.agreeing += u64::from(model::agreed(job).is_some());
+            self.by_rules += u64::from(plain.answer.words() != solved.answer.words());
+        }
         if job.shift == 0.0 {
             return;
         }
@@ -102,12 +117,47 @@ impl Effect {
                 self.shifted, self.changed, self.instead_of_13
             );
         }
+        if self.ruled > 0 {
+            println!(
+                "rules: {} tables let pass, {} of them agreeing, {} with another answer than at the two tolerances",
+                self.ruled, self.agreeing, self.by_rules
+            );
+        }
     }
 }
 
-/// The check as the model has it, and as the implementation has it, the bits of the gap too.
-fn compare_check(own: &Implementation, job: &Job, list: &[f64]) -> ([u64; 4], [u64; 4]) {
-    (model::check_words(&model::closing_check(job, list)), own.close(job, list))
+/// A check: refusal and verdict as the model has them, and every difference from it, the bits of
+/// the gap and the rule numbers too.
+fn compare_check(
+    own: &Implementation,
+    job: &Job,
+    list: &[f64],
+    random: &mut Random,
+) -> ([u64; 2], Vec<String>) {
+    let short = usize::from(random.below(200) == 0);
+    let rows = job.rows.min(600) as usize;
+    let mut numbers = vec![UNTOUCHED_WORD; rows.saturating_sub(short)];
+    let fits = numbers.len() == job.rows as usize;
+    let checked = if fits { model::closing_check(job, list) } else { Err(3) };
+    let wanted = model::check_words(&checked);
+    let given = own.close(job, &job.rules(), list, &mut numbers);
+    let mut found = Vec::new();
+    if given != wanted {
+        found.push(format!("{given:x?}, wanted {wanted:x?}"));
+    }
+    if !as_judged(&numbers, checked.as_ref().ok().map(|checked| &checked.rules[..])) {
+        found.push("rule numbers".to_string());
+    }
+    if !own.cleared() {
+        found.push("work memory is not cleared".to_string());
+    }
+    ([wanted[0], wanted[1]], found)
+}
+
+/// Rule numbers are these, or as they were where there are none.
+fn as_judged(numbers: &[u32], wanted: Option<&[u32]>) -> bool {
+    let untouched = || numbers.iter().all(|number| *number == UNTOUCHED_WORD);
+    wanted.map_or_else(untouched, |wanted| numbers == wanted)
 }
 
 fn print_verdicts(verdicts: &BTreeMap<[u64; 2], u64>) {
@@ -127,19 +177,15 @@ fn compare_solve(
     job: &Job,
     random: &mut Random,
 ) -> (Solved, Vec<String>) {
-    let short = usize::from(random.below(200) == 0);
-    let lent = |count: u32, each: usize| (each * count.min(600) as usize).saturating_sub(short);
-    let mut solution = vec![UNTOUCHED; lent(job.rows, 1)];
-    let mut impulses = vec![UNTOUCHED; lent(job.bodies, 6)];
-    let fits = solution.len() == job.rows as usize && impulses.len() == 6 * job.bodies as usize;
+    let (mut to, fits) = outputs(job, random);
     let judged = judge(job);
     let wanted = if fits { judged.solved } else { Solved::refused(3) };
     if !implementation.solves() {
         return (wanted, judged.dispute.into_iter().collect());
     }
     let mut given = job.clone();
-    let answer = implementation.solve(&mut given, &mut solution, &mut impulses);
-    let mut found = differences(job, &wanted, answer, &given, &solution, &impulses);
+    let answer = implementation.solve(&mut given, &job.rules(), &mut to);
+    let mut found = differences(job, &wanted, answer, &given, &to);
     if !implementation.cleared() {
         found.push("work memory is not cleared".to_string());
     }
@@ -147,13 +193,28 @@ fn compare_solve(
     (wanted, found)
 }
 
+/// The outputs of a solve, one of them now and then too short; and whether all fit.
+fn outputs(job: &Job, random: &mut Random) -> (Outputs, bool) {
+    let which = if random.below(200) == 0 { random.below(3) } else { 3 };
+    let lent = |place: usize, count: u32, each: usize| {
+        (each * count.min(600) as usize).saturating_sub(usize::from(place == which))
+    };
+    let to = Outputs {
+        solution: vec![UNTOUCHED; lent(0, job.rows, 1)],
+        impulses: vec![UNTOUCHED; lent(1, job.bodies, 6)],
+        rule_numbers: vec![UNTOUCHED_WORD; lent(2, job.rows, 1)],
+    };
+    let (rows, bodies) = (job.rows as usize, job.bodies as usize);
+    let lengths = [to.solution.len(), to.impulses.len(), to.rule_numbers.len()];
+    (to, lengths == [rows, 6 * bodies, rows])
+}
+
 fn differences(
     job: &Job,
     wanted: &Solved,
     answer: [u64; 5],
     given: &Job,
-    solution: &[f64],
-    impulses: &[f64],
+    to: &Outputs,
 ) -> Vec<String> {
     let mut found = Vec::new();
     let mut hold = |same: bool, what: &str| {
@@ -165,11 +226,13 @@ fn differences(
     hold(answer == words, &format!("answer {answer:x?}, wanted {words:x?}"));
     hold(same_bits(&given.numbers, &after(job, wanted)), "multipliers or row numbers");
     if let Answer::Accepted { .. } = wanted.answer {
-        hold(same_bits(solution, &wanted.solution), "solution");
-        hold(same_bits(impulses, &wanted.impulses), "impulses");
+        hold(same_bits(&to.solution, &wanted.solution), "solution");
+        hold(same_bits(&to.impulses, &wanted.impulses), "impulses");
+        hold(as_judged(&to.rule_numbers, Some(&wanted.rules)), "rule numbers");
     } else {
-        hold(untouched(solution), "solution was written after a refusal");
-        hold(untouched(impulses), "impulses were written after a refusal");
+        hold(untouched(&to.solution), "solution was written after a refusal");
+        hold(untouched(&to.impulses), "impulses were written after a refusal");
+        hold(as_judged(&to.rule_numbers, None), "rule numbers were written after a refusal");
     }
     found
 }

@@ -9,6 +9,7 @@ mod large;
 mod mechanism;
 mod overflows;
 mod pins;
+mod rules;
 mod shifts;
 mod thresholds;
 
@@ -17,6 +18,7 @@ pub use fixed::fixed;
 pub use large::star;
 pub use mechanism::{Shape, joined};
 pub use pins::pin;
+pub use rules::{ruled, split};
 pub use shifts::shifted;
 
 use crate::job::Job;

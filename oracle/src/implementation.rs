@@ -1,23 +1,31 @@
 //! An implementation under test: its C functions, out of a shared library. It may lack the
 //! solve, and may tell whether its work memory is cleared.
 
-use crate::job::Job;
+use crate::job::{Job, Rules};
 use crate::library::Library;
 use std::ffi::{c_int, c_void};
 
 #[rustfmt::skip]
 type Solve = unsafe extern "C" fn(
     *mut f64, usize, *const u32, usize, *const f64, usize,
-    f64, f64, u32, u32, u32, u32, f64,
-    *mut f64, usize, *mut f64, usize, *mut u64, usize,
+    *const u32, usize, *const f64, usize, u32, u32, u32, u32, f64,
+    *mut f64, usize, *mut f64, usize, *mut u32, usize, *mut u64, usize,
 );
 #[rustfmt::skip]
 type Close = unsafe extern "C" fn(
     *const f64, usize, *const u32, usize, *const f64, usize,
-    f64, f64, u32, u32, *const f64, usize, *mut u64, usize,
+    *const u32, usize, *const f64, usize, u32, u32,
+    *const f64, usize, *mut u32, usize, *mut u64, usize,
 );
 
 type Cleared = unsafe extern "C" fn() -> c_int;
+
+/// What a solve is lent to write into, besides the rows.
+pub struct Outputs {
+    pub solution: Vec<f64>,
+    pub impulses: Vec<f64>,
+    pub rule_numbers: Vec<u32>,
+}
 
 pub struct Implementation {
     solve: Option<Solve>,
@@ -52,19 +60,22 @@ impl Implementation {
     }
 
     #[rustfmt::skip]
-    /// Writes into the job's multipliers, solution and impulses as the function does.
-    pub fn solve(&self, job: &mut Job, solution: &mut [f64], impulses: &mut [f64]) -> [u64; 5] {
+    /// Writes into the job's multipliers and the outputs as the function does.
+    pub fn solve(&self, job: &mut Job, rules: &Rules, to: &mut Outputs) -> [u64; 5] {
         let mut answer = [u64::MAX; 5];
         let solve = self.solve.expect("the implementation solves");
+        let Outputs { solution, impulses, rule_numbers } = to;
         unsafe {
             solve(
                 job.numbers.as_mut_ptr(), job.numbers.len(),
                 job.words.as_ptr(), job.words.len(),
                 job.masses.as_ptr(), job.masses.len(),
-                job.tolerances[0], job.tolerances[1],
+                rules.words.as_ptr(), rules.words.len(),
+                rules.tolerances.as_ptr(), rules.tolerances.len(),
                 job.rows, job.bodies, job.limit, job.mode, job.shift,
                 solution.as_mut_ptr(), solution.len(),
                 impulses.as_mut_ptr(), impulses.len(),
+                rule_numbers.as_mut_ptr(), rule_numbers.len(),
                 answer.as_mut_ptr(), answer.len(),
             );
         }
@@ -72,16 +83,18 @@ impl Implementation {
     }
 
     #[rustfmt::skip]
-    /// Refusal, 1 where closed, and the bits of both gaps.
-    pub fn close(&self, job: &Job, list: &[f64]) -> [u64; 4] {
+    /// Refusal, 1 where closed, and the bits of both gaps; rule numbers as the function writes them.
+    pub fn close(&self, job: &Job, rules: &Rules, list: &[f64], numbers: &mut [u32]) -> [u64; 4] {
         let mut answer = [u64::MAX; 4];
         unsafe {
             (self.close)(
                 job.numbers.as_ptr(), job.numbers.len(),
                 job.words.as_ptr(), job.words.len(),
                 job.masses.as_ptr(), job.masses.len(),
-                job.tolerances[0], job.tolerances[1], job.rows, job.bodies,
+                rules.words.as_ptr(), rules.words.len(),
+                rules.tolerances.as_ptr(), rules.tolerances.len(), job.rows, job.bodies,
                 list.as_ptr(), list.len(),
+                numbers.as_mut_ptr(), numbers.len(),
                 answer.as_mut_ptr(), answer.len(),
             );
         }

@@ -38,12 +38,54 @@ pub const SPARE: usize = 7;
 pub const INCOMPLETE_CHOLESKY: u32 = 1;
 pub const BLOCK_JACOBI: u32 = 2;
 
+/// Three words a rule: dimension, first key, last key.
+pub const RULE_WORDS: usize = 3;
+pub const MOST_RULES: usize = 64;
+pub const MOST_KEY: u32 = 255;
+
+/// A table of rules as it is lent (document 02, k): words, and one tolerance a rule.
+#[derive(Clone, Debug, Default)]
+pub struct Rules {
+    pub words: Vec<u32>,
+    pub tolerances: Vec<f64>,
+}
+
+impl Rules {
+    /// The job program's: each tolerance over all keys of its dimension.
+    pub fn two([linear, angular]: [f64; 2]) -> Self {
+        let mut rules = Self::default();
+        rules.push(0, 0, MOST_KEY, linear);
+        rules.push(1, 0, MOST_KEY, angular);
+        rules
+    }
+
+    pub fn push(&mut self, dimension: u32, first: u32, last: u32, tolerance: f64) {
+        self.words.extend([dimension, first, last]);
+        self.tolerances.push(tolerance);
+    }
+
+    /// Refusal 3's test: at most 64 rules, three words for each tolerance.
+    pub fn fit(&self) -> bool {
+        self.tolerances.len() <= MOST_RULES
+            && self.words.len() == RULE_WORDS * self.tolerances.len()
+    }
+
+    /// Dimension, first key, last key and tolerance of each rule.
+    pub fn each(&self) -> impl Iterator<Item = ([u32; 3], f64)> {
+        let words = self.words.chunks_exact(RULE_WORDS).map(|rule| [rule[0], rule[1], rule[2]]);
+        words.zip(self.tolerances.iter().copied())
+    }
+}
+
 #[derive(Clone, Default)]
 pub struct Job {
     pub numbers: Vec<f64>,
     pub words: Vec<u32>,
     pub masses: Vec<f64>,
     pub tolerances: [f64; 2],
+    /// What a solve and a check are given; without one, the two tolerances as two rules. No job
+    /// file has one.
+    pub rules: Option<Rules>,
     pub rows: u32,
     pub bodies: u32,
     pub limit: u32,
@@ -69,6 +111,10 @@ impl Job {
         let [x, y, z] = inertia;
         self.masses.extend([inverse_mass, x, 0.0, 0.0, 0.0, y, 0.0, 0.0, 0.0, z]);
         self.bodies += 1;
+    }
+
+    pub fn rules(&self) -> Rules {
+        self.rules.clone().unwrap_or_else(|| Rules::two(self.tolerances))
     }
 
     pub fn number(&self, row: usize, place: usize) -> f64 {
@@ -125,6 +171,8 @@ pub struct Solved {
     pub solution: Vec<f64>,
     pub multipliers: Vec<f64>,
     pub impulses: Vec<f64>,
+    /// The rule that each row was judged by.
+    pub rules: Vec<u32>,
 }
 
 impl Solved {
@@ -134,6 +182,7 @@ impl Solved {
             solution: Vec::new(),
             multipliers: Vec::new(),
             impulses: Vec::new(),
+            rules: Vec::new(),
         }
     }
 
@@ -143,6 +192,7 @@ impl Solved {
             && same_bits(&self.solution, &other.solution)
             && same_bits(&self.multipliers, &other.multipliers)
             && same_bits(&self.impulses, &other.impulses)
+            && self.rules == other.rules
     }
 }
 

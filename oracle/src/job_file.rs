@@ -87,6 +87,7 @@ fn read_sections(file: &[u8], rows: Section, masses: Section, trailer: usize) ->
         words: words.collect(),
         masses: masses.step_by(8).map(|at| double(file, at)).collect(),
         tolerances: [double(file, trailer + 24), double(file, trailer + 32)],
+        rules: None,
         rows: word(file, trailer),
         bodies: word(file, trailer + 4),
         limit: word(file, trailer + 8),

@@ -46,24 +46,26 @@ pub struct Judged {
 pub fn judge(job: &Job) -> Judged {
     let solved = model::solve(job);
     let refusal = solved.answer.refusal();
-    // The Rust has no shift: with another than 0 the definition is the measure.
-    let compared = job.mode <= INCOMPLETE_CHOLESKY
+    // The Rust has no shift, and two tolerances: with another shift than 0, or rules of one
+    // dimension that do not agree, the definition is the measure.
+    let comparable = job.mode <= INCOMPLETE_CHOLESKY
         && job.shift == 0.0
         && (refusal == 0 || rust_outcome(refusal).is_some());
-    let dispute = if compared { dispute(job, &solved) } else { None };
-    Judged { solved, compared, dispute }
+    let agreed = if comparable { model::agreed(job) } else { None };
+    let dispute = agreed.and_then(|tolerances| dispute(job, tolerances, &solved));
+    Judged { solved, compared: agreed.is_some(), dispute }
 }
 
-/// Runs the reference on a job whose counts and words are sound.
-pub fn run_reference(job: &Job) -> (Outcome, Prepared) {
+/// Runs the reference, at these tolerances, on a job whose counts and words are sound.
+pub fn run_reference(job: &Job, tolerances: [f64; 2]) -> (Outcome, Prepared) {
     let mut prepared = Prepared::new(&job.numbers, &job.words, &job.masses);
     let cholesky = job.mode == INCOMPLETE_CHOLESKY;
-    let outcome = prepared.solve(job.limit as usize, job.tolerances, cholesky);
+    let outcome = prepared.solve(job.limit as usize, tolerances, cholesky);
     (outcome, prepared)
 }
 
-fn dispute(job: &Job, solved: &Solved) -> Option<String> {
-    let (outcome, prepared) = run_reference(job);
+fn dispute(job: &Job, tolerances: [f64; 2], solved: &Solved) -> Option<String> {
+    let (outcome, prepared) = run_reference(job, tolerances);
     let same = match (outcome, solved.answer) {
         (Outcome::Accepted { count, converged, linear, angular }, Answer::Accepted { .. }) => {
             let found = Answer::Accepted { flag: converged, count: count as u32, linear, angular };

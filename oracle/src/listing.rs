@@ -18,7 +18,7 @@ fn refused(number: u32) -> String {
 }
 
 fn of_job(job: &Job) -> String {
-    let solved = model::solve(job);
+    let solved = model::solve_file(job);
     match solved.answer {
         Answer::Refused(number) => refused(number),
         Answer::Accepted { flag, count, linear, angular } => {

@@ -29,6 +29,7 @@ const USAGE: &str = "usage: oracle/run COMMAND
   tally [JOBS] [SEED]             outcomes of generated jobs by mode, reference against model
   drive LIBRARY [JOBS] [SEED]     an implementation (see oracle/wrap) against the judge
   shifts LIBRARY [JOBS] [SEED]    the same with a shift for each job
+  rules LIBRARY [JOBS] [SEED]     the same with a table of rules for each job
   record                          makes the recorded solves in crates/solve_recorded
   replay                          judges the recorded solves anew
   cover                           counts what the recorded solves meet
@@ -69,6 +70,9 @@ fn command(words: &[&str]) -> Result<bool, String> {
         ["drive", library, ..] => driver::run(library, number(2, 100_000)?, number(3, 1)?, &home()),
         ["shifts", library, ..] => {
             driver::shifts(library, number(2, 100_000)?, number(3, 1)?, &home())
+        }
+        ["rules", library, ..] => {
+            driver::rules(library, number(2, 100_000)?, number(3, 1)?, &home())
         }
         ["record"] => recorded::make(&home()),
         ["replay"] => recorded::replay(&home()),

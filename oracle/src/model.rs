@@ -7,11 +7,13 @@ mod algebra;
 mod closing;
 mod operator;
 mod preconditioner;
+mod rules;
 mod steps;
 mod table;
 
 pub use algebra::{Side, Vector, cross, scaled};
-pub use closing::{Checked, check_words, closing_check, measure};
+pub use closing::{Checked, check_words, closing_check};
+pub use rules::agreed;
 pub use steps::Begun;
 pub use table::{Row, Table, tolerances_fit};
 
@@ -32,9 +34,19 @@ pub fn solve(job: &Job) -> Solved {
     attempt(job).unwrap_or_else(Solved::refused)
 }
 
+/// The job program's solve: it judges its two tolerances by 26, after 3 and 4, and then takes
+/// them as two rules, which 27 and 28 find nothing wrong with.
+pub fn solve_file(job: &Job) -> Solved {
+    let solved = solve(job);
+    match solved.answer.refusal() {
+        3 | 4 => solved,
+        _ if !tolerances_fit(job) => Solved::refused(26),
+        _ => solved,
+    }
+}
+
 fn attempt(job: &Job) -> Judged<Solved> {
-    opening(job)?;
-    let table = Table::of(job);
+    let table = opening(job)?;
     let Begun { residual, diagonal } = begin(&table)?;
     if table.meets(&residual) {
         return Ok(at_step_zero(job, &table, &residual));
@@ -47,13 +59,12 @@ fn attempt(job: &Job) -> Judged<Solved> {
     let multipliers: Vec<f64> = gained.collect();
     pass(17, all_finite(&multipliers))?;
     let answer = answer(&table, &ended.residual, ended.count, ended.flag);
-    Ok(Solved { answer, solution: ended.solution, multipliers, impulses })
+    Ok(Solved { answer, solution: ended.solution, multipliers, impulses, rules: table.rules })
 }
 
 /// The table and step 0 of a job that comes to its factor.
 pub fn at_factor(job: &Job) -> Option<(Table, Begun)> {
-    opening(job).ok()?;
-    let table = Table::of(job);
+    let table = opening(job).ok()?;
     let begun = begin(&table).ok()?;
     (!table.meets(&begun.residual)).then_some((table, begun))
 }
@@ -65,6 +76,7 @@ fn at_step_zero(job: &Job, table: &Table, residual: &[f64]) -> Solved {
         solution: vec![0.0; table.rows.len()],
         multipliers: job.multipliers(),
         impulses: vec![0.0; 6 * table.masses.len()],
+        rules: table.rules.clone(),
     }
 }
 

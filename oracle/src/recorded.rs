@@ -100,7 +100,7 @@ fn position_quota(_mode: u32, outcome: Outcome) -> usize {
     }
 }
 
-/// Answers by definition alone: mode 2, and refusals 3, 4, 6, 10 and 26.
+/// Answers by definition alone: mode 2, and refusals 3, 4, 6, 10 and 27.
 fn defined_quota(mode: u32, outcome: Outcome) -> usize {
     match (mode, outcome) {
         (BLOCK_JACOBI, Outcome::FlagZero | Outcome::FlagOne) => 45,

@@ -90,6 +90,8 @@ fn entry(cursor: &mut Cursor) -> Result<Entry, String> {
             solved.multipliers.push(pair[1]);
         }
         solved.impulses = cursor.doubles(bodies, IMPULSE_NUMBERS)?;
+        // Of the two rules that the tolerances stand for, a row is under that of its dimension.
+        solved.rules = (0..rows).map(|row| job.word(row, DIMENSION)).collect();
     }
     Ok(Entry { job, solved, closing })
 }

@@ -1,6 +1,6 @@
 -- A check with its own memory answers as one with lent memory of the right lengths, and is refused by 3 without it. Assumes nothing.
 use Prim.Native.Nat.{ℕ, _*_, _≤_}
-use mathlib.Core.Path.{_≡_, sym, _∙_}
+use mathlib.Core.Path.{_≡_, refl, sym, _∙_}
 use mathlib.Core.Bool.{Bool, true, not}
 use mathlib.Core.List.{List}
 use native.Mathlib.Omega.{arith}
@@ -10,31 +10,30 @@ use lib.Ieee.{Float}
 use borrow.Author.Tests.{not-true, eq-eqb}
 use Rattle.loops.specs.Run.{on, check}
 use Rattle.loops.specs.Judge.{judge, test}
+use Rattle.rules.specs.Rules.{Rules}
 use Rattle.check_range.specs.Closing.{Closing}
 use Rattle.check_refusals.specs.Refusals.{givenFits, workFits, passes3}
 use Rattle.check_refusals.specs.declared.fit.TableLengths.{TableLengths}
-use Rattle.check_refusals.proofs.Fitting.{given-of}
-use Rattle.check_answer.specs.Answer.{checkOf, CheckMeaning}
+use Rattle.check_refusals.specs.declared.fit.WorkLengths.{WorkLengths}
+use Rattle.check_refusals.proofs.Fitting.{WorkRoom}
+use Rattle.check_answer.specs.Answer.{checkOf}
 use Rattle.check_answer.specs.declared.CheckAnswer.{CheckAnswer}
 use Rattle.check_answer.specs.declared.CheckAnswer.the-variants.{Refused}
 use Rattle.check_answer.proofs.Meaning.{means-3}
-use Rattle.check_work.specs.Work.{CheckMemory, memoryOf, workLengths, Room}
+use Rattle.check_work.specs.Work.{CheckMemory, memoryOf, workLengths}
 use Rattle.closing_check.specs.Checked.{Checked}
+use Rattle.check_alone.specs.Checked.{AloneHeld}
 
 -- refusal 3 of what is lent and of the memory is refusal 3 of what is lent
-fits-too : (n b : ℕ) (l : TableLengths) (m : CheckMemory) → givenFits n b l ≡ true → Room n b l m → passes3 n b l (workLengths m) ≡ givenFits n b l
+fits-too : (n b : ℕ) (l : TableLengths) (w : WorkLengths) → givenFits n b l ≡ true → WorkRoom n b w → passes3 n b l w ≡ givenFits n b l
 unfolding passes3 workFits
-fits-too n b l m g room = rw (g, eq-eqb _ _ (room .jacobians), eq-eqb _ _ (room .links), eq-eqb _ _ (room .massSizes), eq-eqb _ _ (room .multiplierSizes), eq-eqb _ _ (room .impulses), eq-eqb _ _ (room .values), eq-eqb _ _ (room .sizes))
+fits-too n b l w g room = rw (g, eq-eqb _ _ (room .jacobians), eq-eqb _ _ (room .links), eq-eqb _ _ (room .massSizes), eq-eqb _ _ (room .multiplierSizes), eq-eqb _ _ (room .impulses), eq-eqb _ _ (room .values), eq-eqb _ _ (room .sizes))
 
 -- what a table of n rows and b bodies takes of arrays for rows and bodies that are no fewer
-pub taken : {n b : ℕ} {l : TableLengths} (rows bodies : ℕ) (jacobians : List Float) (links : List ℕ) (massSizes multiplierSizes impulses values sizes : List Float) → givenFits n b l ≡ true → n ≤ rows → b ≤ bodies
+pub taken : {n b : ℕ} (rows bodies : ℕ) (jacobians : List Float) (links : List ℕ) (massSizes multiplierSizes impulses values sizes : List Float) → n ≤ rows → b ≤ bodies
     → length jacobians ≡ 12 * rows → length links ≡ 2 * rows → length massSizes ≡ 10 * bodies → length multiplierSizes ≡ rows → length impulses ≡ 6 * bodies → length values ≡ rows → length sizes ≡ rows
-    → Room n b l (memoryOf (take (12 * n) jacobians) (take (2 * n) links) (take (10 * b) massSizes) (take n multiplierSizes) (take (6 * b) impulses) (take n values) (take n sizes))
-taken {n} {b} {l} rows bodies _ _ _ _ _ _ _ g r s j k m x i v z = let given = given-of n b l g in record {
-  numbers = given .numbers;
-  words = given .words;
-  masses = given .masses;
-  multipliers = given .multipliers;
+    → WorkRoom n b (workLengths (memoryOf (take (12 * n) jacobians) (take (2 * n) links) (take (10 * b) massSizes) (take n multiplierSizes) (take (6 * b) impulses) (take n values) (take n sizes)))
+taken {n} {b} rows bodies _ _ _ _ _ _ _ r s j k m x i v z = record {
   jacobians = length-take-le _ _ (omega (arith, r, j));
   links = length-take-le _ _ (omega (arith, r, k));
   massSizes = length-take-le _ _ (omega (arith, s, m));
@@ -44,10 +43,10 @@ taken {n} {b} {l} rows bodies _ _ _ _ _ _ _ g r s j k m x i v z = let given = gi
   sizes = length-take-le _ _ (omega (arith, r, z));
 }
 
-pub alone : {n b : ℕ} {l : TableLengths} {before after : CheckMemory} {c : Closing} {answer : CheckAnswer} → givenFits n b l ≡ true → Room n b l before
-    → Checked (passes3 n b l (workLengths before)) c answer before after → (answer ≡ checkOf (givenFits n b l) c) × CheckMeaning (givenFits n b l) c answer
-alone {n} {b} {l} {before} g room h = let e = fits-too n b l before g room in (rw e at (h .answered), rw e at (h .means))
+pub alone : {n b : ℕ} (l : TableLengths) {before after : CheckMemory} {s : Rules} {c : Closing} {answer : CheckAnswer} {numbers numbersAfter : List ℕ} → givenFits n b l ≡ true → WorkRoom n b (workLengths before)
+    → Checked (passes3 n b l (workLengths before)) s c answer numbers numbersAfter before after → AloneHeld (givenFits n b l) s c answer numbers numbersAfter
+alone {n} {b} l {before} g room h = let e = fits-too n b l (workLengths before) g room in record { answered = rw e at (h .answered); means = rw e at (h .means); named = h .named; ruled = h .ruled }
 
-pub alone-3 : {fits r : Bool} (c : Closing) → r ≡ fits → not r ≡ true → (Refused 3 ≡ checkOf fits c) × CheckMeaning fits c (Refused 3)
+pub alone-3 : {fits r : Bool} (s : Rules) (c : Closing) (numbers : List ℕ) → r ≡ fits → not r ≡ true → AloneHeld fits s c (Refused 3) numbers numbers
 unfolding checkOf judge test check on
-alone-3 {fits} {r} c e h = let f = sym e ∙ not-true r h in (rw f, means-3 c f)
+alone-3 {fits} {r} s c numbers e h = let f = sym e ∙ not-true r h in record { answered = rw f; means = means-3 c f; named = refl; ruled = λ v. absurd (v 3 refl) }

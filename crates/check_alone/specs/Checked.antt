@@ -1,14 +1,16 @@
--- What a check answers that brings its own work memory. Refusal 3 is then of what a caller lends: the counts, and the lengths of the table and of the list.
+-- What a check promises that brings its own work memory. Refusal 3 is then of what a caller lends: the counts, and the lengths of the table, of the list and of the rules.
 use Prim.Native.Nat.{ℕ}
+use mathlib.Core.Path.{_≡_}
+use mathlib.Core.Bool.{Bool}
 use mathlib.Core.List.{List}
-use lib.Ieee.{Float}
-use Rattle.kapitsa_joint.specs.Table.{tableOf}
-use Rattle.kapitsa_joint.specs.declared.tolerance.JointTolerance.{JointTolerance}
-use Rattle.mass_operator.specs.Flat.{coefficients}
-use Rattle.check_range.specs.Closing.{closingOf}
-use Rattle.check_refusals.specs.Refusals.{givenFits, tableLengths}
-use Rattle.check_answer.specs.Answer.{checkOf}
+use Rattle.rules.specs.Rules.{Rules, Ruled}
+use Rattle.check_range.specs.Closing.{Closing}
+use Rattle.check_answer.specs.Answer.{checkOf, namedBy, CheckMeaning}
 use Rattle.check_answer.specs.declared.CheckAnswer.{CheckAnswer}
+use Rattle.check_answer.specs.declared.CheckAnswer.the-variants.{Refused}
 
-abbrev pub checkedOf : ℕ → ℕ → List Float → List ℕ → List Float → List Float → JointTolerance → CheckAnswer
-checkedOf n b numbers words masses multipliers tolerance = checkOf (givenFits n b (tableLengths numbers words masses multipliers)) (closingOf (tableOf n b numbers words masses) (coefficients multipliers) tolerance)
+pub record AloneHeld (fits : Bool) (s : Rules) (c : Closing) (answer : CheckAnswer) (numbers numbersAfter : List ℕ) : Type 0 where
+  pub answered : answer ≡ checkOf fits c
+  pub means : CheckMeaning fits c answer
+  pub named : numbersAfter ≡ namedBy answer c numbers
+  pub ruled : ((n : ℕ) → answer ≡ Refused n → ⊥) → Ruled s (c .table)

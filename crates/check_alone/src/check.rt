@@ -5,13 +5,12 @@ ghost use Rattle.kapitsa_joint.specs.Table.{tableOf};
 ghost use Rattle.mass_operator.specs.Flat.{coefficients};
 ghost use Rattle.check_range.specs.Closing.{closingOf};
 ghost use Rattle.check_refusals.specs.Refusals.{givenFits, tableLengths};
-ghost use Rattle.check_answer.specs.Answer.{CheckMeaning};
-ghost use Rattle.check_alone.specs.Checked.{checkedOf};
+ghost use Rattle.rules.specs.Rows.{rulesIn};
+ghost use Rattle.check_alone.specs.Checked.{AloneHeld};
 use check_answer::CheckAnswer;
 use check_refusals::TableLengths;
 use check_refusals::given_fits;
 use closing_check::closing_check;
-use kapitsa_joint::JointTolerance;
 
 // With memory for the largest table: 512 rows and 256 bodies.
 fn with_memory(
@@ -21,11 +20,13 @@ fn with_memory(
     words: &[u32],
     masses: &[f64],
     multipliers: &[f64],
-    tolerance: JointTolerance,
+    rule_words: &[u32],
+    rule_tolerances: &[f64],
+    rule_numbers: &mut [u32],
 ) -> CheckAnswer
-    requires { ⌜ givenFits n b (tableLengths (now numbers) (now words) (now masses) (now multipliers)) ≡ true ⌝ }
-    ensures { λ r. ⌜ r ≡ checkedOf n b (now (numbers .entry)) (now (words .entry)) (now (masses .entry)) (now (multipliers .entry)) tolerance ⌝ }
-    ensures { λ r. ⌜ CheckMeaning (givenFits n b (tableLengths (now (numbers .entry)) (now (words .entry)) (now (masses .entry)) (now (multipliers .entry)))) (closingOf (tableOf n b (now (numbers .entry)) (now (words .entry)) (now (masses .entry))) (coefficients (now (multipliers .entry))) tolerance) r ⌝ }
+    requires { ⌜ givenFits n b (tableLengths (now numbers) (now words) (now masses) (now multipliers) (now «rule_words») (now «rule_tolerances») (now «rule_numbers»)) ≡ true ⌝ }
+    ensures { λ r. ⌜ AloneHeld (givenFits n b (tableLengths (now (numbers .entry)) (now (words .entry)) (now (masses .entry)) (now (multipliers .entry)) (now («rule_words» .entry)) (now («rule_tolerances» .entry)) (now («rule_numbers» .entry)))) (rulesIn (now («rule_words» .entry)) (now («rule_tolerances» .entry)))
+        (closingOf (tableOf n b (now (numbers .entry)) (now (words .entry)) (now (masses .entry))) (coefficients (now (multipliers .entry))) (rulesIn (now («rule_words» .entry)) (now («rule_tolerances» .entry)))) r (now («rule_numbers» .entry)) (now («rule_numbers» .exit)) ⌝ }
 {
     let mut jacobians: [f64; 6144] = [0.0; 6144];
     let mut links: [u32; 1024] = [0; 1024];
@@ -47,7 +48,9 @@ fn with_memory(
         words,
         masses,
         multipliers,
-        tolerance,
+        rule_words,
+        rule_tolerances,
+        rule_numbers,
         &mut jacobians[..row_numbers],
         &mut links[..row_links],
         &mut mass_sizes[..mass_numbers],
@@ -66,19 +69,34 @@ pub fn checked(
     words: &[u32],
     masses: &[f64],
     multipliers: &[f64],
-    tolerance: JointTolerance,
+    rule_words: &[u32],
+    rule_tolerances: &[f64],
+    rule_numbers: &mut [u32],
 ) -> CheckAnswer
-    ensures { λ r. ⌜ r ≡ checkedOf n b (now (numbers .entry)) (now (words .entry)) (now (masses .entry)) (now (multipliers .entry)) tolerance ⌝ }
-    ensures { λ r. ⌜ CheckMeaning (givenFits n b (tableLengths (now (numbers .entry)) (now (words .entry)) (now (masses .entry)) (now (multipliers .entry)))) (closingOf (tableOf n b (now (numbers .entry)) (now (words .entry)) (now (masses .entry))) (coefficients (now (multipliers .entry))) tolerance) r ⌝ }
+    ensures { λ r. ⌜ AloneHeld (givenFits n b (tableLengths (now (numbers .entry)) (now (words .entry)) (now (masses .entry)) (now (multipliers .entry)) (now («rule_words» .entry)) (now («rule_tolerances» .entry)) (now («rule_numbers» .entry)))) (rulesIn (now («rule_words» .entry)) (now («rule_tolerances» .entry)))
+        (closingOf (tableOf n b (now (numbers .entry)) (now (words .entry)) (now (masses .entry))) (coefficients (now (multipliers .entry))) (rulesIn (now («rule_words» .entry)) (now («rule_tolerances» .entry)))) r (now («rule_numbers» .entry)) (now («rule_numbers» .exit)) ⌝ }
 {
     let table = TableLengths {
         numbers: numbers.len(),
         words: words.len(),
         masses: masses.len(),
         multipliers: multipliers.len(),
+        rule_words: rule_words.len(),
+        rule_tolerances: rule_tolerances.len(),
+        rule_numbers: rule_numbers.len(),
     };
     if !given_fits(n, b, table) {
         return CheckAnswer::Refused(3);
     }
-    with_memory(n, b, numbers, words, masses, multipliers, tolerance)
+    with_memory(
+        n,
+        b,
+        numbers,
+        words,
+        masses,
+        multipliers,
+        rule_words,
+        rule_tolerances,
+        rule_numbers,
+    )
 }

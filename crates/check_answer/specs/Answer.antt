@@ -2,6 +2,7 @@
 use Prim.Native.Nat.{ℕ, _<_}
 use mathlib.Core.Path.{_≡_}
 use mathlib.Core.Bool.{Bool, false, true}
+use mathlib.Core.List.{List}
 use mathlib.Core.Logic.{_↔_}
 use lib.Dec.{T}
 use lib.IntN.{pos, _+ℤ_, _*ℤ_}
@@ -11,6 +12,7 @@ use lib.Ieee.Scale.{finite}
 use Rattle.loops.specs.Run.{on, check}
 use Rattle.loops.specs.Judge.{judge, AllPass, FirstToFail}
 use Rattle.loops.specs.Cleared.{plusZero}
+use Rattle.loops.specs.Tabulate.{tabulate}
 use Rattle.kapitsa_joint.specs.Maxima.{noMaxima, maximumOf}
 use Rattle.kapitsa_joint.specs.declared.maxima.Maxima.{Maxima}
 use Rattle.check_range.specs.Closing.{Closing}
@@ -31,6 +33,12 @@ abbrev pub gapOf : CheckAnswer → Maxima
 gapOf (Closed gap) = gap
 gapOf (Open gap) = gap
 gapOf (Refused n) = noMaxima
+
+-- document 02, k: "The answer names, for each row, the number of the rule it was judged by"; a refusal touches nothing
+abbrev pub namedBy : CheckAnswer → Closing → List ℕ → List ℕ
+namedBy (Closed gap) c before = tabulate (c .rule) (c .table .rows)
+namedBy (Open gap) c before = tabulate (c .rule) (c .table .rows)
+namedBy (Refused n) c before = before
 
 unfoldable pub verdictOf : Closing → CheckAnswer
 verdictOf c = check (closes c) (Closed (largestReaches c)) (Open (largestReaches c))

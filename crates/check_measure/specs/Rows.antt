@@ -4,8 +4,8 @@ use mathlib.Core.Bool.{Bool}
 use mathlib.Core.List.{List}
 use lib.ListN.{getD}
 use lib.Ieee.{Float, nan, le}
-use Rattle.kapitsa_joint.specs.Tolerance.{dimensionOf, toleranceOf}
-use Rattle.kapitsa_joint.specs.declared.tolerance.JointTolerance.{JointTolerance}
+use Rattle.rules.specs.Rules.{Rules}
+use Rattle.rules.specs.Rows.{toleranceIn}
 use Rattle.check_measure.specs.Verdict.{reachOf}
 
 -- from the rows' numbers, their values and their values on sizes
@@ -13,5 +13,5 @@ unfoldable pub reachIn : List Float → List Float → List Float → ℕ → �
 reachIn numbers values sizes n i = reachOf n (getD numbers (27 * i + 15) nan) (getD values i nan) (getD sizes i nan)
 
 -- a listed reach against its row's tolerance
-unfoldable pub withinIn : List ℕ → List Float → JointTolerance → ℕ → Bool
-withinIn words reaches tolerance i = le (getD reaches i nan) (toleranceOf tolerance (dimensionOf (getD words (8 * i + 1) 0)))
+unfoldable pub withinIn : List ℕ → List Float → Rules → ℕ → Bool
+withinIn words reaches rules i = le (getD reaches i nan) (toleranceIn rules words i)

@@ -5,6 +5,7 @@ use mathlib.Core.Bool.{true, _&&_}
 use lib.Dec.{leb, eqb}
 use borrow.Author.Tests.{leb-true, eqb-true}
 use Rattle.loops.proofs.Both.{both}
+use Rattle.rules.specs.Rules.{ruleLengthsFit}
 use Rattle.check_refusals.specs.Refusals.{tableFits, givenFits, workFits}
 use Rattle.check_refusals.specs.declared.fit.TableLengths.{TableLengths}
 use Rattle.check_refusals.specs.declared.fit.WorkLengths.{WorkLengths}
@@ -17,17 +18,26 @@ pub record Given (n b : ℕ) (t : TableLengths) : Type 0 where
   pub words : t .words ≡ 8 * n
   pub masses : t .masses ≡ 10 * b
   pub multipliers : t .multipliers ≡ n
+  pub ruleWords : t .«rule_words» ≡ 3 * t .«rule_tolerances»
+  pub ruleTolerances : t .«rule_tolerances» ≤ 64
+  pub ruleNumbers : t .«rule_numbers» ≡ n
 
 pub given-of : (n b : ℕ) (t : TableLengths) → givenFits n b t ≡ true → Given n b t
-unfolding givenFits tableFits
+unfolding givenFits tableFits ruleLengthsFit
 given-of n b t h =
     let a1 = eqb (t .numbers) (27 * n) in
     let a2 = eqb (t .words) (8 * n) in
     let a3 = eqb (t .masses) (10 * b) in
     let a4 = eqb (t .multipliers) n in
-    let (p, q) = both (leb n 512 && leb b 256) (((a1 && a2) && a3) && a4) h in
+    let a5 = leb (t .«rule_tolerances») 64 in
+    let a6 = eqb (t .«rule_words») (3 * t .«rule_tolerances») in
+    let a7 = eqb (t .«rule_numbers») n in
+    let (p, q) = both (leb n 512 && leb b 256) (((((a1 && a2) && a3) && a4) && (a5 && a6)) && a7) h in
     let (r, s) = both (leb n 512) (leb b 256) p in
-    let (q3, h4) = both ((a1 && a2) && a3) a4 q in
+    let (q5, h7) = both ((((a1 && a2) && a3) && a4) && (a5 && a6)) a7 q in
+    let (q4, h56) = both (((a1 && a2) && a3) && a4) (a5 && a6) q5 in
+    let (h5, h6) = both a5 a6 h56 in
+    let (q3, h4) = both ((a1 && a2) && a3) a4 q4 in
     let (q2, h3) = both (a1 && a2) a3 q3 in
     let (h1, h2) = both a1 a2 q2 in
     record {
@@ -37,6 +47,9 @@ given-of n b t h =
       words = eqb-true (t .words) (8 * n) h2;
       masses = eqb-true (t .masses) (10 * b) h3;
       multipliers = eqb-true (t .multipliers) n h4;
+      ruleWords = eqb-true (t .«rule_words») (3 * t .«rule_tolerances») h6;
+      ruleTolerances = leb-true (t .«rule_tolerances») 64 h5;
+      ruleNumbers = eqb-true (t .«rule_numbers») n h7;
     }
 
 -- ---- the work memory

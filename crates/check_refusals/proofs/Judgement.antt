@@ -1,6 +1,6 @@
 -- What a table tells that the tests after refusal 3 let pass. Assumes nothing.
 use Prim.Native.Nat.{ℕ, _*_}
-use mathlib.Core.Path.{_≡_}
+use mathlib.Core.Path.{_≡_, _∙_}
 use mathlib.Core.Bool.{Bool, true}
 use mathlib.Core.List.{List, [], _∷_}
 use lib.Ieee.{Float}
@@ -10,6 +10,9 @@ use Rattle.loops.proofs.Judge.{both-pass}
 use Rattle.kapitsa_joint.specs.Row.{wordsOf, rowOf}
 use Rattle.kapitsa_joint.specs.Table.{tableOf}
 use Rattle.joint_refusals.specs.Refusals.{wordsFitOf, passes4, passes6, passes7}
+use Rattle.rules.specs.Rules.{Rules, passes28}
+use Rattle.rules.specs.Rows.{rowsRuled}
+use Rattle.rules.proofs.Lent.{lent-28}
 use Rattle.check_range.specs.Closing.{Closing}
 use Rattle.check_range.specs.Range.{passes18}
 use Rattle.check_refusals.specs.Judged.{tableTests}
@@ -18,6 +21,10 @@ use Rattle.check_refusals.specs.Judged.{tableTests}
 pub words-pass : (rows bodies : ℕ) (numbers : List Float) (words : List ℕ) (masses : List Float) {p : Bool} → p ≡ every (λ i. wordsFitOf (wordsOf words (8 * i))) rows → p ≡ passes4 (tableOf rows bodies numbers words masses)
 unfolding passes4 rowOf
 words-pass rows bodies numbers words masses e = e
+
+-- ---- and so does 28
+pub rows-pass : (s : Rules) (rows bodies : ℕ) (numbers : List Float) (words : List ℕ) (masses : List Float) {p : Bool} → p ≡ rowsRuled s words rows → p ≡ passes28 s (tableOf rows bodies numbers words masses)
+rows-pass s rows bodies numbers words masses e = e ∙ lent-28 s rows bodies numbers words masses
 
 -- ---- what a list of which all pass tells
 module _ (c : Closing) (p : AllPass (tableTests c)) where

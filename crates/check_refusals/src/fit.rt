@@ -4,6 +4,7 @@ ghost use Prim.Native.Nat.{_<_};
 ghost use Rattle.check_refusals.specs.Refusals.{tableFits, givenFits, workFits, passes3};
 use joint_refusals::table_counts_fit;
 use loops::wide;
+use rules::rule_lengths_fit;
 
 // What is given.
 pub struct TableLengths {
@@ -11,6 +12,9 @@ pub struct TableLengths {
     pub words: usize,
     pub masses: usize,
     pub multipliers: usize,
+    pub rule_words: usize,
+    pub rule_tolerances: usize,
+    pub rule_numbers: usize,
 }
 
 // The work memory.
@@ -32,6 +36,8 @@ fn table_fits(n: usize, b: usize, lengths: TableLengths) -> bool
         & (lengths.words == 8 * n)
         & (lengths.masses == 10 * b)
         & (lengths.multipliers == n)
+        & rule_lengths_fit(lengths.rule_words, lengths.rule_tolerances)
+        & (lengths.rule_numbers == n)
 }
 
 // The counts, and the lengths of what is given.

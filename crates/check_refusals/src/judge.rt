@@ -1,18 +1,19 @@
-// Refusals 4, 26, 6, 7 and 18, in this order.
+// Refusals 4, 27, 28, 6, 7 and 18, in this order.
 ghost use mathlib.Core.Path.{_≡_};
 ghost use Prim.Native.Nat.{_*_, _≤_};
 ghost use lib.ListN.{length};
 ghost use Rattle.loops.specs.Judge.{judge};
 ghost use Rattle.kapitsa_joint.specs.Table.{tableOf};
 ghost use Rattle.mass_operator.specs.Flat.{coefficients};
+ghost use Rattle.rules.specs.Rows.{rulesIn};
 ghost use Rattle.check_range.specs.Closing.{closingOf};
 ghost use Rattle.check_refusals.specs.Judged.{tableTests, judgedOut};
 use check_range::table_in_range;
 use joint_refusals::masses_finite;
 use joint_refusals::rows_valid;
-use joint_refusals::tolerances_fit;
 use joint_refusals::words_fit;
-use kapitsa_joint::JointTolerance;
+use rules::rows_ruled;
+use rules::rules_fit;
 
 pub enum TableJudged {
     Passed,
@@ -26,18 +27,22 @@ pub fn judge_table(
     words: &[u32],
     masses: &[f64],
     multipliers: &[f64],
-    tolerance: JointTolerance,
+    rule_words: &[u32],
+    rule_tolerances: &[f64],
 ) -> TableJudged
-    requires { ⌜ (27 * rows ≤ length (now numbers)) × (8 * rows ≤ length (now words)) × (10 * bodies ≤ length (now masses)) × (rows ≤ length (now multipliers)) ⌝ }
-    ensures { λ r. ⌜ judge (tableTests (closingOf (tableOf rows bodies (now (numbers .entry)) (now (words .entry)) (now (masses .entry))) (coefficients (now (multipliers .entry))) tolerance)) ≡ judgedOut r ⌝ }
+    requires { ⌜ (27 * rows ≤ length (now numbers)) × (8 * rows ≤ length (now words)) × (10 * bodies ≤ length (now masses)) × (rows ≤ length (now multipliers)) × (3 * length (now «rule_tolerances») ≤ length (now «rule_words»)) ⌝ }
+    ensures { λ r. ⌜ judge (tableTests (closingOf (tableOf rows bodies (now (numbers .entry)) (now (words .entry)) (now (masses .entry))) (coefficients (now (multipliers .entry))) (rulesIn (now («rule_words» .entry)) (now («rule_tolerances» .entry))))) ≡ judgedOut r ⌝ }
 {
     let n = rows as usize;
     let b = bodies as usize;
     if !words_fit(words, n) {
         return TableJudged::Refused(4);
     }
-    if !tolerances_fit(tolerance) {
-        return TableJudged::Refused(26);
+    if !rules_fit(rule_words, rule_tolerances) {
+        return TableJudged::Refused(27);
+    }
+    if !rows_ruled(words, rule_words, rule_tolerances, n) {
+        return TableJudged::Refused(28);
     }
     if !masses_finite(masses, b) {
         return TableJudged::Refused(6);

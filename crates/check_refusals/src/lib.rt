@@ -1,6 +1,6 @@
-// The refusals of the closing check, in their order: 3, then 4, 26, 6, 7 and 18.
+// The refusals of the closing check, in their order: 3, then 4, 27, 28, 6, 7 and 18.
 pub mod fit; // fit.rt: refusal 3, the counts and the lengths of what is lent
-pub mod judge; // judge.rt: refusals 4, 26, 6, 7 and 18
+pub mod judge; // judge.rt: refusals 4, 27, 28, 6, 7 and 18
 
 pub use fit::TableLengths;
 pub use fit::WorkLengths;

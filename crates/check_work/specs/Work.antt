@@ -12,7 +12,6 @@ use Rattle.kapitsa_joint.specs.Row.{rowOf}
 use Rattle.kapitsa_joint.specs.Table.{tableOf}
 use Rattle.mass_operator.specs.System.{systemOf}
 use Rattle.mass_operator.specs.Flat.{coefficients, productOf}
-use Rattle.check_refusals.specs.declared.fit.TableLengths.{TableLengths}
 use Rattle.check_refusals.specs.declared.fit.WorkLengths.{WorkLengths}
 use Rattle.check_measure.specs.Verdict.{sizesOf}
 
@@ -41,11 +40,11 @@ workLengths m = record {
 }
 
 -- the lengths are those that the counts call for: what refusal 3 has passed
-pub record Room (n b : ℕ) (t : TableLengths) (m : CheckMemory) : Type 0 where
-  pub numbers : t .numbers ≡ 27 * n
-  pub words : t .words ≡ 8 * n
-  pub masses : t .masses ≡ 10 * b
-  pub multipliers : t .multipliers ≡ n
+pub record Room (n b : ℕ) (rowNumbers : List Float) (rowWords : List ℕ) (massNumbers list : List Float) (m : CheckMemory) : Type 0 where
+  pub numbers : length rowNumbers ≡ 27 * n
+  pub words : length rowWords ≡ 8 * n
+  pub masses : length massNumbers ≡ 10 * b
+  pub multipliers : length list ≡ n
   pub jacobians : length (m .jacobians) ≡ 12 * n
   pub links : length (m .links) ≡ 2 * n
   pub massSizes : length (m .massSizes) ≡ 10 * b

@@ -10,7 +10,6 @@ ghost use Rattle.compact_table.specs.Compact.{Gathered};
 ghost use Rattle.mass_operator.specs.System.{compactSystem};
 ghost use Rattle.compact_table.specs.Compact.{Linked};
 ghost use Rattle.mass_operator.specs.Flat.{coefficients, productOf};
-ghost use Rattle.check_refusals.specs.Refusals.{tableLengths};
 ghost use Rattle.check_work.specs.Work.{memoryOf, Room, Valid, Measured};
 use check_measure::copy_sizes;
 use check_measure::take_sizes;
@@ -92,7 +91,7 @@ pub fn measure_rows(
     values: &mut [f64],
     sizes: &mut [f64],
 )
-    requires { ⌜ Room (length (now multipliers)) b (tableLengths (now numbers) (now words) (now masses) (now multipliers)) (memoryOf (now jacobians) (now links) (now «mass_sizes») (now «multiplier_sizes») (now impulses) (now values) (now sizes)) ⌝ }
+    requires { ⌜ Room (length (now multipliers)) b (now numbers) (now words) (now masses) (now multipliers) (memoryOf (now jacobians) (now links) (now «mass_sizes») (now «multiplier_sizes») (now impulses) (now values) (now sizes)) ⌝ }
     requires { ⌜ Valid (length (now multipliers)) b (now numbers) (now words) ⌝ }
     ensures { λ _. ⌜ Measured b (now (numbers .entry)) (now (words .entry)) (now (masses .entry)) (now (multipliers .entry))
         (memoryOf (now (jacobians .entry)) (now (links .entry)) (now («mass_sizes» .entry)) (now («multiplier_sizes» .entry)) (now (impulses .entry)) (now (values .entry)) (now (sizes .entry)))

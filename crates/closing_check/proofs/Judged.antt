@@ -10,13 +10,15 @@ use Rattle.loops.proofs.Every.{every-iff}
 use Rattle.loops.proofs.Judge.{judge-going, judge-pass}
 use Rattle.kapitsa_joint.specs.Row.{rowOf}
 use Rattle.kapitsa_joint.specs.Table.{tableOf}
-use Rattle.kapitsa_joint.specs.declared.tolerance.JointTolerance.{JointTolerance}
 use Rattle.joint_refusals.specs.Refusals.{passes7, isValidOf}
+use Rattle.rules.specs.Rules.{Rules}
+use Rattle.rules.specs.Rows.{rowsRuled}
+use Rattle.rules.proofs.Lent.{lent-28}
 use Rattle.check_range.specs.Closing.{Closing, closingOf}
 use Rattle.check_refusals.specs.Judged.{tableTests, judgements, judgedOut}
 use Rattle.check_refusals.specs.declared.judge.TableJudged.{TableJudged}
 use Rattle.check_refusals.specs.declared.judge.TableJudged.the-variants as judged
-use Rattle.check_refusals.proofs.Judgement.{passed-7}
+use Rattle.check_refusals.proofs.Judgement.{passed-tolerances, passed-7}
 use Rattle.check_answer.specs.Answer.{verdictOf, checkOf}
 use Rattle.check_answer.specs.declared.CheckAnswer.the-variants.{Refused}
 use Rattle.joint_refusals.proofs.Valid.{valid-bodies}
@@ -44,11 +46,15 @@ valid-of rows bodies numbers words masses h = record {
   apart = λ i l. valid-bodies bodies (rowOf numbers words i) (every-iff (λ i. isValidOf bodies (rowOf numbers words i)) rows .0 h i l) .apart;
 }
 
-pub valid-judged : (rows bodies : ℕ) (numbers : List Float) (words : List ℕ) (masses : List Float) (listed : ℕ → Float) (tolerance : JointTolerance) {j : TableJudged}
-    → judge (tableTests (closingOf (tableOf rows bodies numbers words masses) listed tolerance)) ≡ judgedOut j → j ≡ judged.Passed → Valid rows bodies numbers words
-valid-judged rows bodies numbers words masses listed tolerance e h =
-    let c = closingOf (tableOf rows bodies numbers words masses) listed tolerance in
-    valid-of rows bodies numbers words masses (passed-7 c (judge-going (tableTests c) .0 (e ∙ ap judgedOut h)))
+-- what a table that passed them has
+module _ (rows bodies : ℕ) (numbers : List Float) (words : List ℕ) (masses : List Float) (listed : ℕ → Float) (s : Rules) {j : TableJudged}
+    (e : judge (tableTests (closingOf (tableOf rows bodies numbers words masses) listed s)) ≡ judgedOut j) where
+  pub valid-judged : j ≡ judged.Passed → Valid rows bodies numbers words
+  valid-judged h = let c = closingOf (tableOf rows bodies numbers words masses) listed s in valid-of rows bodies numbers words masses (passed-7 c (all-judged c e h))
+
+  pub ruled-judged : j ≡ judged.Passed → rowsRuled s words rows ≡ true
+  unfolding AllPass
+  ruled-judged h = let c = closingOf (tableOf rows bodies numbers words masses) listed s in lent-28 s rows bodies numbers words masses ∙ passed-tolerances c (all-judged c e h) .1 .0
 
 pub valid-same : {n m b : ℕ} {numbers : List Float} {words : List ℕ} → m ≡ n → Valid n b numbers words → Valid m b numbers words
 valid-same e v = rw e v

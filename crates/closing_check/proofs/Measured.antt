@@ -17,7 +17,8 @@ use Rattle.kapitsa_joint.specs.Tolerance.{dimensionOf}
 use Rattle.kapitsa_joint.specs.Maxima.{maximaBy}
 use Rattle.kapitsa_joint.specs.declared.maxima.Maxima.{Maxima}
 use Rattle.kapitsa_joint.proofs.Largest.{maxima-same}
-use Rattle.kapitsa_joint.specs.declared.tolerance.JointTolerance.{JointTolerance}
+use Rattle.rules.specs.Rules.{Rules}
+use Rattle.rules.specs.Rows.{ruleIn}
 use Rattle.mass_operator.specs.System.{systemOf}
 use Rattle.mass_operator.specs.Operator.{valueAt}
 use Rattle.mass_operator.specs.Flat.{coefficients, productOf}
@@ -25,15 +26,15 @@ use Rattle.check_range.specs.Closing.{Closing, closingOf}
 use Rattle.check_measure.specs.Verdict.{sizesOf, valueOf, sizeOf, reach, within, closes, largestReaches}
 use Rattle.check_measure.specs.Rows.{reachIn, withinIn}
 use Rattle.check_work.specs.Work.{CheckMemory, Measured}
-use Rattle.check_answer.specs.Answer.{verdictOf, checkOf}
+use Rattle.check_answer.specs.Answer.{verdictOf, checkOf, namedBy}
 use Rattle.check_answer.specs.declared.CheckAnswer.{CheckAnswer}
 use Rattle.check_answer.specs.declared.CheckAnswer.the-variants.{Closed, Open}
 use Rattle.closing_check.specs.Checked.{verdictIn}
 
-module _ (tolerance : JointTolerance) {rows bodies : ℕ} {numbers : List Float} {words : List ℕ} {masses multipliers : List Float} {before after : CheckMemory}
+module _ (s : Rules) {rows bodies : ℕ} {numbers : List Float} {words : List ℕ} {masses multipliers : List Float} {before after : CheckMemory}
     (m : Measured bodies numbers words masses multipliers before after) (e : length multipliers ≡ rows) where
   abbrev c : Closing
-  c = closingOf (tableOf rows bodies numbers words masses) (coefficients multipliers) tolerance
+  c = closingOf (tableOf rows bodies numbers words masses) (coefficients multipliers) s
 
   values-is : after .values ≡ tabulate (valueOf c) rows
   unfolding productOf valueOf
@@ -48,19 +49,19 @@ module _ (tolerance : JointTolerance) {rows bodies : ℕ} {numbers : List Float}
     unfolding reachIn reach rowOf scalarsOf
     reach-is i h = rw (made, getD-tabulate (reachIn numbers (after .values) (after .sizes) rows) rows i nan h, values-is, sizes-is, getD-tabulate (valueOf c) rows i nan h, getD-tabulate (sizeOf c) rows i nan h)
 
-    row-is : (i : ℕ) → i < rows → withinIn words reaches tolerance i ≡ within c i
+    row-is : (i : ℕ) → i < rows → withinIn words reaches s i ≡ within c i
     unfolding withinIn rowOf wordsOf
     row-is i h = ap (λ (r : Float). le r (c .tolerance i)) (reach-is i h)
 
-    closes-is : every (withinIn words reaches tolerance) rows ≡ closes c
+    closes-is : every (withinIn words reaches s) rows ≡ closes c
     unfolding closes
-    closes-is = every-same (withinIn words reaches tolerance) (within c) rows row-is
+    closes-is = every-same (withinIn words reaches s) (within c) rows row-is
 
     largest-is : maximaBy (λ i. dimensionOf (getD words (8 * i + 1) 0)) (λ i. getD reaches i nan) rows ≡ largestReaches c
     unfolding largestReaches rowOf wordsOf
     largest-is = maxima-same _ _ _ _ rows (λ i h. refl) reach-is
 
-    pub verdict-is : {answer : CheckAnswer} → answer ≡ verdictIn words reaches tolerance rows → checkOf true c ≡ verdictOf c → answer ≡ checkOf true c
+    pub verdict-is : {answer : CheckAnswer} → answer ≡ verdictIn words reaches s rows → checkOf true c ≡ verdictOf c → answer ≡ checkOf true c
     unfolding verdictOf verdictIn
     verdict-is a passed =
         let gap = maximaBy (λ i. dimensionOf (getD words (8 * i + 1) 0)) (λ i. getD reaches i nan) rows in
@@ -70,12 +71,35 @@ module _ (tolerance : JointTolerance) {rows bodies : ℕ} {numbers : List Float}
         ∙ sym passed
 
 -- ---- `verdict`
-module _ (words : List ℕ) (reaches : List Float) (tolerance : JointTolerance) (rows : ℕ) {r : Bool} {gap : Maxima} (p : r ≡ every (withinIn words reaches tolerance) rows)
+module _ (words : List ℕ) (reaches : List Float) (s : Rules) (rows : ℕ) {r : Bool} {gap : Maxima} (p : r ≡ every (withinIn words reaches s) rows)
     (g : gap ≡ maximaBy (λ i. dimensionOf (getD words (8 * i + 1) 0)) (λ i. getD reaches i nan) rows) where
-  pub all-within : r ≡ true → Closed gap ≡ verdictIn words reaches tolerance rows
+  pub all-within : r ≡ true → Closed gap ≡ verdictIn words reaches s rows
   unfolding verdictIn check
   all-within h = rw (← p, h, ← g)
 
-  pub one-misses : r ≡ false → Open gap ≡ verdictIn words reaches tolerance rows
+  pub one-misses : r ≡ false → Open gap ≡ verdictIn words reaches s rows
   unfolding verdictIn check
   one-misses h = rw (← p, h, ← g)
+
+-- ---- the rule of each row
+module _ (s : Rules) (rows bodies : ℕ) (numbers : List Float) (words : List ℕ) (masses : List Float) (listed : ℕ → Float) where
+  abbrev judged : Closing
+  judged = closingOf (tableOf rows bodies numbers words masses) listed s
+
+  rules-are : tabulate (ruleIn s words) rows ≡ tabulate (judged .rule) rows
+  unfolding rowOf wordsOf
+  rules-are = refl
+
+  pub named-is : (reaches : List Float) (before : List ℕ) {answer : CheckAnswer} {after : List ℕ} → answer ≡ verdictIn words reaches s rows → length before ≡ rows → after ≡ tabulate (ruleIn s words) (length before) → after ≡ namedBy answer judged before
+  unfolding verdictIn check
+  named-is reaches before a e n =
+      let gap = maximaBy (λ i. dimensionOf (getD words (8 * i + 1) 0)) (λ i. getD reaches i nan) rows in
+      n
+      ∙ ap (λ (k : ℕ). tabulate (ruleIn s words) k) e
+      ∙ rules-are
+      ∙ go gap (every (withinIn words reaches s) rows)
+      ∙ ap (λ (r : CheckAnswer). namedBy r judged before) (sym a)
+    where
+      go : (gap : Maxima) (b : Bool) → tabulate (judged .rule) rows ≡ namedBy (check b (Closed gap) (Open gap)) judged before
+      go gap true = refl
+      go gap false = refl

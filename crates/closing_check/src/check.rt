@@ -5,9 +5,10 @@ ghost use lib.ListN.{length};
 ghost use mathlib.Core.Bool.{true};
 ghost use Rattle.kapitsa_joint.specs.Table.{tableOf};
 ghost use Rattle.mass_operator.specs.Flat.{coefficients};
+ghost use Rattle.rules.specs.Rows.{rulesIn, rowsRuled};
 ghost use Rattle.check_range.specs.Closing.{closingOf};
 ghost use Rattle.check_refusals.specs.Refusals.{passes3, tableLengths};
-ghost use Rattle.check_answer.specs.Answer.{checkOf};
+ghost use Rattle.check_answer.specs.Answer.{checkOf, namedBy};
 ghost use Rattle.check_work.specs.Work.{memoryOf, workLengths, Room};
 ghost use Rattle.closing_check.specs.Checked.{verdictIn, Checked};
 use check_answer::CheckAnswer;
@@ -21,15 +22,22 @@ use check_refusals::fits;
 use check_refusals::judge_table;
 use check_work::clear_work;
 use check_work::measure_rows;
-use kapitsa_joint::JointTolerance;
+use rules::name_rules;
 
 // From each row's reach: closed where every one is within its tolerance, with the largest of each dimension.
-fn verdict(words: &[u32], reaches: &[f64], tolerance: JointTolerance, rows: usize) -> CheckAnswer
-    requires { ⌜ (8 * rows ≤ length (now words)) × (rows ≤ length (now reaches)) ⌝ }
-    ensures { λ r. ⌜ r ≡ verdictIn (now (words .entry)) (now (reaches .entry)) tolerance rows ⌝ }
+fn verdict(
+    words: &[u32],
+    reaches: &[f64],
+    rule_words: &[u32],
+    rule_tolerances: &[f64],
+    rows: usize,
+) -> CheckAnswer
+    requires { ⌜ (8 * rows ≤ length (now words)) × (rows ≤ length (now reaches)) × (3 * length (now «rule_tolerances») ≤ length (now «rule_words»)) ⌝ }
+    requires { ⌜ rowsRuled (rulesIn (now «rule_words») (now «rule_tolerances»)) (now words) rows ≡ true ⌝ }
+    ensures { λ r. ⌜ r ≡ verdictIn (now (words .entry)) (now (reaches .entry)) (rulesIn (now («rule_words» .entry)) (now («rule_tolerances» .entry))) rows ⌝ }
 {
     let gap = largest_reaches(words, reaches, rows);
-    if rows_close(words, reaches, tolerance, rows) {
+    if rows_close(words, reaches, rule_words, rule_tolerances, rows) {
         return CheckAnswer::Closed(gap);
     }
     CheckAnswer::Open(gap)
@@ -43,7 +51,9 @@ fn judged_check(
     words: &[u32],
     masses: &[f64],
     multipliers: &[f64],
-    tolerance: JointTolerance,
+    rule_words: &[u32],
+    rule_tolerances: &[f64],
+    rule_numbers: &mut [u32],
     jacobians: &mut [f64],
     links: &mut [u32],
     mass_sizes: &mut [f64],
@@ -52,11 +62,22 @@ fn judged_check(
     values: &mut [f64],
     sizes: &mut [f64],
 ) -> CheckAnswer
-    requires { ⌜ Room rows bodies (tableLengths (now numbers) (now words) (now masses) (now multipliers)) (memoryOf (now jacobians) (now links) (now «mass_sizes») (now «multiplier_sizes») (now impulses) (now values) (now sizes)) ⌝ }
+    requires { ⌜ Room rows bodies (now numbers) (now words) (now masses) (now multipliers) (memoryOf (now jacobians) (now links) (now «mass_sizes») (now «multiplier_sizes») (now impulses) (now values) (now sizes)) ⌝ }
+    requires { ⌜ (length (now «rule_words») ≡ 3 * length (now «rule_tolerances»)) × (length (now «rule_tolerances») ≤ 64) × (length (now «rule_numbers») ≡ rows) ⌝ }
     requires { ⌜ rows ≤ 512 ⌝ }
-    ensures { λ r. ⌜ r ≡ checkOf true (closingOf (tableOf rows bodies (now (numbers .entry)) (now (words .entry)) (now (masses .entry))) (coefficients (now (multipliers .entry))) tolerance) ⌝ }
+    ensures { λ r. ⌜ r ≡ checkOf true (closingOf (tableOf rows bodies (now (numbers .entry)) (now (words .entry)) (now (masses .entry))) (coefficients (now (multipliers .entry))) (rulesIn (now («rule_words» .entry)) (now («rule_tolerances» .entry)))) ⌝ }
+    ensures { λ r. ⌜ now («rule_numbers» .exit) ≡ namedBy r (closingOf (tableOf rows bodies (now (numbers .entry)) (now (words .entry)) (now (masses .entry))) (coefficients (now (multipliers .entry))) (rulesIn (now («rule_words» .entry)) (now («rule_tolerances» .entry)))) (now («rule_numbers» .entry)) ⌝ }
 {
-    let judged = judge_table(rows, bodies, numbers, words, masses, multipliers, tolerance);
+    let judged = judge_table(
+        rows,
+        bodies,
+        numbers,
+        words,
+        masses,
+        multipliers,
+        rule_words,
+        rule_tolerances,
+    );
     match judged {
         TableJudged::Refused(number) => {
             return CheckAnswer::Refused(number);
@@ -78,11 +99,12 @@ fn judged_check(
         sizes,
     );
     measure_reaches(rows as usize, numbers, sizes, values);
-    verdict(words, values, tolerance, rows as usize)
+    name_rules(words, rule_words, rule_tolerances, rule_numbers);
+    verdict(words, values, rule_words, rule_tolerances, rows as usize)
 }
 
-// Are the joints closed by these multipliers, the gains since the errors were measured, and how far are they? Refusals 3, 4, 26, 6, 7 and 18.
-// What is given is only read; the work memory is +0.0 (integers 0) afterwards, except after refusal 3, which writes nothing.
+// Are the joints closed by these multipliers, the gains since the errors were measured, and how far are they? Refusals 3, 4, 27, 28, 6, 7 and 18.
+// What is given is only read; rule_numbers are written where there is a verdict; the work memory is +0.0 (integers 0) afterwards, except after refusal 3, which writes nothing.
 pub fn closing_check(
     rows: u32,
     bodies: u32,
@@ -90,7 +112,9 @@ pub fn closing_check(
     words: &[u32],
     masses: &[f64],
     multipliers: &[f64],
-    tolerance: JointTolerance,
+    rule_words: &[u32],
+    rule_tolerances: &[f64],
+    rule_numbers: &mut [u32],
     jacobians: &mut [f64],
     links: &mut [u32],
     mass_sizes: &mut [f64],
@@ -99,8 +123,9 @@ pub fn closing_check(
     values: &mut [f64],
     sizes: &mut [f64],
 ) -> CheckAnswer
-    ensures { λ r. ⌜ Checked (passes3 rows bodies (tableLengths (now (numbers .entry)) (now (words .entry)) (now (masses .entry)) (now (multipliers .entry))) (workLengths (memoryOf (now (jacobians .entry)) (now (links .entry)) (now («mass_sizes» .entry)) (now («multiplier_sizes» .entry)) (now (impulses .entry)) (now (values .entry)) (now (sizes .entry)))))
-        (closingOf (tableOf rows bodies (now (numbers .entry)) (now (words .entry)) (now (masses .entry))) (coefficients (now (multipliers .entry))) tolerance) r
+    ensures { λ r. ⌜ Checked (passes3 rows bodies (tableLengths (now (numbers .entry)) (now (words .entry)) (now (masses .entry)) (now (multipliers .entry)) (now («rule_words» .entry)) (now («rule_tolerances» .entry)) (now («rule_numbers» .entry))) (workLengths (memoryOf (now (jacobians .entry)) (now (links .entry)) (now («mass_sizes» .entry)) (now («multiplier_sizes» .entry)) (now (impulses .entry)) (now (values .entry)) (now (sizes .entry)))))
+        (rulesIn (now («rule_words» .entry)) (now («rule_tolerances» .entry)))
+        (closingOf (tableOf rows bodies (now (numbers .entry)) (now (words .entry)) (now (masses .entry))) (coefficients (now (multipliers .entry))) (rulesIn (now («rule_words» .entry)) (now («rule_tolerances» .entry)))) r (now («rule_numbers» .entry)) (now («rule_numbers» .exit))
         (memoryOf (now (jacobians .entry)) (now (links .entry)) (now («mass_sizes» .entry)) (now («multiplier_sizes» .entry)) (now (impulses .entry)) (now (values .entry)) (now (sizes .entry)))
         (memoryOf (now (jacobians .exit)) (now (links .exit)) (now («mass_sizes» .exit)) (now («multiplier_sizes» .exit)) (now (impulses .exit)) (now (values .exit)) (now (sizes .exit))) ⌝ }
 {
@@ -109,6 +134,9 @@ pub fn closing_check(
         words: words.len(),
         masses: masses.len(),
         multipliers: multipliers.len(),
+        rule_words: rule_words.len(),
+        rule_tolerances: rule_tolerances.len(),
+        rule_numbers: rule_numbers.len(),
     };
     let work = WorkLengths {
         jacobians: jacobians.len(),
@@ -129,7 +157,9 @@ pub fn closing_check(
         words,
         masses,
         multipliers,
-        tolerance,
+        rule_words,
+        rule_tolerances,
+        rule_numbers,
         jacobians,
         links,
         mass_sizes,

@@ -4,15 +4,19 @@ use mathlib.Core.Path.{_≡_}
 use mathlib.Core.Bool.{Bool, false, _&&_}
 use mathlib.Core.List.{List}
 use lib.Dec.{leb, eqb}
-use lib.ListN.{length}
-use lib.Ieee.{binary64, toBits}
+use lib.ListN.{length, replicate}
+use lib.Ieee.{Float, binary64, toBits}
 use Rattle.loops.specs.Run.{check}
 use Rattle.little_endian.specs.Words.{wordAt, doubleAt, doublesAt, halvesAt}
 use Rattle.kapitsa_joint.specs.declared.tolerance.JointTolerance.{JointTolerance}
 use Rattle.kapitsa_joint.specs.declared.maxima.Maxima.{Maxima}
-use Rattle.check_answer.specs.Answer.{numberOf, gapOf}
+use Rattle.kapitsa_joint.specs.Table.{tableOf}
+use Rattle.rules.specs.Rules.{Rules, twoRules}
+use Rattle.mass_operator.specs.Flat.{coefficients}
+use Rattle.check_range.specs.Closing.{closingOf}
+use Rattle.check_refusals.specs.Refusals.{givenFits, tableLengths}
+use Rattle.check_answer.specs.Answer.{numberOf, gapOf, checkOf}
 use Rattle.check_answer.specs.declared.CheckAnswer.{CheckAnswer}
-use Rattle.check_alone.specs.Checked.{checkedOf}
 use Rattle.closing_recorded.specs.Tally.{malformed}
 use Rattle.closing_recorded.specs.declared.tally.Seen.{Seen}
 
@@ -37,11 +41,17 @@ sameGap gap linear angular = eqb (toBits binary64 (gap .linear)) linear && eqb (
 unfoldable pub comparedOf : CheckAnswer → ℕ → ℕ → ℕ → Seen
 comparedOf answer recorded linear angular = record { answer = numberOf answer; same = eqb (numberOf answer) recorded && sameGap (gapOf answer) linear angular }
 
+-- the check by two rules, with a number for each row's
+abbrev pub checkedIn : ℕ → ℕ → List Float → List ℕ → List Float → List Float → Rules → CheckAnswer
+checkedIn n b numbers words masses multipliers rules =
+    checkOf (givenFits n b (tableLengths numbers words masses multipliers (rules .words) (rules .tolerances) (replicate n 0)))
+    (closingOf (tableOf n b numbers words masses) (coefficients multipliers) rules)
+
 -- what a case of n rows and b bodies shows: the definition's answer beside the recorded one
 unfoldable pub seenIn : List ℕ → ℕ → ℕ → Seen
 seenIn case n b =
     comparedOf
-    (checkedOf n b (doublesAt case 64 (27 * n)) (halvesAt case (64 + 216 * n) (8 * n)) (doublesAt case (64 + 280 * n) (10 * b)) (doublesAt case (64 + 280 * n + 80 * b) n) (toleranceIn case))
+    (checkedIn n b (doublesAt case 64 (27 * n)) (halvesAt case (64 + 216 * n) (8 * n)) (doublesAt case (64 + 280 * n) (10 * b)) (doublesAt case (64 + 280 * n + 80 * b) n) (twoRules (toleranceIn case)))
     (wordAt case 40)
     (wordAt case 48)
     (wordAt case 56)

@@ -18,7 +18,7 @@ fn main() {
     line(tally.open, b" open\n");
     line(tally.refused_3, b" refused by 3\n");
     line(tally.refused_4, b" refused by 4\n");
-    line(tally.refused_26, b" refused by 26\n");
+    line(tally.refused_27, b" refused by 27\n");
     line(tally.refused_6, b" refused by 6\n");
     line(tally.refused_7, b" refused by 7\n");
     line(tally.refused_18, b" refused by 18\n");

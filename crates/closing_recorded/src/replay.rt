@@ -6,7 +6,6 @@ ghost use Rattle.closing_recorded.specs.Case.{wellFormed, Formed, sameGa
 use crate::tally::Seen;
 use check_alone::checked;
 use check_answer::CheckAnswer;
-use kapitsa_joint::JointTolerance;
 use kapitsa_joint::Maxima;
 use little_endian::double;
 use little_endian::read_doubles;
@@ -65,10 +64,8 @@ fn read_in(
 {
     let rows = n as usize;
     let at = 64 + 280 * rows;
-    let tolerance = JointTolerance {
-        linear_m: double(case, 24),
-        angular_rad: double(case, 32),
-    };
+    let rule_tolerances = [double(case, 24), double(case, 32)];
+    let mut rule_numbers: [u32; 513] = [0; 513];
     let recorded = word(case, 40);
     let linear = word(case, 48);
     let angular = word(case, 56);
@@ -76,7 +73,17 @@ fn read_in(
     read_halves(case, 64 + 216 * rows, words);
     read_doubles(case, at, masses);
     read_doubles(case, at + 80 * b as usize, multipliers);
-    let answer = checked(n, b, numbers, words, masses, multipliers, tolerance);
+    let answer = checked(
+        n,
+        b,
+        numbers,
+        words,
+        masses,
+        multipliers,
+        &[0, 0, 255, 1, 0, 255],
+        &rule_tolerances,
+        &mut rule_numbers[..rows],
+    );
     compared(answer, recorded, linear, angular)
 }
 

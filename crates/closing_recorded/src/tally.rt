@@ -25,7 +25,7 @@ pub struct Tally {
     pub open: u32,
     pub refused_3: u32,
     pub refused_4: u32,
-    pub refused_26: u32,
+    pub refused_27: u32,
     pub refused_6: u32,
     pub refused_7: u32,
     pub refused_18: u32,
@@ -53,7 +53,7 @@ impl Tally {
             open: 0,
             refused_3: 0,
             refused_4: 0,
-            refused_26: 0,
+            refused_27: 0,
             refused_6: 0,
             refused_7: 0,
             refused_18: 0,
@@ -69,7 +69,7 @@ impl Tally {
         let verdict = answer <= 1;
         let refused = (answer == 3)
             | (answer == 4)
-            | (answer == 26)
+            | (answer == 27)
             | (answer == 6)
             | (answer == 7)
             | (answer == 18);
@@ -78,7 +78,7 @@ impl Tally {
             open: more(self.open, answer == 0),
             refused_3: more(self.refused_3, answer == 3),
             refused_4: more(self.refused_4, answer == 4),
-            refused_26: more(self.refused_26, answer == 26),
+            refused_27: more(self.refused_27, answer == 27),
             refused_6: more(self.refused_6, answer == 6),
             refused_7: more(self.refused_7, answer == 7),
             refused_18: more(self.refused_18, answer == 18),

@@ -1,15 +1,15 @@
 -- The ways from a file to its sheet: refused, read, solved, listed. Assumes nothing.
 use Prim.Native.Nat.{ℕ, _+_, _*_, _≤_}
 use mathlib.Core.Path.{_≡_, refl, sym, ap, _∙_}
-use mathlib.Core.Bool.{Bool, true, false, _&&_}
+use mathlib.Core.Bool.{Bool, true, false, not, _&&_}
 use mathlib.Core.List.{List, [], _∷_}
 use native.Mathlib.Omega.{arith}
 use lib.Dec.{leb}
 use lib.ListN.{length}
 use lib.Ieee.{Float}
-use borrow.Author.Tests.{leb-true, le-leb, eq-eqb}
+use borrow.Author.Tests.{leb-true, le-leb, eq-eqb, not-true, not-false}
 use Rattle.loops.proofs.Both.{both}
-use Rattle.loops.specs.Run.{going, ended, on, check}
+use Rattle.loops.specs.Run.{going, ended, on, check, next}
 use Rattle.loops.specs.Judge.{judge, test}
 use Rattle.loops.proofs.Loop.{on-going, on-ended}
 use Rattle.position_delivery.specs.Outcome.{Lent, Outcome, Answer, proposalOf, committedOf, outcomeOf}
@@ -20,13 +20,18 @@ use Rattle.loops.specs.Cleared.{plusZero}
 use Rattle.position_iteration.specs.Position.{positionOf}
 use Rattle.preconditioner.specs.Mode.{modeOf}
 use Rattle.joint_refusals.specs.Counts.{tableCountsFit, countsFit}
+use Rattle.joint_refusals.specs.Tolerances.{passes26}
+use Rattle.rules.specs.Rules.{ruleLengthsFit, twoRules}
+use Rattle.pcg.specs.Ruled.{rulesLent}
 use Rattle.work_memory.specs.Lengths as lengths
 use Rattle.position_solve.specs.Job.{jobFits, JobSolved}
-use Rattle.check_refusals.specs.Refusals.{tableFits, givenFits}
+use Rattle.kapitsa_joint.specs.Table.{tableOf}
+use Rattle.mass_operator.specs.Flat.{coefficients}
+use Rattle.check_range.specs.Closing.{closingOf}
+use Rattle.check_refusals.specs.Refusals.{tableFits, givenFits, tableLengths}
 use Rattle.kapitsa_joint.specs.declared.maxima.Maxima.{Maxima}
-use Rattle.check_answer.specs.Answer.{numberOf, gapOf}
+use Rattle.check_answer.specs.Answer.{numberOf, gapOf, checkOf}
 use Rattle.check_answer.specs.declared.CheckAnswer.{CheckAnswer}
-use Rattle.check_alone.specs.Checked.{checkedOf}
 use Rattle.job_file.specs.Refusals as refusals
 use Rattle.job_file.specs.File.{trailerOf, sectionNumbers, sectionWords, sectionMasses}
 use Rattle.job_file.specs.Job.{Job, jobWith, answerOf, openedOf, judgedOf}
@@ -99,15 +104,16 @@ module _ (file : List ℕ) (t : Trailer) (h : judgedOf file ≡ Passed t) where
 -- ---- the memory
 
 module _ {t : Trailer} {numbers words masses solution impulses : ℕ} (r : JobRoom t numbers words masses solution impulses) where
-  pub solve-fits : jobFits (t .rows) (t .bodies) (t .mode) numbers words masses solution impulses ≡ true
-  unfolding jobFits countsFit lengths.tableFits
-  solve-fits = let n = r .few-rows in let b = r .few-bodies in
-      rw (le-leb (t .rows) 512 (omega arith), le-leb (t .bodies) 256 (omega arith), le-leb (t .mode) 2 (r .mode-known), eq-eqb _ _ (r .numbers-long), eq-eqb _ _ (r .words-long), eq-eqb _ _ (r .masses-long), eq-eqb _ _ (r .solution-long), eq-eqb _ _ (r .impulses-long))
+  -- with two rules, and a number for the rule of each row
+  pub solve-fits : {k : ℕ} → k ≡ t .rows → jobFits (t .rows) (t .bodies) (t .mode) numbers words masses solution impulses 6 2 k ≡ true
+  unfolding jobFits countsFit lengths.tableFits rulesLent ruleLengthsFit
+  solve-fits e = let n = r .few-rows in let b = r .few-bodies in
+      rw (le-leb (t .rows) 512 (omega arith), le-leb (t .bodies) 256 (omega arith), le-leb (t .mode) 2 (r .mode-known), eq-eqb _ _ (r .numbers-long), eq-eqb _ _ (r .words-long), eq-eqb _ _ (r .masses-long), eq-eqb _ _ (r .solution-long), eq-eqb _ _ (r .impulses-long), eq-eqb _ _ e)
 
-  pub check-fits : givenFits (t .rows) (t .bodies) (record { numbers = numbers; words = words; masses = masses; multipliers = solution }) ≡ true
-  unfolding givenFits tableFits
-  check-fits = let n = r .few-rows in let b = r .few-bodies in
-      rw (le-leb (t .rows) 512 (omega arith), le-leb (t .bodies) 256 (omega arith), eq-eqb _ _ (r .numbers-long), eq-eqb _ _ (r .words-long), eq-eqb _ _ (r .masses-long), eq-eqb _ _ (r .solution-long))
+  check-fits : {k : ℕ} → k ≡ t .rows → givenFits (t .rows) (t .bodies) (record { numbers = numbers; words = words; masses = masses; multipliers = solution; «rule_words» = 6; «rule_tolerances» = 2; «rule_numbers» = k }) ≡ true
+  unfolding givenFits tableFits ruleLengthsFit
+  check-fits e = let n = r .few-rows in let b = r .few-bodies in
+      rw (le-leb (t .rows) 512 (omega arith), le-leb (t .bodies) 256 (omega arith), eq-eqb _ _ (r .numbers-long), eq-eqb _ _ (r .words-long), eq-eqb _ _ (r .masses-long), eq-eqb _ _ (r .solution-long), eq-eqb _ _ e)
 
 -- the lent slices keep their lengths
 pub room-after : {t : Trailer} {numbers words masses solution impulses numbers′ words′ masses′ solution′ impulses′ : ℕ} → JobRoom t numbers words masses solution impulses
@@ -116,17 +122,22 @@ room-after r a b c d e = rw (a, b, c, d, e) r
 
 -- ---- the check
 
-closing-is : (t : Trailer) (numbers : List Float) (words : List ℕ) (masses solution impulses : List Float) {answer : CheckAnswer} → JobRoom t (length numbers) (length words) (length masses) (length solution) (length impulses)
-    → answer ≡ checkedOf (t .rows) (t .bodies) numbers words masses solution (t .tolerance) → answer ≡ checkIn (jobWith t numbers words masses) numbers solution
-unfolding checkIn
-closing-is t numbers words masses solution impulses r e = rw (e, check-fits r)
+-- by the two rules
+abbrev checkedBy : Trailer → List Float → List ℕ → List Float → List Float → List ℕ → CheckAnswer
+checkedBy t numbers words masses solution ruleNumbers =
+    let rules = twoRules (t .tolerance) in
+    checkOf (givenFits (t .rows) (t .bodies) (tableLengths numbers words masses solution (rules .words) (rules .tolerances) ruleNumbers)) (closingOf (tableOf (t .rows) (t .bodies) numbers words masses) (coefficients solution) rules)
 
-pub printed-is : (t : Trailer) (r : PositionPcgResult) (numbers : List Float) (words : List ℕ) (masses solution impulses : List Float) {answer : CheckAnswer} {gap : Maxima} {number : ℕ} → JobRoom t (length numbers) (length words) (length masses) (length solution) (length impulses)
-    → answer ≡ checkedOf (t .rows) (t .bodies) numbers words masses solution (t .tolerance) → gap ≡ gapOf answer → number ≡ numberOf answer
-    → listingOf (r .iterations) (r .converged) gap (carriedBy r) number (t .rows) (t .bodies) numbers impulses ≡ printedOf (jobWith t numbers words masses) r numbers solution impulses
-unfolding printedOf
-printed-is t r numbers words masses solution impulses room e g n =
-    rw (g, n) (ap (λ (a : CheckAnswer). listingOf (r .iterations) (r .converged) (gapOf a) (carriedBy r) (numberOf a) (t .rows) (t .bodies) numbers impulses) (closing-is t numbers words masses solution impulses room e))
+module _ (t : Trailer) (numbers : List Float) (words : List ℕ) (masses solution impulses : List Float) (ruleNumbers : List ℕ) (room : JobRoom t (length numbers) (length words) (length masses) (length solution) (length impulses)) (l : length ruleNumbers ≡ t .rows)
+    {answer : CheckAnswer} (e : answer ≡ checkedBy t numbers words masses solution ruleNumbers) where
+  closing-is : answer ≡ checkIn (jobWith t numbers words masses) numbers solution
+  unfolding checkIn
+  closing-is = rw (e, check-fits room l)
+
+  pub printed-is : (r : PositionPcgResult) {gap : Maxima} {number : ℕ} → gap ≡ gapOf answer → number ≡ numberOf answer
+      → listingOf (r .iterations) (r .converged) gap (carriedBy r) number (t .rows) (t .bodies) numbers impulses ≡ printedOf (jobWith t numbers words masses) r numbers solution impulses
+  unfolding printedOf
+  printed-is r g n = rw (g, n) (ap (λ (a : CheckAnswer). listingOf (r .iterations) (r .converged) (gapOf a) (carriedBy r) (numberOf a) (t .rows) (t .bodies) numbers impulses) closing-is)
 
 -- ---- the solve
 
@@ -154,17 +165,23 @@ module _ (j : Job) (solution impulses : List Float) where
   refused-in (going ((flag, count, v), f)) e = never (ap (λ (o : Outcome). o .answer) e)
   refused-in (ended n) e = ap refusedListing (refused-same (ap (λ (o : Outcome). o .answer) e))
 
-module _ (t : Trailer) (numbers : List Float) (words : List ℕ) (masses solution impulses : List Float) {fits : Bool} (f : fits ≡ true) {answer : PositionPcg} {after : Lent}
-    (s : JobSolved fits (positionOf (t .rows) (t .bodies) numbers words masses (t .tolerance) plusZero) (modeOf (t .mode) plusZero) (t .limit) (t .rows) (record { numbers = numbers; solution = solution; impulses = impulses }) after answer) where
-  solved : outcomeOf (t .rows) (record { numbers = numbers; solution = solution; impulses = impulses }) (answerTo (jobWith t numbers words masses)) ≡ record { answer = answer; lent = after }
-  unfolding answerTo
-  solved = rw (← f) (s .answered)
+-- 26, which the program judges
+module _ (t : Trailer) (numbers : List Float) (words : List ℕ) (masses : List Float) {fit : Bool} (p : fit ≡ passes26 (t .tolerance)) where
+  pub job-odd : not fit ≡ true → refusedListing 26 ≡ jobSheet (jobWith t numbers words masses)
+  unfolding jobSheet answerTo answerSheet test check on
+  job-odd n = rw (← p, not-true fit n)
 
-  pub job-refused : {n : ℕ} → answer ≡ answers.Refused n → refusedListing n ≡ jobSheet (jobWith t numbers words masses)
-  unfolding jobSheet
-  job-refused {n} e = refused-in (jobWith t numbers words masses) solution impulses (answerTo (jobWith t numbers words masses)) (solved ∙ ap (λ a. record { answer = a; lent = after }) e)
+  module _ (n : not fit ≡ false) (solution impulses : List Float) {fits : Bool} (f : fits ≡ true) {answer : PositionPcg} {after : Lent} {ruleNumbers ruleNumbers′ : List ℕ}
+      (s : JobSolved fits (twoRules (t .tolerance)) (positionOf (t .rows) (t .bodies) numbers words masses (twoRules (t .tolerance)) plusZero) (modeOf (t .mode) plusZero) (t .limit) (t .rows) (record { numbers = numbers; solution = solution; impulses = impulses }) after ruleNumbers ruleNumbers′ answer) where
+    solved : outcomeOf (t .rows) (record { numbers = numbers; solution = solution; impulses = impulses }) (answerTo (jobWith t numbers words masses)) ≡ record { answer = answer; lent = after }
+    unfolding answerTo test check on
+    solved = rw (← p, not-false fit n, ← f) (s .answered)
 
-  -- the job's own numbers do not matter to what is printed
-  pub job-accepted : {r : PositionPcgResult} (rows : List Float) → answer ≡ answers.Accepted r → printedOf (jobWith t rows words masses) r (after .numbers) (after .solution) (after .impulses) ≡ jobSheet (jobWith t numbers words masses)
-  unfolding jobSheet printedOf checkIn
-  job-accepted {r} rows e = accepted-in (jobWith t numbers words masses) solution impulses (answerTo (jobWith t numbers words masses)) (solved ∙ ap (λ a. record { answer = a; lent = after }) e)
+    pub job-refused : {n : ℕ} → answer ≡ answers.Refused n → refusedListing n ≡ jobSheet (jobWith t numbers words masses)
+    unfolding jobSheet
+    job-refused {n} e = refused-in (jobWith t numbers words masses) solution impulses (answerTo (jobWith t numbers words masses)) (solved ∙ ap (λ a. record { answer = a; lent = after }) e)
+
+    -- the job's own numbers do not matter to what is printed
+    pub job-accepted : {r : PositionPcgResult} (rows : List Float) → answer ≡ answers.Accepted r → printedOf (jobWith t rows words masses) r (after .numbers) (after .solution) (after .impulses) ≡ jobSheet (jobWith t numbers words masses)
+    unfolding jobSheet printedOf checkIn
+    job-accepted {r} rows e = accepted-in (jobWith t numbers words masses) solution impulses (answerTo (jobWith t numbers words masses)) (solved ∙ ap (λ a. record { answer = a; lent = after }) e)

@@ -3,9 +3,12 @@ use Prim.Native.Nat.{ℕ}
 use mathlib.Core.Bool.{true}
 use mathlib.Core.List.{List}
 use lib.Ieee.{Float}
-use Rattle.loops.specs.Run.{going, ended, on}
+use Rattle.loops.specs.Run.{going, ended, on, next}
+use Rattle.loops.specs.Judge.{test}
 use Rattle.kapitsa_joint.specs.Table.{tableOf}
 use Rattle.kapitsa_joint.specs.declared.maxima.Maxima.{Maxima}
+use Rattle.joint_refusals.specs.Tolerances.{passes26}
+use Rattle.rules.specs.Rules.{twoRules}
 use Rattle.mass_operator.specs.Flat.{coefficients}
 use Rattle.preconditioner.specs.Mode.{modeOf}
 use Rattle.steps.specs.Solve.{solve}
@@ -21,12 +24,13 @@ use Rattle.job_file.specs.Job.{Job, jobOf}
 use Rattle.listing.specs.Listing.{listingOf, refusedListing}
 
 -- "The job program uses shift 0" (document 02, f). Refusal 3 has passed: a file's counts and mode are judged with it, and what is lent is as long as they call for.
+-- Document 02, k: "The job file keeps its two tolerances; the program still judges them by 26, then takes them as two rules over keys 0 to 255."
 unfoldable pub answerTo : Job → Answer
-answerTo j = solve (methodOf true (positionOf (j .rows) (j .bodies) (j .numbers) (j .words) (j .masses) (j .tolerance) plusZero) (modeOf (j .mode) plusZero)) (j .limit)
+answerTo j = next (test (passes26 (j .tolerance)) 26) (λ _. solve (methodOf true (positionOf (j .rows) (j .bodies) (j .numbers) (j .words) (j .masses) (twoRules (j .tolerance)) plusZero) (modeOf (j .mode) plusZero)) (j .limit))
 
 -- "the gains since error was measured; the job program gives it the solution": the verdict with its gap, or the check's refusal, on the rows as the solve leaves them
 unfoldable pub checkIn : Job → List Float → List Float → CheckAnswer
-checkIn j numbers solution = checkOf true (closingOf (tableOf (j .rows) (j .bodies) numbers (j .words) (j .masses)) (coefficients solution) (j .tolerance))
+checkIn j numbers solution = checkOf true (closingOf (tableOf (j .rows) (j .bodies) numbers (j .words) (j .masses)) (coefficients solution) (twoRules (j .tolerance)))
 
 -- the residuals that the solve carries along
 abbrev pub carriedBy : PositionPcgResult → Maxima

@@ -26,6 +26,8 @@ pub fn write_accepted(
     requires { ⌜ 16384 ≤ length (now out) ⌝ }
     ensures { λ r. ⌜ Wrote (now (out .entry)) 0 (printedOf (jobWith trailer (now (numbers .entry)) (now (words .entry)) (now (masses .entry))) result (now (numbers .entry)) (now (solution .entry)) (now (impulses .entry))) (now (out .exit)) r ⌝ }
 {
+    let mut rule_numbers: [u32; 128] = [0; 128];
+    let rows = trailer.rows as usize;
     let answer = checked_small(
         trailer.rows,
         trailer.bodies,
@@ -33,7 +35,9 @@ pub fn write_accepted(
         words,
         masses,
         solution,
-        trailer.tolerance,
+        &[0, 0, 255, 1, 0, 255],
+        &[trailer.tolerance.linear_m, trailer.tolerance.angular_rad],
+        &mut rule_numbers[..rows],
     );
     write_listing(
         result.iterations,

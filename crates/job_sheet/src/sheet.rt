@@ -13,6 +13,7 @@ use job_file::Trailer;
 use job_file::judge_file;
 use job_file::read_masses;
 use job_file::read_rows;
+use joint_refusals::tolerances_fit;
 use listing::write_refusal;
 use position_delivery::PositionPcg;
 use position_solve::solve_small_position;
@@ -31,18 +32,25 @@ fn write_job(
     requires { ⌜ 16384 ≤ length (now out) ⌝ }
     ensures { λ r. ⌜ Wrote (now (out .entry)) 0 (jobSheet (jobWith trailer (now (numbers .entry)) (now (words .entry)) (now (masses .entry)))) (now (out .exit)) r ⌝ }
 {
+    if !tolerances_fit(trailer.tolerance) {
+        return write_refusal(26, out);
+    }
+    let mut rule_numbers: [u32; 128] = [0; 128];
+    let rows = trailer.rows as usize;
     let answer = solve_small_position(
         numbers,
         words,
         masses,
         trailer.rows,
         trailer.bodies,
-        trailer.tolerance,
+        &[0, 0, 255, 1, 0, 255],
+        &[trailer.tolerance.linear_m, trailer.tolerance.angular_rad],
         trailer.limit,
         trailer.mode,
         0.0,
         solution,
         impulses,
+        &mut rule_numbers[..rows],
     );
     match answer {
         PositionPcg::Refused(number) => write_refusal(number, out),

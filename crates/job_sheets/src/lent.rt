@@ -21,6 +21,7 @@ fn solved(
     counts: &mut [u32],
     maxima: &mut [f64],
 ) -> u32 {
+    let mut rule_numbers: [u32; 8] = [0; 8];
     let mut jacobians: [f64; 96] = [0.0; 96];
     let mut links: [u32; 16] = [0; 16];
     let mut tolerances: [f64; 8] = [0.0; 8];
@@ -37,8 +38,8 @@ fn solved(
         numbers,
         words,
         masses,
-        trailer.tolerance.linear_m,
-        trailer.tolerance.angular_rad,
+        &[0, 0, 255, 1, 0, 255],
+        &[trailer.tolerance.linear_m, trailer.tolerance.angular_rad],
         trailer.rows,
         trailer.bodies,
         trailer.limit,
@@ -46,6 +47,7 @@ fn solved(
         0.0,
         solution,
         impulses,
+        &mut rule_numbers,
         counts,
         maxima,
         &mut jacobians,
@@ -73,6 +75,7 @@ fn verdict(
     gap: &mut [f64],
 ) -> u32 {
     let mut told: [u32; 1] = [0; 1];
+    let mut rule_numbers: [u32; 8] = [0; 8];
     let mut jacobians: [f64; 96] = [0.0; 96];
     let mut links: [u32; 16] = [0; 16];
     let mut mass_sizes: [f64; 40] = [0.0; 40];
@@ -84,11 +87,12 @@ fn verdict(
         numbers,
         words,
         masses,
-        trailer.tolerance.linear_m,
-        trailer.tolerance.angular_rad,
+        &[0, 0, 255, 1, 0, 255],
+        &[trailer.tolerance.linear_m, trailer.tolerance.angular_rad],
         trailer.rows,
         trailer.bodies,
         multipliers,
+        &mut rule_numbers,
         &mut told,
         gap,
         &mut jacobians,

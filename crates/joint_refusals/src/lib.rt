@@ -10,4 +10,5 @@ pub use judge::masses_finite;
 pub use judge::rows_open;
 pub use judge::rows_valid;
 pub use judge::words_fit;
+pub use tolerances::tolerance_fits;
 pub use tolerances::tolerances_fit;

@@ -1,10 +1,10 @@
-// Refusal 26, of the two tolerances: true where it does not apply.
+// Refusal 26, of a tolerance and of two: true where it does not apply.
 ghost use mathlib.Core.Path.{_≡_};
 ghost use Rattle.joint_refusals.specs.Tolerances.{toleranceFits, passes26};
 use kapitsa_joint::JointTolerance;
 
 // By whole numbers on the bits, as refusal 18: below those of +infinity, or those of −0.0.
-fn tolerance_fits(x: f64) -> bool
+pub fn tolerance_fits(x: f64) -> bool
     ensures { λ r. ⌜ r ≡ toleranceFits x ⌝ }
 {
     let bits = binary64::to_bits(x);

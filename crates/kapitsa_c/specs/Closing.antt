@@ -7,17 +7,13 @@ use mathlib.Core.Logic.{_↔_}
 use lib.Dec.{eqb}
 use lib.ListN.{length}
 use lib.Ieee.{Float}
-use Rattle.kapitsa_joint.specs.declared.tolerance.JointTolerance.{JointTolerance}
 use Rattle.kapitsa_joint.specs.declared.maxima.Maxima.{Maxima}
+use Rattle.rules.specs.Rules.{Rules, Ruled}
 use Rattle.check_range.specs.Closing.{Closing}
-use Rattle.check_answer.specs.Answer.{checkOf, CheckMeaning}
+use Rattle.check_answer.specs.Answer.{checkOf, namedBy, CheckMeaning}
 use Rattle.check_answer.specs.declared.CheckAnswer.{CheckAnswer}
 use Rattle.check_answer.specs.declared.CheckAnswer.the-variants.{Closed, Open, Refused}
 use Rattle.check_work.specs.Work.{CheckMemory, After}
-
--- the two tolerances of a call from C
-abbrev pub tolerancePair : Float → Float → JointTolerance
-tolerancePair linear angular = record { «linear_m» = linear; «angular_rad» = angular }
 
 pub record VerdictTold : Type 0 where
   pub number : ℕ
@@ -36,9 +32,11 @@ verdictTold (Refused number) verdict gap = record { number = number; verdict = v
 unfoldable pub verdictFits : List ℕ → List Float → Bool
 verdictFits verdict gap = eqb (length verdict) 1 && eqb (length gap) 2
 
--- The answer is the definition's and means what demand 3 says, 0 is told for a verdict alone, and the work memory is cleared. `fits` is whether refusal 3 passes.
-pub record CheckTold (fits : Bool) (c : Closing) (verdict : List ℕ) (gap : List Float) (told : VerdictTold) (before after : CheckMemory) : Type 0 where
+-- The answer is the definition's and means what demand 3 says, 0 is told for a verdict alone, then each row's rule is named, and the work memory is cleared. `fits` is whether refusal 3 passes.
+pub record CheckTold (fits : Bool) (s : Rules) (c : Closing) (verdict : List ℕ) (gap : List Float) (told : VerdictTold) (numbers numbersAfter : List ℕ) (before after : CheckMemory) : Type 0 where
   pub answered : told ≡ verdictTold (checkOf fits c) verdict gap
   pub means : CheckMeaning fits c (checkOf fits c)
   pub zero : (told .number ≡ 0) ↔ ((n : ℕ) → checkOf fits c ≡ Refused n → ⊥)
+  pub named : numbersAfter ≡ namedBy (checkOf fits c) c numbers  -- the number of each row's rule
+  pub ruled : told .number ≡ 0 → Ruled s (c .table)  -- which is the one that it falls under
   pub memory : After fits before after

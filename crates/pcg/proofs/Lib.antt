@@ -1,2 +1,3 @@
 -- Laws of the position solve.
 pub mod Entry
+pub mod Naming

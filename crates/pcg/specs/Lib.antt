@@ -1,1 +1,2 @@
 pub mod SolveHeld
+pub mod Ruled

@@ -1,4 +1,6 @@
-// The position solve: refusal 3, the step that is counted, and what is delivered of it with refusal 17. The work memory is cleared by the parts that use it.
-pub mod solve; // solve.rt: the entry
+// The position solve: refusal 3, the step that is counted, what is delivered of it with refusal 17, and the rule of each row. The work memory is cleared by the parts that use it.
+pub mod prepared; // prepared.rt: the entry
+pub mod solve; // solve.rt: the solve by rules of the right lengths
 
-pub use solve::solve_position_pcg_prepared;
+pub use prepared::rules_lent;
+pub use prepared::solve_position_pcg_prepared;

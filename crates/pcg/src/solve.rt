@@ -1,11 +1,13 @@
-// The position solve over lent tables: solve_position_pcg_prepared of pcg.rs, with every refusal of document 01.
+// The solve by rules that are lent in the right lengths: solve_position_pcg_prepared of pcg.rs, with every refusal of documents 01 and 02 but 3 of the rules.
+ghost use Prim.Native.Nat.{_*_, _≤_};
+ghost use lib.ListN.{length};
+ghost use Rattle.rules.specs.Rows.{rulesIn};
 ghost use Rattle.preconditioner.specs.Mode.{modeOf};
 ghost use Rattle.position_iteration.specs.Position.{positionOf};
 ghost use Rattle.work_memory.specs.Work.{workMemory};
 ghost use Rattle.work_memory.specs.Lengths.{passes3};
 ghost use Rattle.pcg.specs.SolveHeld.{SolveHeld};
 use joint_refusals::counts_fit;
-use kapitsa_joint::JointTolerance;
 use position_delivery::PositionPcg;
 use position_delivery::deliver;
 use position_steps::count_steps;
@@ -15,13 +17,14 @@ use work_memory::table_fits;
 use work_memory::vectors_fit;
 
 // Solution, impulses and accumulated multipliers are written only where the answer is accepted; the work memory is +0.0 (integers 0) afterwards, except after refusal 3, which writes nothing.
-pub fn solve_position_pcg_prepared(
+pub fn solve_by_rules(
     numbers: &mut [f64],
     words: &[u32],
     masses: &[f64],
     rows: u32,
     bodies: u32,
-    tolerance: JointTolerance,
+    rule_words: &[u32],
+    rule_tolerances: &[f64],
     limit: u32,
     mode: u32,
     shift: f64,
@@ -40,8 +43,9 @@ pub fn solve_position_pcg_prepared(
     order: &mut [u32],
     values: &mut [f64],
 ) -> PositionPcg
+    requires { ⌜ 3 * length (now «rule_tolerances») ≤ length (now «rule_words») ⌝ }
     ensures { λ r. ⌜ SolveHeld (passes3 rows bodies mode (now (numbers .entry)) (now (words .entry)) (now (masses .entry)) (now (solution .entry)) (now (impulses .entry)) (workMemory (now (jacobians .entry)) (now (links .entry)) (now (tolerances .entry)) (now (diagonal .entry)) (now (residual .entry)) (now (pending .entry)) (now (direction .entry)) (now (product .entry)) (now («body_impulses» .entry)) (now (pattern .entry)) (now (order .entry)) (now (values .entry))))
-        (positionOf rows bodies (now (numbers .entry)) (now (words .entry)) (now (masses .entry)) tolerance shift) (modeOf mode shift) limit rows
+        (positionOf rows bodies (now (numbers .entry)) (now (words .entry)) (now (masses .entry)) (rulesIn (now («rule_words» .entry)) (now («rule_tolerances» .entry))) shift) (modeOf mode shift) limit rows
         record { numbers = now (numbers .entry); solution = now (solution .entry); impulses = now (impulses .entry) } record { numbers = now (numbers .exit); solution = now (solution .exit); impulses = now (impulses .exit) } r
         (workMemory (now (jacobians .entry)) (now (links .entry)) (now (tolerances .entry)) (now (diagonal .entry)) (now (residual .entry)) (now (pending .entry)) (now (direction .entry)) (now (product .entry)) (now («body_impulses» .entry)) (now (pattern .entry)) (now (order .entry)) (now (values .entry)))
         (workMemory (now (jacobians .exit)) (now (links .exit)) (now (tolerances .exit)) (now (diagonal .exit)) (now (residual .exit)) (now (pending .exit)) (now (direction .exit)) (now (product .exit)) (now («body_impulses» .exit)) (now (pattern .exit)) (now (order .exit)) (now (values .exit))) ⌝ }
@@ -85,7 +89,8 @@ pub fn solve_position_pcg_prepared(
         masses,
         rows,
         bodies,
-        tolerance,
+        rule_words,
+        rule_tolerances,
         limit,
         mode_of(mode, shift),
         shift,

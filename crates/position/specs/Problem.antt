@@ -5,10 +5,12 @@ use mathlib.Core.List.{List, []}
 use lib.Ieee.{Float, neg}
 use Rattle.kapitsa_joint.specs.Table.{Table}
 use Rattle.joint_refusals.specs.Refusals.{opensOf}
+use Rattle.joint_refusals.specs.Tolerances.{Tolerances}
 
 pub record Problem : Type 0 where
   pub table : Table
   pub tolerance : ℕ → Float
+  pub rule : ℕ → ℕ  -- the number of the rule that row i is judged by
   pub start : ℕ → Float  -- the residual that row i starts from
   pub accumulated : ℕ → Float  -- the number of row i that gains its solution number
   pub options : List (ℕ × Bool)  -- what is judged right after 3, of what is chosen for the whole solve
@@ -34,6 +36,7 @@ abbrev pub positionProblem : Table → (ℕ → Float) → Problem
 positionProblem t tolerance = record {
   table = t;
   tolerance = tolerance;
+  rule = λ i. 0;
   start = errorStart t;
   accumulated = multipliers t;
   options = [];
@@ -44,15 +47,16 @@ positionProblem t tolerance = record {
   factorFirst = false;
 }
 
--- with tests right after 3 and right after 4
-abbrev pub withTests : List (ℕ × Bool) → List (ℕ × Bool) → Problem → Problem
-withTests options toleranceTests p = record {
+-- with tests right after 3, and with rules and what is judged of them right after 4
+abbrev pub withTests : List (ℕ × Bool) → Tolerances → Problem → Problem
+withTests options limits p = record {
   table = p .table;
   tolerance = p .tolerance;
+  rule = limits .rule;
   start = p .start;
   accumulated = p .accumulated;
   options = options;
-  toleranceTests = toleranceTests;
+  toleranceTests = limits .tests;
   opens = p .opens;
   lent = p .lent;
   validFirst = p .validFirst;

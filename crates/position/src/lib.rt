@@ -2,7 +2,6 @@
 pub mod multiplier; // multiplier.rt: the accumulated multipliers gain the solution
 pub mod prepare; // prepare.rt: diagonal and residual of step 0, with refusals 7 to 9
 pub mod residual; // residual.rt: tolerance and maxima
-pub mod tolerance; // tolerance.rt: the tolerance of each row
 
 pub use multiplier::add_multipliers;
 pub use multiplier::multipliers_finite;
@@ -10,4 +9,3 @@ pub use prepare::Begun;
 pub use prepare::begin;
 pub use residual::position_vector_converged;
 pub use residual::residual_maxima;
-pub use tolerance::gather_tolerances;

@@ -10,8 +10,7 @@ use Rattle.loops.proofs.Inverse.{next-going}
 use Rattle.loops.proofs.Numbers.{judge-numbers}
 use Rattle.loops.proofs.Ranges.{Among, Listed, among-check, among-going, among-judge, among-judged, among-next}
 use Rattle.kapitsa_joint.specs.Table.{Table}
-use Rattle.kapitsa_joint.specs.declared.tolerance.JointTolerance.{JointTolerance}
-use Rattle.joint_refusals.specs.Tolerances.{twoTolerances}
+use Rattle.rules.specs.Rules.{Rules, ruledBy}
 use Rattle.mass_operator.specs.System.{systemOf}
 use Rattle.preconditioner.specs.Factor.{factorJudged}
 use Rattle.preconditioner.specs.declared.mode.Mode.{Mode}
@@ -161,12 +160,12 @@ module _ (p : Problem) (mode : Mode) where
       problem-not-zero = steps.refusal-not-zero (methodOf fits p mode) (placesOf p) limit problem-in-place (nought .0)
 
 -- ---- positions
-pub position-apart : (t : Table) (tolerance : JointTolerance) (shift : Float) → Apart (shiftedProblem t (twoTolerances tolerance t) shift)
+pub position-apart : (t : Table) (rules : Rules) (shift : Float) → Apart (shiftedProblem t (ruledBy rules t) shift)
 unfolding once stands numbersOf
-position-apart t tolerance shift = record { each = refl }
+position-apart t rules shift = record { each = refl }
 
-module _ (fits : Bool) (t : Table) (tolerance : JointTolerance) (shift : Float) (mode : Mode) (limit : ℕ) where
+module _ (fits : Bool) (t : Table) (rules : Rules) (shift : Float) (mode : Mode) (limit : ℕ) where
   -- to be read beside document 01: the places are those of `positionPlaces`
-  pub position-in-place : InPlace (methodOf fits (shiftedProblem t (twoTolerances tolerance t) shift) mode) positionPlaces limit
+  pub position-in-place : InPlace (methodOf fits (shiftedProblem t (ruledBy rules t) shift) mode) positionPlaces limit
   unfolding numbersOf
-  position-in-place = problem-in-place (shiftedProblem t (twoTolerances tolerance t) shift) mode fits limit (position-apart t tolerance shift)
+  position-in-place = problem-in-place (shiftedProblem t (ruledBy rules t) shift) mode fits limit (position-apart t rules shift)

@@ -1,11 +1,11 @@
--- The position solve that lent lists give: with the tolerance of each row's dimension, and a shift for the factor of mode 1 (document 02, f).
+-- The position solve that lent lists give: with each row's tolerance by its rule (document 02, k), and a shift for the factor of mode 1 (document 02, f).
 use Prim.Native.Nat.{ℕ}
 use mathlib.Core.Bool.{Bool}
 use mathlib.Core.List.{List, [], _∷_}
 use lib.Ieee.{Float}
 use Rattle.kapitsa_joint.specs.Table.{Table, tableOf}
-use Rattle.kapitsa_joint.specs.declared.tolerance.JointTolerance.{JointTolerance}
-use Rattle.joint_refusals.specs.Tolerances.{Tolerances, twoTolerances}
+use Rattle.joint_refusals.specs.Tolerances.{Tolerances}
+use Rattle.rules.specs.Rules.{Rules, ruledBy}
 use Rattle.preconditioner.specs.Shift.{passes25}
 use Rattle.position.specs.Problem.{Problem, positionProblem, withTests}
 
@@ -14,7 +14,7 @@ abbrev pub shiftTests : Float → List (ℕ × Bool)
 shiftTests shift = (25, passes25 shift) ∷ []
 
 abbrev pub shiftedProblem : Table → Tolerances → Float → Problem
-shiftedProblem t tolerances shift = withTests (shiftTests shift) (tolerances .tests) (positionProblem t (tolerances .row))
+shiftedProblem t limits shift = withTests (shiftTests shift) limits (positionProblem t (limits .row))
 
-abbrev pub positionOf : ℕ → ℕ → List Float → List ℕ → List Float → JointTolerance → Float → Problem
-positionOf rows bodies numbers words masses tolerance shift = let t = tableOf rows bodies numbers words masses in shiftedProblem t (twoTolerances tolerance t) shift
+abbrev pub positionOf : ℕ → ℕ → List Float → List ℕ → List Float → Rules → Float → Problem
+positionOf rows bodies numbers words masses rules shift = let t = tableOf rows bodies numbers words masses in shiftedProblem t (ruledBy rules t) shift

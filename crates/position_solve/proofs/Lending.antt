@@ -1,6 +1,6 @@
 -- Where the table passes refusal 3 and the memory has the lengths that the counts and the mode call for, the entry does not refuse by 3 either, so what it promises is what the solve promises. Assumes nothing.
 use Prim.Native.Nat.{ℕ, _*_, _≤_}
-use mathlib.Core.Path.{_≡_, sym, _∙_}
+use mathlib.Core.Path.{_≡_, refl, sym, _∙_}
 use mathlib.Core.Bool.{Bool, true, false, not, _&&_}
 use mathlib.Core.List.{List}
 use native.Mathlib.Omega.{arith}
@@ -23,14 +23,16 @@ use Rattle.position_delivery.proofs.Answered.{entry-refused, entry-means}
 use Rattle.work_memory.specs.Work.{WorkMemory, workMemory}
 use Rattle.joint_refusals.specs.Counts.{countsFit}
 use Rattle.work_memory.specs.Lengths.{tableFits, vectorsFit, factorFits, passes3, WorkRoom}
-use Rattle.pcg.specs.SolveHeld.{SolveHeld}
+use Rattle.rules.specs.Rules.{Rules}
+use Rattle.pcg.specs.Ruled.{rulesLent, SolveRuled}
 use Rattle.position_solve.specs.Job.{jobFits, JobSolved, FactorRoom}
 
 -- the counts of what has passed
-pub counts-within : (n b mode numbers words masses solution impulses : ℕ) → jobFits n b mode numbers words masses solution impulses ≡ true → (n ≤ 512) × (b ≤ 256) × (mode ≤ 2)
+pub counts-within : (n b mode numbers words masses solution impulses ruleWords ruleTolerances ruleNumbers : ℕ) → jobFits n b mode numbers words masses solution impulses ruleWords ruleTolerances ruleNumbers ≡ true → (n ≤ 512) × (b ≤ 256) × (mode ≤ 2)
 unfolding jobFits countsFit
-counts-within n b mode numbers words masses solution impulses h =
-    let (c, _) = both (countsFit n b mode) (tableFits n b numbers words masses solution impulses) h in
+counts-within n b mode numbers words masses solution impulses ruleWords ruleTolerances ruleNumbers h =
+    let (_, k) = both (rulesLent n ruleWords ruleTolerances ruleNumbers) (countsFit n b mode && tableFits n b numbers words masses solution impulses) h in
+    let (c, _) = both (countsFit n b mode) (tableFits n b numbers words masses solution impulses) k in
     let (p, m) = both (leb n 512 && leb b 256) (leb mode 2) c in
     let (x, y) = both (leb n 512) (leb b 256) p in
     (leb-true n 512 x, leb-true b 256 y, leb-true mode 2 m)
@@ -47,24 +49,28 @@ module _ (N B : ℕ) {n b mode : ℕ} {pattern order : List ℕ} {values : List 
         table = record { jacobians-long = length-take-le (12 * n) j (omega arith); links-long = length-take-le (2 * n) l (omega arith); residual-long = row r er; pending-long = row p ep; body-impulses-long = length-take-le (6 * b) i (omega arith) };
       }
 
-module _ (n b mode : ℕ) (numbers : List Float) (words : List ℕ) (masses solution impulses : List Float) (w : WorkMemory)
-    (h : jobFits n b mode (length numbers) (length words) (length masses) (length solution) (length impulses) ≡ true) (r : WorkRoom (roomMode mode) n b w) where
-  fits-too : passes3 n b mode numbers words masses solution impulses w ≡ true
+module _ (n b mode : ℕ) (numbers : List Float) (words : List ℕ) (masses solution impulses : List Float) (w : WorkMemory) (ruleWords ruleTolerances ruleNumbers : ℕ)
+    (h : jobFits n b mode (length numbers) (length words) (length masses) (length solution) (length impulses) ruleWords ruleTolerances ruleNumbers ≡ true) (r : WorkRoom (roomMode mode) n b w) where
+  fits-too : (rulesLent n ruleWords ruleTolerances ruleNumbers && passes3 n b mode numbers words masses solution impulses w) ≡ true
   unfolding jobFits passes3 vectorsFit factorFits
   fits-too =
-      rw (h, eq-eqb _ _ (r .table .jacobians-long), eq-eqb _ _ (r .table .links-long), eq-eqb _ _ (r .steps .tolerances-long), eq-eqb _ _ (r .table .residual-long), eq-eqb _ _ (r .table .pending-long), eq-eqb _ _ (r .steps .direction-long), eq-eqb _ _ (r .steps .product-long), eq-eqb _ _ (r .table .body-impulses-long), eq-eqb _ _ (r .steps .factor .diagonal-long), eq-eqb _ _ (r .steps .factor .pattern-long), eq-eqb _ _ (r .steps .factor .order-long), eq-eqb _ _ (r .steps .factor .values-long))
+      let (l, k) = both (rulesLent n ruleWords ruleTolerances ruleNumbers) (countsFit n b mode && tableFits n b (length numbers) (length words) (length masses) (length solution) (length impulses)) h in
+      rw (l, k, eq-eqb _ _ (r .table .jacobians-long), eq-eqb _ _ (r .table .links-long), eq-eqb _ _ (r .steps .tolerances-long), eq-eqb _ _ (r .table .residual-long), eq-eqb _ _ (r .table .pending-long), eq-eqb _ _ (r .steps .direction-long), eq-eqb _ _ (r .steps .product-long), eq-eqb _ _ (r .table .body-impulses-long), eq-eqb _ _ (r .steps .factor .diagonal-long), eq-eqb _ _ (r .steps .factor .pattern-long), eq-eqb _ _ (r .steps .factor .order-long), eq-eqb _ _ (r .steps .factor .values-long))
 
-  pub job-solved : {p : Problem} {m : Mode} {limit rows : ℕ} {before after : Lent} {answer : PositionPcg} {work workAfter : WorkMemory}
-      → SolveHeld (passes3 n b mode numbers words masses solution impulses w) p m limit rows before after answer work workAfter → JobSolved true p m limit rows before after answer
-  job-solved s = let q = rw fits-too at s in record { answered = q .answered; means = q .means; in-place = q .in-place }
+  pub job-solved : {s : Rules} {p : Problem} {m : Mode} {limit rows : ℕ} {before after : Lent} {named namedAfter : List ℕ} {answer : PositionPcg} {work workAfter : WorkMemory}
+      → SolveRuled (rulesLent n ruleWords ruleTolerances ruleNumbers && passes3 n b mode numbers words masses solution impulses w) s p m limit rows before after named namedAfter answer work workAfter
+      → JobSolved true s p m limit rows before after named namedAfter answer
+  job-solved r =
+      let q = rw fits-too at r in
+      record { answered = q .held .answered; means = q .held .means; in-place = q .held .in-place; named = q .named; ruled = q .ruled }
 
 -- ---- refusal 3; b is what its test answered
-module _ (p : Problem) (mode : Mode) (limit n : ℕ) (before : Lent) (b fits : Bool) (apart : Apart p) (e : b ≡ fits) where
-  pub job-refused : not b ≡ true → JobSolved fits p mode limit n before before (answers.Refused 3)
-  job-refused h = let q = entry-refused p mode n limit before b fits e h in record { answered = q; means = entry-means (methodOf fits p mode) limit n before before (answers.Refused 3) q; in-place = problem-in-place p mode fits limit apart }
+module _ (s : Rules) (p : Problem) (mode : Mode) (limit n : ℕ) (before : Lent) (named : List ℕ) (b fits : Bool) (apart : Apart p) (e : b ≡ fits) where
+  pub job-refused : not b ≡ true → JobSolved fits s p mode limit n before before named named (answers.Refused 3)
+  job-refused h = let q = entry-refused p mode n limit before b fits e h in record { answered = q; means = entry-means (methodOf fits p mode) limit n before before (answers.Refused 3) q; in-place = problem-in-place p mode fits limit apart; named = refl; ruled = λ r a. absurd (let z : _≡_ {A = ℕ} 0 1 = cc in omega arith) }
 
-  pub job-passed : (after : Lent) (answer : PositionPcg) → not b ≡ false → JobSolved true p mode limit n before after answer → JobSolved fits p mode limit n before after answer
-  job-passed after answer h s = rw (← (sym (not-false b h) ∙ e)) s
+  pub job-passed : (after : Lent) (after-named : List ℕ) (answer : PositionPcg) → not b ≡ false → JobSolved true s p mode limit n before after named after-named answer → JobSolved fits s p mode limit n before after named after-named answer
+  job-passed after after-named answer h j = rw (← (sym (not-false b h) ∙ e)) j
 
 pub passed : {b fits : Bool} → b ≡ fits → not b ≡ false → fits ≡ true
 passed {b} e h = sym e ∙ not-false b h

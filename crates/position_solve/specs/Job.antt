@@ -2,6 +2,8 @@
 use Prim.Native.Nat.{ℕ}
 use mathlib.Core.Path.{_≡_}
 use mathlib.Core.Bool.{Bool, _&&_}
+use mathlib.Core.List.{List}
+use Rattle.rules.specs.Rules.{Rules, Ruled}
 use Rattle.preconditioner.specs.Mode.{roomMode}
 use Rattle.preconditioner.specs.Room.{patternRoom, orderRoom, valuesRoom}
 use Rattle.preconditioner.specs.declared.mode.Mode.{Mode}
@@ -12,18 +14,23 @@ use Rattle.position_iteration.specs.Method.{methodOf}
 use Rattle.position_iteration.specs.Places.{placesOf}
 use Rattle.position_delivery.specs.Outcome.{Lent, outcomeOf, SolveMeaning}
 use Rattle.position_delivery.specs.declared.answer.PositionPcg.{PositionPcg}
+use Rattle.position_delivery.specs.declared.answer.PositionPcg.the-variants as answers
+use Rattle.position_delivery.specs.declared.answer.PositionPcgResult.{PositionPcgResult}
+use Rattle.pcg.specs.Ruled.{rulesLent, namedBy}
 use Rattle.joint_refusals.specs.Counts.{countsFit}
 use Rattle.work_memory.specs.Lengths.{tableFits}
 
--- Document 01, refusal 3, of what a caller lends: the counts, the mode, and the lengths of the table and of what takes the answer. True where the refusal does not apply.
-unfoldable pub jobFits : ℕ → ℕ → ℕ → ℕ → ℕ → ℕ → ℕ → ℕ → Bool
-jobFits n b mode numbers words masses solution impulses = countsFit n b mode && tableFits n b numbers words masses solution impulses
+-- Document 01, refusal 3, of what a caller lends: the counts, the mode, and the lengths of the table, of the rules and of what takes the answer. True where the refusal does not apply.
+unfoldable pub jobFits : ℕ → ℕ → ℕ → ℕ → ℕ → ℕ → ℕ → ℕ → ℕ → ℕ → ℕ → Bool
+jobFits n b mode numbers words masses solution impulses ruleWords ruleTolerances ruleNumbers = rulesLent n ruleWords ruleTolerances ruleNumbers && (countsFit n b mode && tableFits n b numbers words masses solution impulses)
 
 -- of n rows; `fits` is whether refusal 3 passes
-pub record JobSolved (fits : Bool) (p : Problem) (mode : Mode) (limit n : ℕ) (before after : Lent) (answer : PositionPcg) : Type 0 where
+pub record JobSolved (fits : Bool) (s : Rules) (p : Problem) (mode : Mode) (limit n : ℕ) (before after : Lent) (numbers numbersAfter : List ℕ) (answer : PositionPcg) : Type 0 where
   pub answered : outcomeOf n before (solve (methodOf fits p mode) limit) ≡ record { answer = answer; lent = after }  -- the answer and every lent number are the definition's, of refused calls too
   pub means : SolveMeaning (methodOf fits p mode) limit n before answer after  -- demand 3
   pub in-place : InPlace (methodOf fits p mode) (placesOf p) limit  -- each refusal exactly in its place
+  pub named : numbersAfter ≡ namedBy answer (p .rule) n numbers  -- the number of each row's rule
+  pub ruled : (r : PositionPcgResult) → answer ≡ answers.Accepted r → Ruled s (p .table)  -- which is the one that it falls under
 
 -- the factor's memory is as long as the mode calls for
 pub record FactorRoom (mode n pattern order values : ℕ) : Type 0 where

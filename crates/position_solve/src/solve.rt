@@ -3,11 +3,11 @@ ghost use mathlib.Core.Path.{_≡_};
 ghost use mathlib.Core.Bool.{true};
 ghost use Prim.Native.Nat.{_≤_};
 ghost use lib.ListN.{length};
+ghost use Rattle.rules.specs.Rows.{rulesIn};
 ghost use Rattle.preconditioner.specs.Mode.{modeOf};
 ghost use Rattle.position_iteration.specs.Position.{positionOf};
 ghost use Rattle.position_solve.specs.Job.{jobFits, JobSolved, FactorRoom};
 use crate::fit::job_fits;
-use kapitsa_joint::JointTolerance;
 use pcg::solve_position_pcg_prepared;
 use position_delivery::PositionPcg;
 use preconditioner::Mode;
@@ -22,20 +22,22 @@ fn with_vectors(
     masses: &[f64],
     rows: u32,
     bodies: u32,
-    tolerance: JointTolerance,
+    rule_words: &[u32],
+    rule_tolerances: &[f64],
     limit: u32,
     mode: u32,
     shift: f64,
     solution: &mut [f64],
     impulses: &mut [f64],
+    rule_numbers: &mut [u32],
     pattern: &mut [u32],
     order: &mut [u32],
     values: &mut [f64],
 ) -> PositionPcg
-    requires { ⌜ jobFits rows bodies mode (length (now numbers)) (length (now words)) (length (now masses)) (length (now solution)) (length (now impulses)) ≡ true ⌝ }
+    requires { ⌜ jobFits rows bodies mode (length (now numbers)) (length (now words)) (length (now masses)) (length (now solution)) (length (now impulses)) (length (now «rule_words»)) (length (now «rule_tolerances»)) (length (now «rule_numbers»)) ≡ true ⌝ }
     requires { ⌜ (rows ≤ 512) × (bodies ≤ 256) ⌝ }
     requires { ⌜ FactorRoom mode rows (length (now pattern)) (length (now order)) (length (now values)) ⌝ }
-    ensures { λ r. ⌜ JobSolved true (positionOf rows bodies (now (numbers .entry)) (now (words .entry)) (now (masses .entry)) tolerance shift) (modeOf mode shift) limit rows record { numbers = now (numbers .entry); solution = now (solution .entry); impulses = now (impulses .entry) } record { numbers = now (numbers .exit); solution = now (solution .exit); impulses = now (impulses .exit) } r ⌝ }
+    ensures { λ r. ⌜ JobSolved true (rulesIn (now («rule_words» .entry)) (now («rule_tolerances» .entry))) (positionOf rows bodies (now (numbers .entry)) (now (words .entry)) (now (masses .entry)) (rulesIn (now («rule_words» .entry)) (now («rule_tolerances» .entry))) shift) (modeOf mode shift) limit rows record { numbers = now (numbers .entry); solution = now (solution .entry); impulses = now (impulses .entry) } record { numbers = now (numbers .exit); solution = now (solution .exit); impulses = now (impulses .exit) } (now («rule_numbers» .entry)) (now («rule_numbers» .exit)) r ⌝ }
 {
     let mut jacobians: [f64; 6144] = [0.0; 6144];
     let mut links: [u32; 1024] = [0; 1024];
@@ -57,12 +59,14 @@ fn with_vectors(
         masses,
         rows,
         bodies,
-        tolerance,
+        rule_words,
+        rule_tolerances,
         limit,
         mode,
         shift,
         solution,
         impulses,
+        rule_numbers,
         &mut jacobians[..jacobian_numbers],
         &mut links[..body_links],
         &mut tolerances[..n],
@@ -85,17 +89,19 @@ fn with_factor(
     masses: &[f64],
     rows: u32,
     bodies: u32,
-    tolerance: JointTolerance,
+    rule_words: &[u32],
+    rule_tolerances: &[f64],
     limit: u32,
     mode: u32,
     shift: f64,
     solution: &mut [f64],
     impulses: &mut [f64],
+    rule_numbers: &mut [u32],
 ) -> PositionPcg
-    requires { ⌜ jobFits rows bodies mode (length (now numbers)) (length (now words)) (length (now masses)) (length (now solution)) (length (now impulses)) ≡ true ⌝ }
+    requires { ⌜ jobFits rows bodies mode (length (now numbers)) (length (now words)) (length (now masses)) (length (now solution)) (length (now impulses)) (length (now «rule_words»)) (length (now «rule_tolerances»)) (length (now «rule_numbers»)) ≡ true ⌝ }
     requires { ⌜ (rows ≤ 512) × (bodies ≤ 256) ⌝ }
     requires { ⌜ mode ≡ 1 ⌝ }
-    ensures { λ r. ⌜ JobSolved true (positionOf rows bodies (now (numbers .entry)) (now (words .entry)) (now (masses .entry)) tolerance shift) (modeOf mode shift) limit rows record { numbers = now (numbers .entry); solution = now (solution .entry); impulses = now (impulses .entry) } record { numbers = now (numbers .exit); solution = now (solution .exit); impulses = now (impulses .exit) } r ⌝ }
+    ensures { λ r. ⌜ JobSolved true (rulesIn (now («rule_words» .entry)) (now («rule_tolerances» .entry))) (positionOf rows bodies (now (numbers .entry)) (now (words .entry)) (now (masses .entry)) (rulesIn (now («rule_words» .entry)) (now («rule_tolerances» .entry))) shift) (modeOf mode shift) limit rows record { numbers = now (numbers .entry); solution = now (solution .entry); impulses = now (impulses .entry) } record { numbers = now (numbers .exit); solution = now (solution .exit); impulses = now (impulses .exit) } (now («rule_numbers» .entry)) (now («rule_numbers» .exit)) r ⌝ }
 {
     let mut pattern: [u32; 16897] = [0; 16897];
     let mut order: [u32; 33280] = [0; 33280];
@@ -109,12 +115,14 @@ fn with_factor(
         masses,
         rows,
         bodies,
-        tolerance,
+        rule_words,
+        rule_tolerances,
         limit,
         mode,
         shift,
         solution,
         impulses,
+        rule_numbers,
         &mut pattern[..pattern_words],
         &mut order[..order_words],
         &mut values[..value_numbers],
@@ -128,17 +136,19 @@ fn with_blocks(
     masses: &[f64],
     rows: u32,
     bodies: u32,
-    tolerance: JointTolerance,
+    rule_words: &[u32],
+    rule_tolerances: &[f64],
     limit: u32,
     mode: u32,
     shift: f64,
     solution: &mut [f64],
     impulses: &mut [f64],
+    rule_numbers: &mut [u32],
 ) -> PositionPcg
-    requires { ⌜ jobFits rows bodies mode (length (now numbers)) (length (now words)) (length (now masses)) (length (now solution)) (length (now impulses)) ≡ true ⌝ }
+    requires { ⌜ jobFits rows bodies mode (length (now numbers)) (length (now words)) (length (now masses)) (length (now solution)) (length (now impulses)) (length (now «rule_words»)) (length (now «rule_tolerances»)) (length (now «rule_numbers»)) ≡ true ⌝ }
     requires { ⌜ (rows ≤ 512) × (bodies ≤ 256) ⌝ }
     requires { ⌜ mode ≡ 2 ⌝ }
-    ensures { λ r. ⌜ JobSolved true (positionOf rows bodies (now (numbers .entry)) (now (words .entry)) (now (masses .entry)) tolerance shift) (modeOf mode shift) limit rows record { numbers = now (numbers .entry); solution = now (solution .entry); impulses = now (impulses .entry) } record { numbers = now (numbers .exit); solution = now (solution .exit); impulses = now (impulses .exit) } r ⌝ }
+    ensures { λ r. ⌜ JobSolved true (rulesIn (now («rule_words» .entry)) (now («rule_tolerances» .entry))) (positionOf rows bodies (now (numbers .entry)) (now (words .entry)) (now (masses .entry)) (rulesIn (now («rule_words» .entry)) (now («rule_tolerances» .entry))) shift) (modeOf mode shift) limit rows record { numbers = now (numbers .entry); solution = now (solution .entry); impulses = now (impulses .entry) } record { numbers = now (numbers .exit); solution = now (solution .exit); impulses = now (impulses .exit) } (now («rule_numbers» .entry)) (now («rule_numbers» .exit)) r ⌝ }
 {
     let mut pattern: [u32; 512] = [0; 512];
     let mut order: [u32; 0] = [0; 0];
@@ -151,12 +161,14 @@ fn with_blocks(
         masses,
         rows,
         bodies,
-        tolerance,
+        rule_words,
+        rule_tolerances,
         limit,
         mode,
         shift,
         solution,
         impulses,
+        rule_numbers,
         &mut pattern[..pattern_words],
         &mut order,
         &mut values[..value_numbers],
@@ -170,17 +182,19 @@ fn with_diagonal(
     masses: &[f64],
     rows: u32,
     bodies: u32,
-    tolerance: JointTolerance,
+    rule_words: &[u32],
+    rule_tolerances: &[f64],
     limit: u32,
     mode: u32,
     shift: f64,
     solution: &mut [f64],
     impulses: &mut [f64],
+    rule_numbers: &mut [u32],
 ) -> PositionPcg
-    requires { ⌜ jobFits rows bodies mode (length (now numbers)) (length (now words)) (length (now masses)) (length (now solution)) (length (now impulses)) ≡ true ⌝ }
+    requires { ⌜ jobFits rows bodies mode (length (now numbers)) (length (now words)) (length (now masses)) (length (now solution)) (length (now impulses)) (length (now «rule_words»)) (length (now «rule_tolerances»)) (length (now «rule_numbers»)) ≡ true ⌝ }
     requires { ⌜ (rows ≤ 512) × (bodies ≤ 256) ⌝ }
     requires { ⌜ mode ≡ 0 ⌝ }
-    ensures { λ r. ⌜ JobSolved true (positionOf rows bodies (now (numbers .entry)) (now (words .entry)) (now (masses .entry)) tolerance shift) (modeOf mode shift) limit rows record { numbers = now (numbers .entry); solution = now (solution .entry); impulses = now (impulses .entry) } record { numbers = now (numbers .exit); solution = now (solution .exit); impulses = now (impulses .exit) } r ⌝ }
+    ensures { λ r. ⌜ JobSolved true (rulesIn (now («rule_words» .entry)) (now («rule_tolerances» .entry))) (positionOf rows bodies (now (numbers .entry)) (now (words .entry)) (now (masses .entry)) (rulesIn (now («rule_words» .entry)) (now («rule_tolerances» .entry))) shift) (modeOf mode shift) limit rows record { numbers = now (numbers .entry); solution = now (solution .entry); impulses = now (impulses .entry) } record { numbers = now (numbers .exit); solution = now (solution .exit); impulses = now (impulses .exit) } (now («rule_numbers» .entry)) (now («rule_numbers» .exit)) r ⌝ }
 {
     let mut pattern: [u32; 0] = [0; 0];
     let mut order: [u32; 0] = [0; 0];
@@ -191,12 +205,14 @@ fn with_diagonal(
         masses,
         rows,
         bodies,
-        tolerance,
+        rule_words,
+        rule_tolerances,
         limit,
         mode,
         shift,
         solution,
         impulses,
+        rule_numbers,
         &mut pattern,
         &mut order,
         &mut values,
@@ -210,14 +226,16 @@ pub fn solve_position(
     masses: &[f64],
     rows: u32,
     bodies: u32,
-    tolerance: JointTolerance,
+    rule_words: &[u32],
+    rule_tolerances: &[f64],
     limit: u32,
     mode: u32,
     shift: f64,
     solution: &mut [f64],
     impulses: &mut [f64],
+    rule_numbers: &mut [u32],
 ) -> PositionPcg
-    ensures { λ r. ⌜ JobSolved (jobFits rows bodies mode (length (now (numbers .entry))) (length (now (words .entry))) (length (now (masses .entry))) (length (now (solution .entry))) (length (now (impulses .entry)))) (positionOf rows bodies (now (numbers .entry)) (now (words .entry)) (now (masses .entry)) tolerance shift) (modeOf mode shift) limit rows record { numbers = now (numbers .entry); solution = now (solution .entry); impulses = now (impulses .entry) } record { numbers = now (numbers .exit); solution = now (solution .exit); impulses = now (impulses .exit) } r ⌝ }
+    ensures { λ r. ⌜ JobSolved (jobFits rows bodies mode (length (now (numbers .entry))) (length (now (words .entry))) (length (now (masses .entry))) (length (now (solution .entry))) (length (now (impulses .entry))) (length (now («rule_words» .entry))) (length (now («rule_tolerances» .entry))) (length (now («rule_numbers» .entry)))) (rulesIn (now («rule_words» .entry)) (now («rule_tolerances» .entry))) (positionOf rows bodies (now (numbers .entry)) (now (words .entry)) (now (masses .entry)) (rulesIn (now («rule_words» .entry)) (now («rule_tolerances» .entry))) shift) (modeOf mode shift) limit rows record { numbers = now (numbers .entry); solution = now (solution .entry); impulses = now (impulses .entry) } record { numbers = now (numbers .exit); solution = now (solution .exit); impulses = now (impulses .exit) } (now («rule_numbers» .entry)) (now («rule_numbers» .exit)) r ⌝ }
 {
     if !job_fits(
         rows,
@@ -228,6 +246,9 @@ pub fn solve_position(
         masses.len(),
         solution.len(),
         impulses.len(),
+        rule_words.len(),
+        rule_tolerances.len(),
+        rule_numbers.len(),
     ) {
         return PositionPcg::Refused(3);
     }
@@ -238,12 +259,14 @@ pub fn solve_position(
             masses,
             rows,
             bodies,
-            tolerance,
+            rule_words,
+            rule_tolerances,
             limit,
             mode,
             shift,
             solution,
             impulses,
+            rule_numbers,
         );
     }
     if mode == 1 {
@@ -253,12 +276,14 @@ pub fn solve_position(
             masses,
             rows,
             bodies,
-            tolerance,
+            rule_words,
+            rule_tolerances,
             limit,
             mode,
             shift,
             solution,
             impulses,
+            rule_numbers,
         );
     }
     with_blocks(
@@ -267,11 +292,13 @@ pub fn solve_position(
         masses,
         rows,
         bodies,
-        tolerance,
+        rule_words,
+        rule_tolerances,
         limit,
         mode,
         shift,
         solution,
         impulses,
+        rule_numbers,
     )
 }

@@ -10,9 +10,9 @@ use Rattle.loops.specs.Run.{Run, going, ended, on, next, check}
 use Rattle.loops.proofs.Loop.{on-going, on-ended}
 use Rattle.loops.proofs.Tabulate.{getD-tabulate}
 use Rattle.kapitsa_joint.specs.Row.{rowOf, wordsOf}
-use Rattle.kapitsa_joint.specs.Table.{Table, tableOf, byDimension, tolerancesIn}
-use Rattle.kapitsa_joint.specs.declared.tolerance.JointTolerance.{JointTolerance}
-use Rattle.joint_refusals.specs.Tolerances.{Tolerances, twoTolerances}
+use Rattle.kapitsa_joint.specs.Table.{Table, tableOf, tolerancesIn}
+use Rattle.joint_refusals.specs.Tolerances.{Tolerances}
+use Rattle.rules.specs.Rules.{Rules, ruledBy}
 use Rattle.mass_operator.specs.System.{System, systemOf, compactSystem}
 use Rattle.preconditioner.specs.Factor.{factorJudged}
 use Rattle.preconditioner.specs.Apply.{preconditioned}
@@ -84,12 +84,12 @@ pub start-roomy : (mode : Mode) (n : ℕ) (m : Memory) (diagonal : List Float) �
 start-roomy mode n m diagonal r e = record { diagonal-long = e ∙ r .diagonal-long; pattern-long = r .pattern-long; order-long = r .order-long; values-long = r .values-long }
 
 -- ---- `count_steps`
-module _ (numbers : List Float) (words : List ℕ) (masses : List Float) (rows bodies : ℕ) (tolerance : JointTolerance) (limit : ℕ) (shift : Float) (mode : Mode) (a : Begun) (jacobians : List Float) (links : List ℕ) (tolerances diagonal pending residual : List Float) where
+module _ (numbers : List Float) (words : List ℕ) (masses : List Float) (rows bodies : ℕ) (rules : Rules) (limit : ℕ) (shift : Float) (mode : Mode) (a : Begun) (jacobians : List Float) (links : List ℕ) (tolerances diagonal pending residual : List Float) where
   abbrev table : Table
   table = tableOf rows bodies numbers words masses
 
   abbrev problem : Problem
-  problem = shiftedProblem table (twoTolerances tolerance table) shift
+  problem = shiftedProblem table (ruledBy rules table) shift
 
   abbrev code : ℕ → Iterate → Run (Bool × ℕ × Iterate) ℕ
   code w = followingOf mode (compactSystem rows w jacobians links masses) (jointsIn words) diagonal (tolerancesIn tolerances) limit
@@ -100,7 +100,7 @@ module _ (numbers : List Float) (words : List ℕ) (masses : List Float) (rows b
       let v : Iterate = record { solution = pending; residual = residual } in
       ap (λ (s : System). followingOf mode s (jointsIn words) diagonal (tolerancesIn tolerances) limit v) (h .stands .system)
       ∙ ap (λ (d : List Float). followingOf mode (systemOf table) (ownerOf table) d (tolerancesIn tolerances) limit v) (h .diagonal-is)
-      ∙ following-same mode (systemOf table) (ownerOf table) (diagonals table) (tolerancesIn tolerances) (byDimension tolerance table) limit v (λ i l. ap (λ (x : List Float). getD x i nan) (h .tolerances-are) ∙ getD-tabulate (byDimension tolerance table) rows i nan l) long
+      ∙ following-same mode (systemOf table) (ownerOf table) (diagonals table) (tolerancesIn tolerances) (ruledBy rules table .row) limit v (λ i l. ap (λ (x : List Float). getD x i nan) (h .tolerances-are) ∙ getD-tabulate (ruledBy rules table .row) rows i nan l) long
 
   module _ (held : StartHeld problem limit masses a jacobians links tolerances diagonal pending residual) (long : length residual ≡ rows) (w : ℕ) (ew : w ≡ bodies) (o : Iterated) (x r : List Float) (called : next (startOut a pending residual) (code w) ≡ iteratedOut o limit x r) where
     here : next (startOut a pending residual) (code bodies) ≡ iteratedOut o limit x r
@@ -111,7 +111,7 @@ module _ (numbers : List Float) (words : List ℕ) (masses : List Float) (rows b
     follows (begun.Refused k) e = on-ended _ _ _ refl ∙ sym (on-ended _ _ _ refl)
 
     answers : countedOf mode problem limit ≡ iteratedOut o limit x r
-    answers = in-turn table (twoTolerances tolerance table) shift mode limit ∙ ap (λ (q : Run Iterate ℕ). next q (following problem mode limit)) (held .answered) ∙ follows a refl ∙ here
+    answers = in-turn table (ruledBy rules table) shift mode limit ∙ ap (λ (q : Run Iterate ℕ). next q (following problem mode limit)) (held .answered) ∙ follows a refl ∙ here
 
     -- where the answer is no refusal, step 0 was none
     stands : (q : Begun) → a ≡ q → (p : Bool × ℕ × Iterate) → iteratedOut o limit x r ≡ going p → Stands table masses jacobians links

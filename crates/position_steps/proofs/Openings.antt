@@ -1,6 +1,6 @@
 -- What the tests before step 0 are over the lent lists. Assumes nothing.
 use Prim.Native.Nat.{ℕ, _+_, _*_}
-use mathlib.Core.Path.{_≡_, refl}
+use mathlib.Core.Path.{_≡_, refl, ap, _∙_}
 use mathlib.Core.Bool.{Bool, true, false}
 use mathlib.Core.List.{List}
 use lib.Ieee.{Float}
@@ -13,6 +13,9 @@ use Rattle.kapitsa_joint.specs.Row.{rowOf, scalarsOf, wordsOf}
 use Rattle.kapitsa_joint.specs.Mass.{massOf}
 use Rattle.kapitsa_joint.specs.Table.{tableOf}
 use Rattle.joint_refusals.specs.Refusals.{wordsFitOf, massFiniteOf, passes4, opensOf, passes6}
+use Rattle.rules.specs.Rules.{Rules, passes28}
+use Rattle.rules.specs.Rows.{rowsRuled}
+use Rattle.rules.proofs.Lent.{lent-28}
 use Rattle.position.specs.Problem.{Problem}
 use Rattle.position_iteration.specs.Method.{passes5, afterThree, openingOf}
 
@@ -39,6 +42,9 @@ module _ (numbers masses : List Float) (words : List ℕ) (rows bodies : ℕ) (r
   pub masses-six : (n : ℕ) → n ≡ bodies → r ≡ every (λ b. massFiniteOf (massOf masses b)) n → r ≡ passes6 (tableOf rows bodies numbers words masses)
   unfolding passes6
   masses-six n en e = rw (← en) e
+
+pub rows-28 : (rules : Rules) (numbers : List Float) (words : List ℕ) (masses : List Float) (rows bodies n : ℕ) (r : Bool) → n ≡ rows → r ≡ rowsRuled rules words n → r ≡ passes28 rules (tableOf rows bodies numbers words masses)
+rows-28 rules numbers words masses rows bodies n r en e = e ∙ ap (rowsRuled rules words) en ∙ lent-28 rules rows bodies numbers words masses
 
 pub rows-five : (numbers : List Float) (words : List ℕ) (rows limit : ℕ) (r : Bool) → r ≡ passes5 rows (λ i. opensOf (scalarsOf numbers (27 * i + 15)) (wordsOf words (8 * i))) limit
     → r ≡ passes5 rows (λ i. opensOf (rowOf numbers words i .scalars) (rowOf numbers words i .words)) limit

@@ -1,21 +1,23 @@
 -- The ways to step 0: the opening or a row is refused, or the lent memory holds the table. Assumes nothing.
 use Prim.Native.Nat.{ℕ, _+_, _*_, _<_}
 use mathlib.Core.Path.{_≡_, sym, ap, _∙_, subst}
+use mathlib.Core.Bool.{true}
 use mathlib.Core.List.{List}
 use native.Mathlib.Omega.{arith}
 use lib.ListN.{getD, length}
 use lib.Ieee.{Float, nan}
 use Rattle.loops.specs.Run.{going, ended}
-use Rattle.loops.specs.Judge.{judge, judged}
+use Rattle.loops.specs.Judge.{judge, judged, AllPass}
 use Rattle.loops.specs.Tabulate.{tabulate}
 use Rattle.loops.specs.Cleared.{zeros}
+use Rattle.loops.proofs.Judge.{judge-going}
 use Rattle.loops.proofs.Loop.{on-going, on-ended}
 use Rattle.loops.proofs.Tabulate.{getD-tabulate}
 use Rattle.kapitsa_joint.specs.Row.{rowOf, wordsOf, jacobianOf}
-use Rattle.kapitsa_joint.specs.Table.{Table, tableOf, byDimension, tolerancesIn}
-use Rattle.kapitsa_joint.specs.Tolerance.{dimensionOf, toleranceOf}
-use Rattle.kapitsa_joint.specs.declared.tolerance.JointTolerance.{JointTolerance}
-use Rattle.joint_refusals.specs.Tolerances.{twoTolerances}
+use Rattle.kapitsa_joint.specs.Table.{Table, tableOf, tolerancesIn}
+use Rattle.rules.specs.Rules.{Rules, ruledBy}
+use Rattle.rules.specs.Rows.{toleranceIn, rowsRuled}
+use Rattle.rules.proofs.Lent.{lent-28}
 use Rattle.compact_table.specs.Compact.{Gathered}
 use Rattle.mass_operator.specs.System.{systemOf, compactSystem}
 use Rattle.position.specs.Problem.{Problem, positionProblem}
@@ -31,28 +33,33 @@ use Rattle.position_steps.specs.Start.{stepZeroOf, StartHeld}
 use Rattle.position_steps.proofs.Openings.{opening-after}
 use Rattle.position_steps.proofs.Tables.{system-same, table-linked}
 
-module _ (numbers : List Float) (words : List ℕ) (masses : List Float) (rows bodies : ℕ) (tolerance : JointTolerance) (limit : ℕ) (shift : Float) where
+module _ (numbers : List Float) (words : List ℕ) (masses : List Float) (rows bodies : ℕ) (rules : Rules) (limit : ℕ) (shift : Float) where
   abbrev table : Table
   table = tableOf rows bodies numbers words masses
 
   abbrev problem : Problem
-  problem = shiftedProblem table (twoTolerances tolerance table) shift
+  problem = shiftedProblem table (ruledBy rules table) shift
 
   pub unopened : (k : ℕ) (jacobians : List Float) (links : List ℕ) (tolerances diagonal pending residual : List Float) → judge (afterThree problem limit) ≡ ended k → StartHeld problem limit masses (begun.Refused k) jacobians links tolerances diagonal pending residual
   unopened k jacobians links tolerances diagonal pending residual e = record { answered = on-ended _ _ _ {a = k} (opening-after problem limit e); started = λ q. absurd (let z : _≡_ {A = ℕ} 0 1 = cc in omega arith) }
 
-  -- the tolerances, gathered from the rows' words
-  module _ (opened : judge (afterThree problem limit) ≡ going tt) (tolerances : List Float) (k : ℕ) (ek : k ≡ rows) (gathered : tolerances ≡ tabulate (λ i. toleranceOf tolerance (dimensionOf (getD words (8 * i + 1) 0))) k) where
-    listed : tolerances ≡ tabulate (byDimension tolerance table) rows
-    unfolding rowOf wordsOf
-    listed = gathered ∙ ap (tabulate (λ i. toleranceOf tolerance (dimensionOf (getD words (8 * i + 1) 0)))) ek
+  -- 28 has passed, so that each row has a tolerance
+  pub opened-ruled : (n : ℕ) → n ≡ rows → judge (afterThree problem limit) ≡ going tt → rowsRuled rules words n ≡ true
+  unfolding AllPass
+  opened-ruled n e h = ap (rowsRuled rules words) e ∙ lent-28 rules rows bodies numbers words masses ∙ judge-going (afterThree problem limit) .0 h .1 .1 .1 .0
 
-    agree : (i : ℕ) → i < rows → tolerancesIn tolerances i ≡ byDimension tolerance table i
-    agree i h = ap (λ (l : List Float). getD l i nan) listed ∙ getD-tabulate (byDimension tolerance table) rows i nan h
+  -- the tolerances, by the rules of the rows
+  module _ (opened : judge (afterThree problem limit) ≡ going tt) (tolerances : List Float) (k : ℕ) (ek : k ≡ rows) (gathered : tolerances ≡ tabulate (toleranceIn rules words) k) where
+    listed : tolerances ≡ tabulate (ruledBy rules table .row) rows
+    unfolding rowOf wordsOf
+    listed = gathered ∙ ap (tabulate (toleranceIn rules words)) ek
+
+    agree : (i : ℕ) → i < rows → tolerancesIn tolerances i ≡ ruledBy rules table .row i
+    agree i h = ap (λ (l : List Float). getD l i nan) listed ∙ getD-tabulate (ruledBy rules table .row) rows i nan h
 
     module _ (n : ℕ) (same : n ≡ rows) (a : Begun) (diagonal residual : List Float) (begins : BegunHeld (positionProblem (tableOf n bodies numbers words masses) (tolerancesIn tolerances)) a diagonal residual) where
       held : BegunHeld problem a diagonal residual
-      held = begun-tested (shiftTests shift) (twoTolerances tolerance table .tests) (positionProblem table (byDimension tolerance table)) a diagonal residual (begun-same table (tolerancesIn tolerances) (byDimension tolerance table) agree a diagonal residual (subst (λ (i : ℕ). BegunHeld (positionProblem (tableOf i bodies numbers words masses) (tolerancesIn tolerances)) a diagonal residual) same begins))
+      held = begun-tested (shiftTests shift) (ruledBy rules table) (positionProblem table (ruledBy rules table .row)) a diagonal residual (begun-same table (tolerancesIn tolerances) (ruledBy rules table .row) agree a diagonal residual (subst (λ (i : ℕ). BegunHeld (positionProblem (tableOf i bodies numbers words masses) (tolerancesIn tolerances)) a diagonal residual) same begins))
 
       pub start-refused : (k : ℕ) (jacobians : List Float) (links : List ℕ) (pending : List Float) → a ≡ begun.Refused k → StartHeld problem limit masses (begun.Refused k) jacobians links tolerances diagonal pending residual
       unfolding stepZeroOf
@@ -63,7 +70,7 @@ module _ (numbers : List Float) (words : List ℕ) (masses : List Float) (rows b
         judgement = held .judgement ∙ rw done
 
         passed : judged (rowJudged problem) rows ≡ going tt
-        passed = sym (tested-rows (shiftTests shift) (twoTolerances tolerance table .tests) table (byDimension tolerance table)) ∙ judgement
+        passed = sym (tested-rows (shiftTests shift) (ruledBy rules table) table (ruledBy rules table .row)) ∙ judgement
 
         begun-is : stepZeroOf problem ≡ going (record { solution = pending; residual = residual })
         unfolding stepZeroOf

@@ -2,15 +2,15 @@
 ghost use mathlib.Core.Path.{_≡_};
 ghost use Prim.Native.Nat.{_*_, _≤_};
 ghost use lib.ListN.{length};
+ghost use Rattle.rules.specs.Rows.{rulesIn};
 ghost use Rattle.position_iteration.specs.Position.{positionOf};
 ghost use Rattle.position_steps.specs.Start.{StartHeld, StartFree};
 use crate::opening::Opened;
 use crate::opening::open_table;
 use compact_table::gather;
-use kapitsa_joint::JointTolerance;
 use position::Begun;
 use position::begin;
-use position::gather_tolerances;
+use rules::gather_tolerances;
 
 // After a refusal all that is written is left free.
 pub fn start(
@@ -19,7 +19,8 @@ pub fn start(
     masses: &[f64],
     rows: u32,
     bodies: u32,
-    tolerance: JointTolerance,
+    rule_words: &[u32],
+    rule_tolerances: &[f64],
     limit: u32,
     shift: f64,
     jacobians: &mut [f64],
@@ -29,9 +30,9 @@ pub fn start(
     pending: &mut [f64],
     residual: &mut [f64],
 ) -> Begun
-    requires { ⌜ (length (now numbers) ≡ 27 * rows) × (length (now words) ≡ 8 * rows) × (10 * bodies ≤ length (now masses)) ⌝ }
+    requires { ⌜ (length (now numbers) ≡ 27 * rows) × (length (now words) ≡ 8 * rows) × (10 * bodies ≤ length (now masses)) × (3 * length (now «rule_tolerances») ≤ length (now «rule_words»)) ⌝ }
     requires { ⌜ (length (now jacobians) ≡ 12 * rows) × (length (now links) ≡ 2 * rows) × (length (now tolerances) ≡ rows) × (length (now diagonal) ≡ rows) × (length (now pending) ≡ rows) × (length (now residual) ≡ rows) ⌝ }
-    ensures { λ r. ⌜ StartHeld (positionOf rows bodies (now (numbers .entry)) (now (words .entry)) (now (masses .entry)) tolerance shift) limit (now (masses .entry)) r
+    ensures { λ r. ⌜ StartHeld (positionOf rows bodies (now (numbers .entry)) (now (words .entry)) (now (masses .entry)) (rulesIn (now («rule_words» .entry)) (now («rule_tolerances» .entry))) shift) limit (now (masses .entry)) r
         (now (jacobians .exit)) (now (links .exit)) (now (tolerances .exit)) (now (diagonal .exit)) (now (pending .exit)) (now (residual .exit)) ⌝ }
     ensures { λ _. ⌜ StartFree (now (jacobians .entry)) (now (links .entry)) (now (tolerances .entry)) (now (diagonal .entry)) (now (pending .entry)) (now (residual .entry)) (now (jacobians .exit)) (now (links .exit)) (now (tolerances .exit)) (now (diagonal .exit)) (now (pending .exit)) (now (residual .exit)) ⌝ }
 {
@@ -41,7 +42,8 @@ pub fn start(
         masses,
         rows,
         bodies,
-        tolerance,
+        rule_words,
+        rule_tolerances,
         limit,
         shift,
     ) {
@@ -50,7 +52,7 @@ pub fn start(
             return Begun::Refused(number);
         }
     }
-    gather_tolerances(words, tolerance, tolerances);
+    gather_tolerances(words, rule_words, rule_tolerances, tolerances);
     match begin(
         numbers,
         words,

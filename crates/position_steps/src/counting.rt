@@ -1,11 +1,13 @@
 // From what is judged before step 0 to the step that is counted: prepare, the count 0 test, factor, steps.
+ghost use Prim.Native.Nat.{_*_, _≤_};
+ghost use lib.ListN.{length};
+ghost use Rattle.rules.specs.Rows.{rulesIn};
 ghost use Rattle.position_iteration.specs.Position.{positionOf};
 ghost use Rattle.work_memory.specs.Work.{stepMemory, tableMemory, workMemory};
 ghost use Rattle.work_memory.specs.Lengths.{RowsRoom, WorkRoom};
 ghost use Rattle.position_steps.specs.Counting.{CountHeld, CountFree};
 use crate::beginning::start;
 use crate::running::run_steps;
-use kapitsa_joint::JointTolerance;
 use loops::wide;
 use position_iteration::Iterated;
 use preconditioner::Mode;
@@ -18,7 +20,8 @@ pub fn count_steps(
     masses: &[f64],
     rows: u32,
     bodies: u32,
-    tolerance: JointTolerance,
+    rule_words: &[u32],
+    rule_tolerances: &[f64],
     limit: u32,
     mode: Mode,
     shift: f64,
@@ -37,7 +40,8 @@ pub fn count_steps(
 ) -> Iterated
     requires { ⌜ RowsRoom rows bodies (now numbers) (now words) (now masses) ⌝ }
     requires { ⌜ WorkRoom mode rows bodies (workMemory (now jacobians) (now links) (now tolerances) (now diagonal) (now residual) (now pending) (now direction) (now product) (now «body_impulses») (now pattern) (now order) (now values)) ⌝ }
-    ensures { λ r. ⌜ CountHeld mode (positionOf rows bodies (now (numbers .entry)) (now (words .entry)) (now (masses .entry)) tolerance shift) limit (now (masses .entry)) r (now (jacobians .exit)) (now (links .exit)) (now (pending .exit)) (now (residual .exit))
+    requires { ⌜ 3 * length (now «rule_tolerances») ≤ length (now «rule_words») ⌝ }
+    ensures { λ r. ⌜ CountHeld mode (positionOf rows bodies (now (numbers .entry)) (now (words .entry)) (now (masses .entry)) (rulesIn (now («rule_words» .entry)) (now («rule_tolerances» .entry))) shift) limit (now (masses .entry)) r (now (jacobians .exit)) (now (links .exit)) (now (pending .exit)) (now (residual .exit))
         (stepMemory (now (tolerances .entry)) (now (diagonal .entry)) (now (direction .entry)) (now (product .entry)) (now (pattern .entry)) (now (order .entry)) (now (values .entry)))
         (stepMemory (now (tolerances .exit)) (now (diagonal .exit)) (now (direction .exit)) (now (product .exit)) (now (pattern .exit)) (now (order .exit)) (now (values .exit))) ⌝ }
     ensures { λ _. ⌜ CountFree (tableMemory (now (jacobians .entry)) (now (links .entry)) (now (residual .entry)) (now (pending .entry)) (now («body_impulses» .entry))) (tableMemory (now (jacobians .exit)) (now (links .exit)) (now (residual .exit)) (now (pending .exit)) (now («body_impulses» .exit))) ⌝ }
@@ -48,7 +52,8 @@ pub fn count_steps(
         masses,
         rows,
         bodies,
-        tolerance,
+        rule_words,
+        rule_tolerances,
         limit,
         shift,
         jacobians,

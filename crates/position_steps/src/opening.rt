@@ -1,20 +1,21 @@
-// Refusals 25, 4, 26, 5 and 6, before step 0.
+// Refusals 25, 4, 27, 28, 5 and 6, before step 0.
 ghost use mathlib.Core.Path.{_≡_};
 ghost use Prim.Native.Nat.{_+_, _*_, _≤_};
 ghost use lib.ListN.{length};
 ghost use Rattle.loops.specs.Judge.{judge};
 ghost use Rattle.kapitsa_joint.specs.Row.{scalarsOf, wordsOf};
 ghost use Rattle.joint_refusals.specs.Refusals.{opensOf};
+ghost use Rattle.rules.specs.Rows.{rulesIn};
 ghost use Rattle.position_iteration.specs.Method.{passes5, afterThree};
 ghost use Rattle.position_iteration.specs.Position.{positionOf};
 ghost use Rattle.position_steps.specs.Opening.{openedOut};
 use joint_refusals::masses_finite;
 use joint_refusals::rows_open;
-use joint_refusals::tolerances_fit;
 use joint_refusals::words_fit;
-use kapitsa_joint::JointTolerance;
 use loops::wide;
 use preconditioner::shift_fits;
+use rules::rows_ruled;
+use rules::rules_fit;
 
 pub enum Opened {
     Done,
@@ -41,12 +42,13 @@ pub fn open_table(
     masses: &[f64],
     rows: u32,
     bodies: u32,
-    tolerance: JointTolerance,
+    rule_words: &[u32],
+    rule_tolerances: &[f64],
     limit: u32,
     shift: f64,
 ) -> Opened
-    requires { ⌜ (27 * rows ≤ length (now numbers)) × (8 * rows ≤ length (now words)) × (10 * bodies ≤ length (now masses)) ⌝ }
-    ensures { λ r. ⌜ judge (afterThree (positionOf rows bodies (now (numbers .entry)) (now (words .entry)) (now (masses .entry)) tolerance shift) limit) ≡ openedOut r ⌝ }
+    requires { ⌜ (27 * rows ≤ length (now numbers)) × (8 * rows ≤ length (now words)) × (10 * bodies ≤ length (now masses)) × (3 * length (now «rule_tolerances») ≤ length (now «rule_words»)) ⌝ }
+    ensures { λ r. ⌜ judge (afterThree (positionOf rows bodies (now (numbers .entry)) (now (words .entry)) (now (masses .entry)) (rulesIn (now («rule_words» .entry)) (now («rule_tolerances» .entry))) shift) limit) ≡ openedOut r ⌝ }
 {
     if !shift_fits(shift) {
         return Opened::Refused(25);
@@ -54,8 +56,11 @@ pub fn open_table(
     if !words_fit(words, wide(rows)) {
         return Opened::Refused(4);
     }
-    if !tolerances_fit(tolerance) {
-        return Opened::Refused(26);
+    if !rules_fit(rule_words, rule_tolerances) {
+        return Opened::Refused(27);
+    }
+    if !rows_ruled(words, rule_words, rule_tolerances, wide(rows)) {
+        return Opened::Refused(28);
     }
     if !opens(numbers, words, rows, limit) {
         return Opened::Refused(5);

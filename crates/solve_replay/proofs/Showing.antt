@@ -9,6 +9,7 @@ use lib.ListN.{length, replicate}
 use lib.Ieee.{Float}
 use borrow.Author.Tests.{leb-true, not-true, not-false}
 use Rattle.kapitsa_joint.specs.declared.tolerance.JointTolerance.{JointTolerance}
+use Rattle.rules.specs.Rules.{twoRules}
 use Rattle.position_delivery.specs.Outcome.{Lent, Outcome}
 use Rattle.position_delivery.specs.declared.answer.PositionPcg.{PositionPcg}
 use Rattle.position_delivery.specs.declared.answer.PositionPcg.the-variants as answers
@@ -41,11 +42,11 @@ accepted-shown list at h rows r l w v next end a₀ a b₀ b f s t u k ew ev ea 
     rw (ef, es, et, eu, ek, ap (λ (x : ℕ × List ℕ). x .1) p, ap (λ (x : ℕ × List ℕ). x .1) q, ap (λ (x : ℕ × List ℕ). x .0) q)
 
 -- ---- `solved_seen`
-module _ (list : List ℕ) (at : ℕ) (h : Header) (rows : List ℕ) (numbers : List Float) (words : List ℕ) (masses solution impulses : List Float) (tolerance : JointTolerance) (answer : PositionPcg) (after : Lent) (r : Seen)
-    (t : tolerance ≡ toleranceIn h) (e : solvedOf h tolerance numbers words masses solution impulses ≡ record { answer = answer; lent = after }) where
+module _ (list : List ℕ) (at : ℕ) (h : Header) (rows : List ℕ) (numbers : List Float) (words : List ℕ) (masses solution impulses : List Float) (tolerance : JointTolerance) (named : ℕ) (answer : PositionPcg) (after : Lent) (r : Seen)
+    (t : tolerance ≡ toleranceIn h) (l : named ≡ h .rows) (e : solvedOf h (twoRules tolerance) named numbers words masses solution impulses ≡ record { answer = answer; lent = after }) where
   shown : outcomeSeen list at h rows answer after ≡ solvedSeen list at h rows numbers words masses solution impulses
   unfolding solvedSeen
-  shown = ap (λ (o : Outcome). outcomeSeen list at h rows (o .answer) (o .lent)) (sym e ∙ ap (λ (x : JointTolerance). solvedOf h x numbers words masses solution impulses) t)
+  shown = ap (λ (o : Outcome). outcomeSeen list at h rows (o .answer) (o .lent)) (sym e ∙ ap (λ (k : ℕ). solvedOf h (twoRules tolerance) k numbers words masses solution impulses) l ∙ ap (λ (x : JointTolerance). solvedOf h (twoRules x) (h .rows) numbers words masses solution impulses) t)
 
   pub solved-accepted : (result : PositionPcgResult) → answer ≡ answers.Accepted result → r ≡ acceptedSeen list at h rows result after → r ≡ solvedSeen list at h rows numbers words masses solution impulses
   unfolding outcomeSeen

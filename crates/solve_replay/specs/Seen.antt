@@ -7,6 +7,7 @@ use lib.Dec.{leb, eqb}
 use lib.ListN.{length, replicate}
 use lib.Ieee.{Float, binary64, ofBits, toBits}
 use Rattle.kapitsa_joint.specs.declared.tolerance.JointTolerance.{JointTolerance}
+use Rattle.rules.specs.Rules.{Rules, twoRules}
 use Rattle.preconditioner.specs.Mode.{modeOf}
 use Rattle.steps.specs.Solve.{solve}
 use Rattle.loops.specs.Cleared.{plusZero}
@@ -67,14 +68,14 @@ outcomeSeen list at h rows (answers.Refused number) l = refusedSeen list at h ro
 abbrev pub toleranceIn : Header → JointTolerance
 toleranceIn h = record { «linear_m» = ofBits binary64 (h .«linear_tolerance»); «angular_rad» = ofBits binary64 (h .«angular_tolerance») }
 
--- the definition's outcome
-unfoldable pub solvedOf : Header → JointTolerance → List Float → List ℕ → List Float → List Float → List Float → Outcome
-solvedOf h tolerance numbers words masses solution impulses =
+-- the definition's outcome; `named` are the numbers lent for the rows' rules
+unfoldable pub solvedOf : Header → Rules → ℕ → List Float → List ℕ → List Float → List Float → List Float → Outcome
+solvedOf h rules named numbers words masses solution impulses =
     outcomeOf (h .rows) (record { numbers = numbers; solution = solution; impulses = impulses })
-    (solve (methodOf (jobFits (h .rows) (h .bodies) (h .mode) (length numbers) (length words) (length masses) (length solution) (length impulses)) (positionOf (h .rows) (h .bodies) numbers words masses tolerance plusZero) (modeOf (h .mode) plusZero)) (h .limit))
+    (solve (methodOf (jobFits (h .rows) (h .bodies) (h .mode) (length numbers) (length words) (length masses) (length solution) (length impulses) (length (rules .words)) (length (rules .tolerances)) named) (positionOf (h .rows) (h .bodies) numbers words masses rules plusZero) (modeOf (h .mode) plusZero)) (h .limit))
 
 unfoldable pub solvedSeen : List ℕ → ℕ → Header → List ℕ → List Float → List ℕ → List Float → List Float → List Float → Seen
-solvedSeen list at h rows numbers words masses solution impulses = let o = solvedOf h (toleranceIn h) numbers words masses solution impulses in outcomeSeen list at h rows (o .answer) (o .lent)
+solvedSeen list at h rows numbers words masses solution impulses = let o = solvedOf h (twoRules (toleranceIn h)) (h .rows) numbers words masses solution impulses in outcomeSeen list at h rows (o .answer) (o .lent)
 
 -- what takes the answer is lent as 0.5 throughout
 abbrev pub marked : Float

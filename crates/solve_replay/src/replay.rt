@@ -180,18 +180,22 @@ fn solved_seen(
     ensures { λ r. ⌜ r ≡ solvedSeen (now (list .entry)) at header (now (rows .entry)) (now (numbers .entry)) (now (words .entry)) (now (masses .entry)) (now (solution .entry)) (now (impulses .entry)) ⌝ }
 {
     let tolerance = tolerance_in(header);
+    let mut rule_numbers: [u32; 513] = [0; 513];
+    let n = header.rows as usize;
     let answer = solve_position(
         numbers,
         words,
         masses,
         header.rows,
         header.bodies,
-        tolerance,
+        &[0, 0, 255, 1, 0, 255],
+        &[tolerance.linear_m, tolerance.angular_rad],
         header.limit,
         header.mode,
         0.0,
         solution,
         impulses,
+        &mut rule_numbers[..n],
     );
     match answer {
         PositionPcg::Accepted(result) => {

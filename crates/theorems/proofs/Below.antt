@@ -1,13 +1,14 @@
 -- A solve and a check look only below the counts, and at some numbers of a row not at all. Assumes nothing.
 use Prim.Native.Nat.{ℕ, _<_}
 use mathlib.Core.Path.{_≡_, refl, ap}
+use lib.Dec.{ltb}
 use lib.Ieee.{Float, neg}
+use Rattle.loops.proofs.Every.{every-same}
 use Rattle.kapitsa_joint.specs.Row.{jacobianOf}
 use Rattle.kapitsa_joint.specs.Table.{Table}
-use Rattle.kapitsa_joint.specs.Tolerance.{dimensionOf, toleranceOf}
 use Rattle.kapitsa_joint.specs.declared.row.ConstraintRow.{ConstraintRow}
-use Rattle.kapitsa_joint.specs.declared.tolerance.JointTolerance.{JointTolerance}
 use Rattle.joint_refusals.specs.Tolerances.{Tolerances}
+use Rattle.rules.specs.Rules.{Rules, ruleCount, toleranceAt, ruleFor, ruleOf, passes28, ruledBy}
 use Rattle.joint_refusals.specs.Refusals.{wordsFitOf, isValidOf, opensOf}
 use Rattle.preconditioner.specs.declared.mode.Mode.{Mode}
 use Rattle.preconditioner.specs.declared.mode.Mode.the-variants as modes
@@ -17,6 +18,11 @@ use Rattle.check_range.specs.Closing.{closingOf}
 use Rattle.theorems.specs.Below.{RowsAlike, TablesAlike, AgreeBelow, ProblemsAgree, ClosingsAgree, LooksBelow, SameButUnread, TablesButUnread, Depends}
 use Rattle.theorems.proofs.Solves.{solve-below}
 use Rattle.theorems.proofs.Checks.{check-below}
+
+-- rows under the same rules are judged alike by 28
+ruled-tests : (rules : Rules) (t u : Table) → u .rows ≡ t .rows → ((i : ℕ) → i < t .rows → ruleOf rules u i ≡ ruleOf rules t i) → ruledBy rules u .tests ≡ ruledBy rules t .tests
+unfolding passes28
+ruled-tests rules t u e same = rw (e, every-same (λ i. ltb (ruleOf rules u i) (ruleCount rules)) (λ i. ltb (ruleOf rules t i) (ruleCount rules)) (t .rows) (λ i h. rw (same i h)))
 
 module _ (t u : Table) (a : AgreeBelow t u) where
   tables-alike : TablesAlike t u
@@ -47,19 +53,19 @@ module _ (t u : Table) (a : AgreeBelow t u) where
     factorFirst = refl;
   }
 
-  closings-agree : (listed other : ℕ → Float) → ((i : ℕ) → i < t .rows → other i ≡ listed i) → (tolerance : JointTolerance) → ClosingsAgree (closingOf t listed tolerance) (closingOf u other tolerance)
-  closings-agree listed other e tolerance = record {
+  closings-agree : (listed other : ℕ → Float) → ((i : ℕ) → i < t .rows → other i ≡ listed i) → (rules : Rules) → ClosingsAgree (closingOf t listed rules) (closingOf u other rules)
+  closings-agree listed other e rules = record {
     table = tables-alike;
     error = λ i h. ap (λ (r : ConstraintRow). r .scalars .error) (a .row i h);
     listed = e;
-    tolerance = λ i h. ap (λ (r : ConstraintRow). toleranceOf tolerance (dimensionOf (r .words .dimension))) (a .row i h);
-    toleranceTests = refl;
+    tolerance = λ i h. ap (λ (r : ConstraintRow). toleranceAt rules (ruleFor rules (r .words .dimension) (r .words .key))) (a .row i h);
+    toleranceTests = ruled-tests rules t u (a .rows) (λ i h. ap (λ (r : ConstraintRow). ruleFor rules (r .words .dimension) (r .words .key)) (a .row i h));
   }
 
   pub looks-below : LooksBelow t u
   looks-below = record {
     solves = λ tolerances other tests e fits shift mode limit. solve-below mode (shiftedProblem t tolerances shift) (shiftedProblem u other shift) (positions-agree shift mode tolerances other tests e) fits limit;
-    checks = λ listed other e fits tolerance. check-below (closingOf t listed tolerance) (closingOf u other tolerance) (closings-agree listed other e tolerance) fits;
+    checks = λ listed other e fits rules. check-below (closingOf t listed rules) (closingOf u other rules) (closings-agree listed other e rules) fits;
   }
 
 -- ---- the numbers that 4 and 7 alone read
@@ -80,7 +86,7 @@ module _ (bodies : ℕ) (r s : ConstraintRow) (a : SameButUnread bodies r s) whe
 pub depends : (t u : Table) → TablesButUnread t u → Depends t u
 depends t u a = record {
   solves = λ mode owners tolerances fits shift limit. solve-below mode (shiftedProblem t tolerances shift) (shiftedProblem u tolerances shift) (problems shift mode owners tolerances) fits limit;
-  checks = λ listed fits tolerance. check-below (closingOf t listed tolerance) (closingOf u listed tolerance) (closings listed tolerance) fits;
+  checks = λ listed fits rules. check-below (closingOf t listed rules) (closingOf u listed rules) (closings listed rules) fits;
 }
   where
     alike : TablesAlike t u
@@ -101,11 +107,14 @@ depends t u a = record {
       factorFirst = refl;
     }
 
-    closings : (listed : ℕ → Float) (tolerance : JointTolerance) → ClosingsAgree (closingOf t listed tolerance) (closingOf u listed tolerance)
-    closings listed tolerance = record {
+    same-rule : (rules : Rules) (i : ℕ) → i < t .rows → ruleOf rules u i ≡ ruleOf rules t i
+    same-rule rules i h = rw (a .row i h .dimension, a .row i h .key)
+
+    closings : (listed : ℕ → Float) (rules : Rules) → ClosingsAgree (closingOf t listed rules) (closingOf u listed rules)
+    closings listed rules = record {
       table = alike;
       error = λ i h. a .row i h .error;
       listed = λ i h. refl;
-      tolerance = λ i h. ap (λ (d : ℕ). toleranceOf tolerance (dimensionOf d)) (a .row i h .dimension);
-      toleranceTests = refl;
+      tolerance = λ i h. ap (toleranceAt rules) (same-rule rules i h);
+      toleranceTests = ruled-tests rules t u (a .rows) (same-rule rules);
     }

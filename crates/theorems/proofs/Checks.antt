@@ -43,7 +43,7 @@ on-same (ended k) x y e = refl
 
 -- c with all that a row or a body has from d; the counts are c's
 abbrev with : Closing → Closing → Closing
-with c d = record { table = tableWith (c .table) (d .table); error = d .error; listed = d .listed; tolerance = d .tolerance; toleranceTests = c .toleranceTests }
+with c d = record { table = tableWith (c .table) (d .table); error = d .error; listed = d .listed; tolerance = d .tolerance; rule = d .rule; toleranceTests = c .toleranceTests }
 
 module _ (c d : Closing) (w : ClosingsAgree c d) where
   eighteens : tableInRange (with c d .table) (d .error) (d .listed) ≡ tableInRange (c .table) (c .error) (c .listed)
@@ -98,6 +98,7 @@ module _ (c d : Closing) (w : ClosingsAgree c d) where
     error = d .error;
     listed = d .listed;
     tolerance = d .tolerance;
+    rule = d .rule;
     toleranceTests = w .toleranceTests i;
   }
 

@@ -7,3 +7,4 @@ pub mod Solves
 pub mod Checks
 pub mod Below
 pub mod Unshifted
+pub mod Agreeing

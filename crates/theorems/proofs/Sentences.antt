@@ -17,9 +17,9 @@ use Rattle.kapitsa_joint.specs.Maxima.{maximaBy}
 use Rattle.kapitsa_joint.specs.declared.row.ConstraintRow.{ConstraintRow}
 use Rattle.kapitsa_joint.specs.declared.row.RowJacobian.{RowJacobian}
 use Rattle.kapitsa_joint.specs.declared.mass.SolverMass.{SolverMass}
-use Rattle.kapitsa_joint.specs.declared.tolerance.JointTolerance.{JointTolerance}
 use Rattle.joint_refusals.specs.Refusals.{passes4, passes6}
-use Rattle.joint_refusals.specs.Tolerances.{Tolerances, toleranceFits, passes26, twoTolerances}
+use Rattle.joint_refusals.specs.Tolerances.{Tolerances, toleranceFits}
+use Rattle.rules.specs.Rules.{Rules, passes27, passes28, ruledBy}
 use Rattle.mass_operator.specs.Operator.{impulseAt}
 use Rattle.mass_operator.specs.Flat.{impulsesOf}
 use Rattle.mass_operator.proofs.Flat.{flat-length, flat-holds}
@@ -36,13 +36,13 @@ use Rattle.check_range.specs.Closing.{closingOf}
 use Rattle.check_answer.specs.Answer.{checkOf}
 use Rattle.check_answer.specs.declared.CheckAnswer.the-variants.{Refused}
 
--- ---- "No rows, and no refusal 1 to 4 or 6: accepted, converged, count 0, whatever the limit."; and no 25 or 26, "in a job without rows too"
-pub no-rows : (bodies : ℕ) (row : ℕ → ConstraintRow) (mass : ℕ → SolverMass) (tolerance : JointTolerance) (shift : Float) (mode : Mode) (limit : ℕ)
-    → let t : Table = record { rows = 0; bodies = bodies; row = row; mass = mass } in passes25 shift ≡ true → passes26 tolerance ≡ true → passes6 t ≡ true
-    → solve (methodOf true (shiftedProblem t (twoTolerances tolerance t) shift) mode) limit
+-- ---- "No rows, and no refusal 1 to 4 or 6: accepted, converged, count 0, whatever the limit."; and no 25 or 27, "in a job without rows too"
+pub no-rows : (bodies : ℕ) (row : ℕ → ConstraintRow) (mass : ℕ → SolverMass) (rules : Rules) (shift : Float) (mode : Mode) (limit : ℕ)
+    → let t : Table = record { rows = 0; bodies = bodies; row = row; mass = mass } in passes25 shift ≡ true → passes27 rules ≡ true → passes6 t ≡ true
+    → solve (methodOf true (shiftedProblem t (ruledBy rules t) shift) mode) limit
     ≡ going ((true, 0, record { solution = []; residual = [] }), record { accumulated = []; impulses = zeros (6 * bodies); maxima = record { linear = plusZero; angular = plusZero } })
-unfolding solve openingOf judge test check on counting beginOf rowsJudged judged turns factorHere meetsOf every residuals tabulate passes4 passes5 finishOf maximaIn maximaOf maximaBy
-no-rows bodies row mass tolerance shift mode limit p q r = rw (p, q, r)
+unfolding solve openingOf judge test check on counting beginOf rowsJudged judged turns factorHere meetsOf every residuals tabulate passes4 passes28 passes5 finishOf maximaIn maximaOf maximaBy
+no-rows bodies row mass rules shift mode limit p q r = rw (p, q, r)
 
 -- ---- "If every |residual| ≤ its row's tolerance: accepted with count 0, before any factor is built": the answer has no mode in it, and no step
 abbrev start : Problem → Iterate
@@ -56,7 +56,7 @@ pub count-zero : (fits : Bool) (t : Table) (tolerances : Tolerances) (shift : Fl
 unfolding solve counting beginOf factorHere finishOf check on
 count-zero fits t tolerances shift mode limit o r m = rw (o, r, m)
 
--- ---- document 02, j: "26, a tolerance is negative, NaN or infinite, judged right after 4, in the closing check too"; "−0.0 passes"
+-- ---- document 02, j: "26, a tolerance is negative, NaN or infinite"; "−0.0 passes"
 pub odd-tolerances : (toleranceFits nan ≡ false) × ((s : Bool) → toleranceFits (inf s) ≡ false) × ((x : Float) → le plusZero x ≡ false → toleranceFits x ≡ false)
 unfolding toleranceFits
 odd-tolerances = (unfold le lt eq ofBits in refl, infinite, λ x h. rw h)
@@ -70,14 +70,25 @@ unfolding toleranceFits le lt eq ofBits
 zero-tolerances true = refl
 zero-tolerances false = refl
 
-module _ (t : Table) (tolerance : JointTolerance) (four : passes4 t ≡ true) (odd : passes26 tolerance ≡ false) where
-  pub odd-not-solved : (shift : Float) (mode : Mode) (limit : ℕ) → passes25 shift ≡ true → solve (methodOf true (shiftedProblem t (twoTolerances tolerance t) shift) mode) limit ≡ ended 26
-  unfolding solve openingOf judge test check on counting
-  odd-not-solved shift mode limit p = rw (p, four, odd)
+-- ---- document 02, k: "both right after 26", "A table refused by 27 or 28 gets no verdict"
+module _ (t : Table) (rules : Rules) (four : passes4 t ≡ true) where
+  module _ (odd : passes27 rules ≡ false) where
+    pub odd-not-solved : (shift : Float) (mode : Mode) (limit : ℕ) → passes25 shift ≡ true → solve (methodOf true (shiftedProblem t (ruledBy rules t) shift) mode) limit ≡ ended 27
+    unfolding solve openingOf judge test check on
+    odd-not-solved shift mode limit p = rw (p, four, odd)
 
-  pub odd-not-checked : (listed : ℕ → Float) → checkOf true (closingOf t listed tolerance) ≡ Refused 26
-  unfolding checkOf judge test check on
-  odd-not-checked listed = rw (four, odd)
+    pub odd-not-checked : (listed : ℕ → Float) → checkOf true (closingOf t listed rules) ≡ Refused 27
+    unfolding checkOf judge test check on
+    odd-not-checked listed = rw (four, odd)
+
+  module _ (fit : passes27 rules ≡ true) (stray : passes28 rules t ≡ false) where
+    pub stray-not-solved : (shift : Float) (mode : Mode) (limit : ℕ) → passes25 shift ≡ true → solve (methodOf true (shiftedProblem t (ruledBy rules t) shift) mode) limit ≡ ended 28
+    unfolding solve openingOf judge test check on
+    stray-not-solved shift mode limit p = rw (p, four, fit, stray)
+
+    pub stray-not-checked : (listed : ℕ → Float) → checkOf true (closingOf t listed rules) ≡ Refused 28
+    unfolding checkOf judge test check on
+    stray-not-checked listed = rw (four, fit, stray)
 
 -- ---- "Impulses (six doubles a body) come from global_velocity_impulse, for every body"
 pub impulses-long : (j : ℕ → RowJacobian) (x : ℕ → Float) (rows bodies : ℕ) → length (impulsesOf j x rows bodies) ≡ 6 * bodies

@@ -74,6 +74,7 @@ abbrev with : Problem → Problem → Problem
 with p q = record {
   table = tableWith (p .table) (q .table);
   tolerance = q .tolerance;
+  rule = q .rule;
   start = q .start;
   accumulated = q .accumulated;
   options = p .options;
@@ -203,6 +204,7 @@ module _ (mode : Mode) (p q : Problem) (w : ProblemsAgree mode p q) where
   counts-same = λ i. record {
     table = record { rows = w .table .rows i; bodies = w .table .bodies i; row = q .table .row; mass = q .table .mass };
     tolerance = q .tolerance;
+    rule = q .rule;
     start = q .start;
     accumulated = q .accumulated;
     options = w .options i;

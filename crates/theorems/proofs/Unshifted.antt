@@ -94,4 +94,4 @@ pub shift-unheeded : (fits : Bool) (t : Table) (tolerances : Tolerances) (word l
     → solve (methodOf fits (shiftedProblem t tolerances a) (modeOf word a)) limit ≡ solve (methodOf fits (shiftedProblem t tolerances b) (modeOf word b)) limit
 shift-unheeded fits t tolerances word limit a b h ea eb =
     ap (λ (m : Mode). solve (methodOf fits (shiftedProblem t tolerances a) m) limit) (no-heed word a b h)
-    ∙ ap (λ (x : Bool). solve (methodOf fits (withTests ((25, x) ∷ []) (tolerances .tests) (positionProblem t (tolerances .row))) (modeOf word b)) limit) (ea ∙ sym eb)
+    ∙ ap (λ (x : Bool). solve (methodOf fits (withTests ((25, x) ∷ []) tolerances (positionProblem t (tolerances .row))) (modeOf word b)) limit) (ea ∙ sym eb)

@@ -6,8 +6,8 @@ use lib.Ieee.{Float}
 use Rattle.kapitsa_joint.specs.Row.{jacobianOf}
 use Rattle.kapitsa_joint.specs.Table.{Table}
 use Rattle.kapitsa_joint.specs.declared.row.ConstraintRow.{ConstraintRow}
-use Rattle.kapitsa_joint.specs.declared.tolerance.JointTolerance.{JointTolerance}
 use Rattle.joint_refusals.specs.Tolerances.{Tolerances}
+use Rattle.rules.specs.Rules.{Rules}
 use Rattle.joint_refusals.specs.Refusals.{wordsFitOf, isValidOf}
 use Rattle.preconditioner.specs.declared.mode.Mode.{Mode}
 use Rattle.preconditioner.specs.declared.mode.Mode.the-variants as modes
@@ -65,9 +65,9 @@ pub record AgreeBelow (t u : Table) : Type 0 where
 pub record LooksBelow (t u : Table) : Type 0 where
   pub solves : (tolerances other : Tolerances) → other .tests ≡ tolerances .tests → ((i : ℕ) → i < t .rows → other .row i ≡ tolerances .row i) → (fits : Bool) (shift : Float) (mode : Mode) (limit : ℕ)
       → solve (methodOf fits (shiftedProblem u other shift) mode) limit ≡ solve (methodOf fits (shiftedProblem t tolerances shift) mode) limit
-  pub checks : (listed other : ℕ → Float) → ((i : ℕ) → i < t .rows → other i ≡ listed i) → (fits : Bool) (tolerance : JointTolerance) → checkOf fits (closingOf u other tolerance) ≡ checkOf fits (closingOf t listed tolerance)
+  pub checks : (listed other : ℕ → Float) → ((i : ℕ) → i < t .rows → other i ≡ listed i) → (fits : Bool) (rules : Rules) → checkOf fits (closingOf u other rules) ≡ checkOf fits (closingOf t listed rules)
 
--- ---- not every number of a row. Document 01: "The answer depends on key, owner (modes 0 and 1), target_velocity, force_bias, impulse bounds, accumulated impulse, position_angular_a and cached mass only through refusals 4 and 7."
+-- ---- not every number of a row. Document 01: "The answer depends on key, owner (modes 0 and 1), target_velocity, force_bias, impulse bounds, accumulated impulse, position_angular_a and cached mass only through refusals 4 and 7"; but for the key, "which the answer now reads" (document 02, k).
 -- Two rows that may differ in these alone, and that 4 and 7 judge alike
 pub record SameButUnread (bodies : ℕ) (r s : ConstraintRow) : Type 0 where
   pub «linear_a» : s .«linear_a» ≡ r .«linear_a»
@@ -80,6 +80,7 @@ pub record SameButUnread (bodies : ℕ) (r s : ConstraintRow) : Type 0 where
   pub «min_multiplier» : s .scalars .«min_multiplier» ≡ r .scalars .«min_multiplier»
   pub «max_multiplier» : s .scalars .«max_multiplier» ≡ r .scalars .«max_multiplier»
   pub «accumulated_multiplier» : s .scalars .«accumulated_multiplier» ≡ r .scalars .«accumulated_multiplier»
+  pub key : s .words .key ≡ r .words .key
   pub dimension : s .words .dimension ≡ r .words .dimension
   pub «body_a» : s .words .«body_a» ≡ r .words .«body_a»
   pub «body_b» : s .words .«body_b» ≡ r .words .«body_b»
@@ -99,4 +100,4 @@ pub record TablesButUnread (t u : Table) : Type 0 where
 pub record Depends (t u : Table) : Type 0 where
   pub solves : (mode : Mode) → (mode ≡ modes.BlockJacobi → (i : ℕ) → i < t .rows → ownerOf u i ≡ ownerOf t i) → (tolerances : Tolerances) (fits : Bool) (shift : Float) (limit : ℕ)
       → solve (methodOf fits (shiftedProblem u tolerances shift) mode) limit ≡ solve (methodOf fits (shiftedProblem t tolerances shift) mode) limit
-  pub checks : (listed : ℕ → Float) (fits : Bool) (tolerance : JointTolerance) → checkOf fits (closingOf u listed tolerance) ≡ checkOf fits (closingOf t listed tolerance)
+  pub checks : (listed : ℕ → Float) (fits : Bool) (rules : Rules) → checkOf fits (closingOf u listed rules) ≡ checkOf fits (closingOf t listed rules)

@@ -11,9 +11,8 @@ use Rattle.kapitsa_math.specs.declared.vector.Vec3.{Vec3}
 use Rattle.kapitsa_joint.specs.Table.{Table}
 use Rattle.kapitsa_joint.specs.declared.row.ConstraintRow.{ConstraintRow}
 use Rattle.kapitsa_joint.specs.declared.mass.SolverMass.{SolverMass}
-use Rattle.kapitsa_joint.specs.declared.tolerance.JointTolerance.{JointTolerance}
 use Rattle.kapitsa_joint.specs.declared.maxima.Maxima.{Maxima}
-use Rattle.joint_refusals.specs.Tolerances.{twoTolerances}
+use Rattle.rules.specs.Rules.{Rules, ruledBy, twoRules}
 use Rattle.preconditioner.specs.declared.mode.Mode.{Mode}
 use Rattle.preconditioner.specs.declared.mode.Mode.the-variants as modes
 use Rattle.steps.specs.Solve.{solve}
@@ -89,8 +88,8 @@ abbrev pub thousandth : Float
 thousandth = ofBits binary64 0x3f50624dd2f1a9fc
 
 -- one tolerance for both dimensions
-abbrev pub alike : Float → JointTolerance
-alike tolerance = record { «linear_m» = tolerance; «angular_rad» = tolerance }
+abbrev pub alike : Float → Rules
+alike tolerance = twoRules (record { «linear_m» = tolerance; «angular_rad» = tolerance })
 
 -- with shift 0; of an accepted answer flag, count, solution, multipliers and the linear residual, of a refused one its number
 pub record Accepted : Type 0 where
@@ -105,7 +104,7 @@ Worked = Run Accepted ℕ
 
 abbrev pub workedOf : Table → Float → Mode → ℕ → Worked
 workedOf t tolerance mode limit =
-    on (solve (methodOf true (shiftedProblem t (twoTolerances (alike tolerance) t) plusZero) mode) limit)
+    on (solve (methodOf true (shiftedProblem t (ruledBy (alike tolerance) t) plusZero) mode) limit)
     (λ r. going (record { flag = r .0 .0; count = r .0 .1; solution = r .0 .2 .solution; multipliers = r .1 .accumulated; residual = r .1 .maxima .linear })) ended
 
 -- P1's check: its row with the multiplier that P1 ends with

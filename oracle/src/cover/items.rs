@@ -11,8 +11,8 @@ const ENOUGH_LARGE: usize = 2;
 const REFUSALS: [(u32, u32); 8] =
     [(1, 10), (2, 11), (1, 12), (2, 12), (1, 13), (2, 13), (1, 16), (2, 16)];
 
-/// The refusals that 26 comes before: a job meets both, and is refused by 26.
-const BEHIND_26: [u32; 5] = [5, 6, 7, 8, 9];
+/// The refusals that 27 comes before: a job meets both, and is refused by 27.
+const BEHIND_27: [u32; 5] = [5, 6, 7, 8, 9];
 
 /// What document 01's 16 can be of, in the order of a step.
 #[rustfmt::skip]
@@ -82,18 +82,18 @@ fn factors(items: &mut Items) {
     }
 }
 
-/// Refusal 26: alone, in a job without rows, beside later refusals; what it lets pass.
+/// Refusal 27 by a tolerance: alone, in a job without rows, beside later refusals; what it lets pass.
 fn tolerances(items: &mut Items) {
     for mode in 0..3 {
-        items.add(mode, ENOUGH, "refused by 26", |seen| seen.refusal == 26);
-        let alone = |seen: &Seen| seen.refusal == 26 && seen.rows == 0;
-        items.add(mode, 1, "refused by 26, no rows", alone);
-        for later in BEHIND_26 {
-            let name = format!("refused by 26, else by {later}");
-            items.add(mode, 1, &name, move |seen| seen.refusal == 26 && seen.else_by == later);
+        items.add(mode, ENOUGH, "refused by 27", |seen| seen.refusal == 27);
+        let alone = |seen: &Seen| seen.refusal == 27 && seen.rows == 0;
+        items.add(mode, 1, "refused by 27, no rows", alone);
+        for later in BEHIND_27 {
+            let name = format!("refused by 27, else by {later}");
+            items.add(mode, 1, &name, move |seen| seen.refusal == 27 && seen.else_by == later);
         }
         let before = |seen: &Seen| seen.refusal == 4 && seen.odd_tolerance;
-        items.add(mode, 1, "refused by 4, else by 26", before);
+        items.add(mode, 1, "refused by 4, else by 27", before);
         items.add(mode, 1, "a tolerance of −0.0, not refused", |seen| seen.minus_zero);
     }
 }

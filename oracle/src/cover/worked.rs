@@ -297,7 +297,8 @@ impl Work<'_> {
         let multipliers: Vec<f64> = multipliers.map(|(old, gain)| old + gain).collect();
         pass(17, impulses.iter().chain(&multipliers).all(|value| value.is_finite()))?;
         let answer = model::answer(self.table, &residual, count, flag);
-        Ok(Solved { answer, solution, multipliers, impulses })
+        let rules = self.table.rules.clone();
+        Ok(Solved { answer, solution, multipliers, impulses, rules })
     }
 }
 

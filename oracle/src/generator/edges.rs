@@ -33,7 +33,7 @@ const EDGES: [Edge; 25] = [
     recurrence_overflow,
     diagonal_overflow,
     replaced_diagonals,
-    edge_of_26,
+    edge_of_tolerance,
     any_example,
     order_of_rows,
     empty_tables,
@@ -111,8 +111,8 @@ pub fn replaced_diagonals(random: &mut Random) -> Job {
     job
 }
 
-/// One of the tolerances is the last that 26 lets pass, or the first that it does not.
-fn edge_of_26(random: &mut Random) -> Job {
+/// One of the tolerances is the last that 26 and 27 let pass, or the first that they do not.
+fn edge_of_tolerance(random: &mut Random) -> Job {
     let mut job = chain_along_x(0.5, &[double(Style::Short, random)]);
     let least = f64::from_bits(1);
     let edges = [0.0, -0.0, least, -least, f64::MAX, f64::INFINITY, f64::NEG_INFINITY, f64::NAN];
@@ -134,7 +134,7 @@ fn order_of_rows(random: &mut Random) -> Job {
     job
 }
 
-/// No rows, whatever the limit, also where 26 looks at the tolerances, or rows without bodies.
+/// No rows, whatever the limit, also where 27 looks at the tolerances, or rows without bodies.
 fn empty_tables(random: &mut Random) -> Job {
     let mut job = Job { limit: random.below(3) as u32, ..Job::default() };
     job.tolerances = [0; 2].map(|_| if random.chance(50) { odd(random) } else { random.unit() });

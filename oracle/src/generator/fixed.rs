@@ -65,7 +65,7 @@ fn one_change() -> Vec<Job> {
     jobs
 }
 
-/// P1 with one of its tolerances changed: what 26 lets pass, and what it turns back.
+/// P1 with one of its tolerances changed: what 26 and 27 let pass, and what they turn back.
 fn one_tolerance() -> Vec<Job> {
     let (p1, least) = (chain_along_x(0.5, &[-0.25]), f64::from_bits(1));
     let passing = [0.0, -0.0, least, f64::MIN_POSITIVE, f64::MAX];
@@ -83,7 +83,8 @@ fn one_tolerance() -> Vec<Job> {
     jobs
 }
 
-/// 26 alone, without rows too, and beside each refusal that is judged before it or after it.
+/// 27 alone by a tolerance, without rows too, and beside each refusal that is judged before it or
+/// after it.
 fn odd_tolerances() -> Vec<Job> {
     let odd = |tolerance: f64, job: Job| Job { tolerances: [0.001, tolerance], ..job };
     let changed = |change: fn(&mut Job)| {

@@ -2,7 +2,7 @@
 
 use super::algebra::{Mass, Side};
 use super::operator;
-use super::table::{Row, Table, counts_fit, tolerances_fit, words_fit};
+use super::table::{Row, Table, counts_fit, words_fit};
 use super::{Judged, all_finite, pass};
 use crate::job::*;
 
@@ -11,32 +11,34 @@ pub struct Checked {
     pub closed: bool,
     /// For each dimension the largest rounded |r| + E of its rows, from +0.0 upward.
     pub gap: [f64; 2],
+    /// The rule that each row was judged by, and what was found of the row.
+    pub rules: Vec<u32>,
+    pub measured: Vec<Measured>,
 }
 
-/// Verdict and gap, or refusal 3, 4, 26, 6, 7 or 18. The job's limit and mode are not read.
+/// Verdict and gap, or refusal 3, 4, 27, 28, 6, 7 or 18. The job's limit and mode are not read.
 pub fn closing_check(job: &Job, list: &[f64]) -> Judged<Checked> {
     pass(3, counts_fit(job) && list.len() == job.rows as usize)?;
     pass(4, words_fit(job))?;
-    pass(26, tolerances_fit(job))?;
+    let table = Table::of(job)?;
     pass(6, all_finite(&job.masses))?;
-    let table = Table::of(job);
     pass(7, table.rows.iter().all(|row| row.valid))?;
     pass(18, sized(job, list))?;
-    let measured = measure(job, list);
+    let measured = measure(&table, list);
     let within = |(row, found): (usize, &Measured)| found.reach() <= table.tolerance(row);
     let closed = measured.iter().enumerate().all(within);
     let mut gap = [0.0_f64; 2];
     for (row, found) in table.rows.iter().zip(&measured) {
         gap[row.dimension] = gap[row.dimension].max(found.reach());
     }
-    Ok(Checked { closed, gap })
+    Ok(Checked { closed, gap, rules: table.rules, measured })
 }
 
 /// As the C functions give it: refusal, 1 where closed, and the bits of both gaps.
 pub fn check_words(answer: &Judged<Checked>) -> [u64; 4] {
     match answer {
         Err(number) => [u64::from(*number), 0, 0, 0],
-        Ok(Checked { closed, gap: [linear, angular] }) => {
+        Ok(Checked { closed, gap: [linear, angular], .. }) => {
             [0, u64::from(*closed), linear.to_bits(), angular.to_bits()]
         }
     }
@@ -57,10 +59,9 @@ impl Measured {
     }
 }
 
-pub fn measure(job: &Job, list: &[f64]) -> Vec<Measured> {
-    let table = Table::of(job);
-    let values = operator::product(&table, list);
-    let sizes = operator::product(&sizes_of(&table), &absolute(list));
+fn measure(table: &Table, list: &[f64]) -> Vec<Measured> {
+    let values = operator::product(table, list);
+    let sizes = operator::product(&sizes_of(table), &absolute(list));
     let unit = (table.rows.len() as f64 + 16.0) * two(-51);
     let row = |(row, (value, size)): (&Row, (&f64, &f64))| Measured {
         r: -row.error - value,
@@ -93,11 +94,7 @@ fn sizes_of(table: &Table) -> Table {
         inverse_mass: mass.inverse_mass.abs(),
         inverse_inertia: mass.inverse_inertia.map(|row| row.map(f64::abs)),
     };
-    Table {
-        rows: table.rows.iter().map(row).collect(),
-        masses: table.masses.iter().map(mass).collect(),
-        tolerances: table.tolerances,
-    }
+    table.with(table.rows.iter().map(row).collect(), table.masses.iter().map(mass).collect())
 }
 
 fn absolute(list: &[f64]) -> Vec<f64> {

@@ -1,6 +1,7 @@
 //! What a job is made of, and the refusals that judge it before the first step.
 
 use super::algebra::{Mass, Side, Vector};
+use super::rules::rules_of_rows;
 use super::{Judged, all_finite, pass};
 use crate::job::*;
 
@@ -16,21 +17,32 @@ pub struct Row {
 pub struct Table {
     pub rows: Vec<Row>,
     pub masses: Vec<Mass>,
-    pub tolerances: [f64; 2],
+    /// Each row's rule and its tolerance.
+    pub rules: Vec<u32>,
+    tolerances: Vec<f64>,
 }
 
 impl Table {
-    pub fn of(job: &Job) -> Self {
+    /// The table of a job that 3 and 4 let pass; 27 and 28 are judged here.
+    pub fn of(job: &Job) -> Judged<Self> {
+        let rules = rules_of_rows(job)?;
+        let given = job.rules().tolerances;
         let rows = job.numbers.chunks_exact(ROW_NUMBERS).zip(job.words.chunks_exact(ROW_WORDS));
-        Self {
+        Ok(Self {
             rows: rows.map(|(numbers, words)| row(numbers, words, job.bodies)).collect(),
             masses: job.masses.chunks_exact(MASS_NUMBERS).map(Mass::of).collect(),
-            tolerances: job.tolerances,
-        }
+            tolerances: rules.iter().map(|rule| given[*rule as usize]).collect(),
+            rules,
+        })
     }
 
     pub fn tolerance(&self, row: usize) -> f64 {
-        self.tolerances[self.rows[row].dimension]
+        self.tolerances[row]
+    }
+
+    /// The same rules over other rows and masses.
+    pub fn with(&self, rows: Vec<Row>, masses: Vec<Mass>) -> Self {
+        Self { rows, masses, rules: self.rules.clone(), tolerances: self.tolerances.clone() }
     }
 
     /// Each |residual| is at most its row's tolerance.
@@ -72,17 +84,19 @@ fn is_valid(numbers: &[f64], words: &[u32], bodies: u32) -> bool {
         && numbers[CACHED_MASS] >= 0.0
 }
 
-/// Refusals 3, 25, 4, 26, 5 and 6 of a solve, in their order.
-pub fn opening(job: &Job) -> Judged<()> {
+/// Refusals 3, 25, 4, 27, 28, 5 and 6 of a solve, in their order.
+pub fn opening(job: &Job) -> Judged<Table> {
     pass(3, job.mode <= BLOCK_JACOBI && counts_fit(job))?;
     pass(25, shift_fits(job.shift))?;
     pass(4, words_fit(job))?;
-    pass(26, tolerances_fit(job))?;
+    let table = Table::of(job)?;
     pass(5, job.rows == 0 || (job.limit != 0 && opens(job)))?;
-    pass(6, all_finite(&job.masses))
+    pass(6, all_finite(&job.masses))?;
+    Ok(table)
 }
 
-/// Refusal 3's test, apart from the mode: the counts, and lengths that follow from them.
+/// Refusal 3's test, apart from the mode: the counts, and lengths that follow from them, and the
+/// rules' own.
 pub fn counts_fit(job: &Job) -> bool {
     let (rows, bodies) = (job.rows as usize, job.bodies as usize);
     rows <= 512
@@ -90,6 +104,7 @@ pub fn counts_fit(job: &Job) -> bool {
         && job.numbers.len() == ROW_NUMBERS * rows
         && job.words.len() == ROW_WORDS * rows
         && job.masses.len() == MASS_NUMBERS * bodies
+        && job.rules().fit()
 }
 
 /// Refusal 25's test: from 0 to 1, −0.0 too, whatever the mode and the rows. No NaN is.
@@ -108,9 +123,14 @@ pub fn words_fit(job: &Job) -> bool {
     })
 }
 
-/// Refusal 26's test, without rows too: neither negative nor NaN nor infinite. −0.0 passes.
+/// Neither negative nor NaN nor infinite. −0.0 passes.
+pub fn tolerance_fits(tolerance: f64) -> bool {
+    (0.0..f64::INFINITY).contains(&tolerance)
+}
+
+/// Refusal 26's test of a job file's two tolerances, without rows too.
 pub fn tolerances_fit(job: &Job) -> bool {
-    job.tolerances.iter().all(|tolerance| (0.0..f64::INFINITY).contains(tolerance))
+    job.tolerances.into_iter().all(tolerance_fits)
 }
 
 /// The Rust's opening test over all rows (refusal 5).

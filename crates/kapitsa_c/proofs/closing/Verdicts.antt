@@ -11,9 +11,11 @@ use lib.Ieee.{Float}
 use borrow.Author.Tests.{not-true, not-false, eqb-true}
 use Rattle.loops.specs.Run.{check}
 use Rattle.loops.proofs.Both.{both as both-true}
-use Rattle.loops.proofs.Ranges.{Listed}
+use Rattle.kapitsa_joint.specs.Table.{Table}
 use Rattle.kapitsa_joint.specs.declared.maxima.Maxima.{Maxima}
-use Rattle.check_range.specs.Closing.{Closing}
+use Rattle.rules.specs.Rules.{Rules}
+use Rattle.rules.proofs.Ruled.{rules-above}
+use Rattle.check_range.specs.Closing.{Closing, closingOf}
 use Rattle.check_answer.specs.Answer.{checkOf}
 use Rattle.check_answer.specs.declared.CheckAnswer.{CheckAnswer}
 use Rattle.check_answer.specs.declared.CheckAnswer.the-variants.{Closed, Open, Refused}
@@ -31,19 +33,33 @@ zero-is verdict gap (Closed m) above = (λ _ n h. let z : _≡_ {A = ℕ} 0 1 = 
 zero-is verdict gap (Open m) above = (λ _ n h. let z : _≡_ {A = ℕ} 0 1 = cc in omega arith, λ _. refl)
 zero-is verdict gap (Refused k) above = (λ e n h. let l = above k refl in omega arith, λ h. absurd (h k refl))
 
-module _ (c : Closing) (above : Listed (λ n. 1 < n) (c .toleranceTests)) (verdict : List ℕ) (gap : List Float) (before : CheckMemory) where
-  told-so : {fits : Bool} {told : VerdictTold} {a : CheckAnswer} {after : CheckMemory} → Checked fits c a before after → told ≡ verdictTold a verdict gap → CheckTold fits c verdict gap told before after
-  told-so {fits} k h =
+module _ (s : Rules) (t : Table) (listed : ℕ → Float) (verdict : List ℕ) (gap : List Float) (numbers : List ℕ) (before : CheckMemory) where
+  abbrev c : Closing
+  c = closingOf t listed s
+
+  told-so : {fits : Bool} {told : VerdictTold} {a : CheckAnswer} {numbersAfter : List ℕ} {after : CheckMemory} → Checked fits s c a numbers numbersAfter before after → told ≡ verdictTold a verdict gap
+      → CheckTold fits s c verdict gap told numbers numbersAfter before after
+  told-so {fits} {told} {a} k h =
       let means = rw (k .answered) at (k .means) in
-      rw (h, k .answered) (record { answered = refl; means = means; zero = zero-is verdict gap (checkOf fits c) (λ n e. refusal-above fits c above n (means .refused n .0 e)); memory = k .memory })
+      let zero = zero-is verdict gap (checkOf fits c) (λ n e. refusal-above fits c (rules-above _ _) n (means .refused n .0 e)) in
+      let answered = h ∙ ap (λ (a : CheckAnswer). verdictTold a verdict gap) (k .answered) in
+      record {
+        answered = answered;
+        means = means;
+        zero = rw answered zero;
+        named = rw (k .answered) at (k .named);
+        ruled = λ z. k .ruled (λ n e. zero .0 (ap (λ (v : VerdictTold). v .number) (sym answered) ∙ z) n (sym (k .answered) ∙ e));
+        memory = k .memory;
+      }
 
   -- refusal 3 of the slices of verdict and gap, then of the others
   module _ {r v : Bool} (p : Bool) (e : r ≡ v) where
-    pub untold : not r ≡ true → CheckTold (v && p) c verdict gap (record { number = 3; verdict = verdict; gap = gap }) before before
+    pub untold : not r ≡ true → CheckTold (v && p) s c verdict gap (record { number = 3; verdict = verdict; gap = gap }) numbers numbers before before
     unfolding verdictTold
-    untold h = told-so (checked-3 c before (sym (ap (λ (b : Bool). b && p) (sym e ∙ not-true r h))) refl) refl
+    untold h = told-so (checked-3 s t listed numbers before (sym (ap (λ (b : Bool). b && p) (sym e ∙ not-true r h))) refl) refl
 
-    pub told-on : {told : VerdictTold} {a : CheckAnswer} {after : CheckMemory} → not r ≡ false → Checked p c a before after → told ≡ verdictTold a verdict gap → CheckTold (v && p) c verdict gap told before after
+    pub told-on : {told : VerdictTold} {a : CheckAnswer} {numbersAfter : List ℕ} {after : CheckMemory} → not r ≡ false → Checked p s c a numbers numbersAfter before after → told ≡ verdictTold a verdict gap
+        → CheckTold (v && p) s c verdict gap told numbers numbersAfter before after
     told-on h k w = rw (sym e ∙ not-false r h) (told-so k w)
 
 -- ---- the slices of verdict and gap

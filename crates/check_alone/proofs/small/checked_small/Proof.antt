@@ -10,6 +10,7 @@ checked-small-spec =
     tie.close
     (tie.spec
     (λ c κs. search needs)  -- given-fits-requires
-    (λ c. alone-3 _ ((c .before .given-fits) .ensures) (c .if1 .taken))  -- returns
-    (λ c κs. (passed-3 ((c .before .given-fits) .ensures) (c .if1 .left), (c .before .before .before .before .before .before) .pre))  -- with-small-memory-requires
-    (λ c. c .with-small-memory .ensures))  -- returns-2
+    (λ c. alone-3 _ _ _ ((c .before .given-fits) .ensures) ((c .if1) .taken))  -- returns
+    (λ c κs. (passed-3 ((c .before .before .given-fits) .ensures) ((c .before .if1) .left), (c .before .before .before .before .before .before .before .before .before .before) .pre))  -- with-small-memory-requires
+    (λ c. (c .before .rule-numbers) .given)  -- same-length
+    (λ c. (c .before .before .with-small-memory) .ensures))  -- returns-2

@@ -11,10 +11,5 @@ row-within-spec =
     (tie.spec
     (λ c. search needs)  -- mul-result
     (λ c. search needs)  -- shared-slice-read-result
-    (λ c. search needs)  -- mul-dimension
-    (λ c. search needs)  -- add-dimension
-    (λ c. search needs)  -- mul-dimension-2
-    (λ c. search needs)  -- shared-slice-read-dimension
-    (λ c κs. search needs)  -- dimension-requires
-    (λ c κs. search needs)  -- of-requires
-    (λ c. rw ((c .of) .ensures, (c .before .dimension) .ensures)))  -- returns
+    (λ c κs. search needs)  -- row-tolerance-requires
+    (λ c. rw ((c .row-tolerance) .ensures)))  -- returns

@@ -1,5 +1,4 @@
 -- `check_refusals::fit::table_fits` meets its contract. Assumes nothing.
-use mathlib.Core.Path.{refl}
 use borrow.Author.Needs.{needs}
 use Rattle.check_refusals.specs.Refusals.{tableFits}
 use Rattle.check_refusals.proofs.fit.table_fits.Statement.{statement}
@@ -13,4 +12,5 @@ table-fits-spec =
     (λ c. search needs)  -- mul-result
     (λ c. search needs)  -- mul-result-2
     (λ c. search needs)  -- mul-result-3
-    (λ c. refl))  -- returns
+    (λ c κs. search needs)  -- rule-lengths-fit-requires
+    (λ c. rw ((c .before .rule-lengths-fit) .ensures)))  -- returns

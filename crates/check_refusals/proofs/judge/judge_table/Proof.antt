@@ -1,12 +1,12 @@
 -- `check_refusals::judge::judge_table` meets its contract. Assumes nothing.
 use borrow.Author.Needs.{needs}
 use Rattle.joint_refusals.specs.Refusals.{passes6, passes7}
-use Rattle.loops.proofs.Judge.{judge-done, judge-pass, judging}
-use Rattle.check_refusals.proofs.Judgement.{words-pass}
+use Rattle.loops.proofs.Judge.{judge-done, judge-fail, judge-pass, judging}
+use Rattle.check_refusals.proofs.Judgement.{words-pass, rows-pass}
 use Rattle.check_refusals.proofs.judge.judge_table.Statement.{statement}
 use Rattle.check_refusals.proofs.judge.judge_table.Tie as tie
 
-ruleset known = (judging, words-pass, needs)
+ruleset known = (judging, words-pass, rows-pass, needs)
 
 pub judge-table-spec : {M : Type 1} → statement M
 unfolding passes6 passes7
@@ -15,17 +15,26 @@ judge-table-spec =
     (tie.spec
     (λ c κs. search known)  -- words-fit-requires
     (λ c. search known)  -- returns
-    (λ c κs. search known)  -- tolerances-fit-requires
+    (λ c κs. search known)  -- rules-fit-requires
     (λ c. search known)  -- returns-2
-    (λ c κs. search known)  -- masses-finite-requires
+    (λ c κs. search known)  -- rows-ruled-requires
     (λ c. search known)  -- returns-3
-    (λ c κs. search known)  -- rows-valid-requires
+    (λ c κs. search known)  -- masses-finite-requires
     (λ c. search known)  -- returns-4
-    (λ c κs. search known)  -- table-in-range-requires
+    (λ c κs. search known)  -- rows-valid-requires
     (λ c. search known)  -- returns-5
+    (λ c κs. search known)  -- table-in-range-requires
     (λ c.
-    judge-pass _ _ _ (words-pass _ _ _ _ _ ((c .before .before .before .before .before .before .before .before .before .words-fit) .ensures)) ((c .before .before .before .before .before .before .before .before .if1) .left)
-    (judge-pass _ _ _ ((c .before .before .before .before .before .before .before .tolerances-fit) .ensures) ((c .before .before .before .before .before .before .if2) .left)
-    (judge-pass _ _ _ ((c .before .before .before .before .before .masses-finite) .ensures) ((c .before .before .before .before .if3) .left)
-    (judge-pass _ _ _ ((c .before .before .before .rows-valid) .ensures) ((c .before .before .if4) .left)
-    (judge-pass _ _ _ ((c .before .table-in-range) .ensures) ((c .if5) .left) judge-done))))))  -- returns-6
+    judge-pass _ _ _ (words-pass _ _ _ _ _ ((c .before .before .before .before .before .before .before .before .before .before .before .words-fit) .ensures)) ((c .before .before .before .before .before .before .before .before .before .before .if1) .left)
+    (judge-pass _ _ _ ((c .before .before .before .before .before .before .before .before .before .rules-fit) .ensures) ((c .before .before .before .before .before .before .before .before .if2) .left)
+    (judge-pass _ _ _ (rows-pass _ _ _ _ _ _ ((c .before .before .before .before .before .before .before .rows-ruled) .ensures)) ((c .before .before .before .before .before .before .if3) .left)
+    (judge-pass _ _ _ ((c .before .before .before .before .before .masses-finite) .ensures) ((c .before .before .before .before .if4) .left)
+    (judge-pass _ _ _ ((c .before .before .before .rows-valid) .ensures) ((c .before .before .if5) .left)
+    (judge-fail _ _ _ ((c .before .table-in-range) .ensures) ((c .if6) .taken)))))))  -- returns-6
+    (λ c.
+    judge-pass _ _ _ (words-pass _ _ _ _ _ ((c .before .before .before .before .before .before .before .before .before .before .before .words-fit) .ensures)) ((c .before .before .before .before .before .before .before .before .before .before .if1) .left)
+    (judge-pass _ _ _ ((c .before .before .before .before .before .before .before .before .before .rules-fit) .ensures) ((c .before .before .before .before .before .before .before .before .if2) .left)
+    (judge-pass _ _ _ (rows-pass _ _ _ _ _ _ ((c .before .before .before .before .before .before .before .rows-ruled) .ensures)) ((c .before .before .before .before .before .before .if3) .left)
+    (judge-pass _ _ _ ((c .before .before .before .before .before .masses-finite) .ensures) ((c .before .before .before .before .if4) .left)
+    (judge-pass _ _ _ ((c .before .before .before .rows-valid) .ensures) ((c .before .before .if5) .left)
+    (judge-pass _ _ _ ((c .before .table-in-range) .ensures) ((c .if6) .left) judge-done)))))))  -- returns-7

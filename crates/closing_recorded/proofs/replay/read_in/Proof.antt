@@ -1,4 +1,8 @@
 -- `closing_recorded::replay::read_in` meets its contract. Assumes nothing.
+use mathlib.Core.Path.{sym}
+use native.Mathlib.Omega.{arith}
+use lib.ListN.{take, replicate}
+use lib.Seq.{length-take-le}
 use borrow.Author.Needs.{needs}
 use Rattle.closing_recorded.proofs.Reading.{seen-in}
 use Rattle.closing_recorded.proofs.replay.read_in.Statement.{statement}
@@ -23,24 +27,21 @@ read-in-spec =
     (λ c. search needs)  -- mul-read-doubles
     (λ c. search needs)  -- add-read-doubles
     (λ c κs. search needs)  -- read-doubles-requires-3
+    (λ c. search needs)  -- slice-aggregate-checked
+    (λ c. search needs)  -- slice-aggregate-checked-2
+    (λ c. omega (arith, (c .before .before .before .before .before .before .before .before .before .before .before .before .before .before .before .before .before .before .before .before .before .before .before .before .before .before .before .before .before .before .before .before) .pre .0 .rows))  -- array-borrow-prefix-rule-numbers
+    (λ c. sym (length-take-le _ _ (omega (arith, (c .before .before .before .before .before .before .before .before .before .before .before .before .before .before .before .before .before .before .before .before .before .before .before .before .before .before .before .before .before .before .before .before .before) .pre .0 .rows))))  -- slice-aggregate-checked-3
     (λ c κs. search needs)  -- checked-requires
     (λ c κs. search needs)  -- compared-requires
-    (λ c. (c .before .before .before .before .before .before .before .before .before .before .before .before .before .before .before .before .before .before .before .numbers) .given)  -- same-length
-    (λ c. (c .before .before .before .before .before .before .before .before .before .before .before .before .before .before .before .words) .given)  -- same-length-2
-    (λ c. (c .before .before .before .before .before .before .before .before .before .before .before .masses) .given)  -- same-length-3
-    (λ c. (c .before .before .before .before .before .before .before .multipliers) .given)  -- same-length-4
+    (λ c. (c .before .before .before .before .before .before .before .before .before .before .before .before .before .before .before .before .before .before .before .before .before .before .before .numbers) .given)  -- same-length
+    (λ c. (c .before .before .before .before .before .before .before .before .before .before .before .before .before .before .before .before .before .before .before .words) .given)  -- same-length-2
+    (λ c. (c .before .before .before .before .before .before .before .before .before .before .before .before .before .before .before .masses) .given)  -- same-length-3
+    (λ c. (c .before .before .before .before .before .before .before .before .before .before .before .multipliers) .given)  -- same-length-4
     (λ c.
-    let multipliers = c .before .before .before .before .before .before .before .before in
-    let masses = multipliers .before .before .before .before in
-    let words = masses .before .before .before .before in
-    let numbers = words .before .before .before .before in
-    let angular = numbers .before .before in
-    let linear = angular .before in
-    let recorded = linear .before in
-    let second = recorded .before in
-    let first = second .before in
-    let long = first .before .before .before .before .before .before .pre .1 in
-    seen-in _ _ _ (long .0) (long .1) (long .2) (long .3)
-    (numbers .read-doubles .ensures) (words .read-halves .ensures) (masses .read-doubles2 .ensures) (multipliers .read-doubles3 .ensures)
-    (first .double .ensures) (second .double2 .ensures) (c .before .checked .ensures .0)
-    (recorded .word .ensures) (linear .word2 .ensures) (angular .word3 .ensures) (c .compared .ensures)))  -- returns
+    let held = (c .before .before .before .before .before .before .before .before .before .before .before .before .before .before .before .before .before .before .before .before .before .before .before .before .before .before .before .before .before .before .before .before .before .before .before .before) .pre .0 in
+    let n = (c .before .before .before .before .before .before .before .before .before .before .before .before .before .before .before .before .before .before .before .before .before .before .before .before .before .before .before .before .before .before .before .before .before .before .before .before) .args .n in
+    let long = (c .before .before .before .before .before .before .before .before .before .before .before .before .before .before .before .before .before .before .before .before .before .before .before .before .before .before .before .before .before .before .before .before .before .before .before .before) .pre .1 in
+    seen-in _ _ _ (take n (replicate 513 0)) (long .0) (long .1) (long .2) (long .3)
+    ((c .before .before .before .before .before .before .before .before .before .before .before .before .before .before .before .before .before .before .before .before .before .before .before .before .read-doubles) .ensures) ((c .before .before .before .before .before .before .before .before .before .before .before .before .before .before .before .before .before .before .before .before .read-halves) .ensures) ((c .before .before .before .before .before .before .before .before .before .before .before .before .before .before .before .before .read-doubles2) .ensures) ((c .before .before .before .before .before .before .before .before .before .before .before .before .read-doubles3) .ensures)
+    ((c .before .before .before .before .before .before .before .before .before .before .before .before .before .before .before .before .before .before .before .before .before .before .before .before .before .before .before .before .before .before .double) .ensures) ((c .before .before .before .before .before .before .before .before .before .before .before .before .before .before .before .before .before .before .before .before .before .before .before .before .before .before .before .before .before .double2) .ensures) ((c .before .before .checked) .ensures .answered) (length-take-le _ _ (omega (arith, held .rows)))
+    ((c .before .before .before .before .before .before .before .before .before .before .before .before .before .before .before .before .before .before .before .before .before .before .before .before .before .before .before .before .word) .ensures) ((c .before .before .before .before .before .before .before .before .before .before .before .before .before .before .before .before .before .before .before .before .before .before .before .before .before .before .before .word2) .ensures) ((c .before .before .before .before .before .before .before .before .before .before .before .before .before .before .before .before .before .before .before .before .before .before .before .before .before .before .word3) .ensures) ((c .compared) .ensures)))  -- returns

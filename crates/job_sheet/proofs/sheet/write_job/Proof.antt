@@ -1,10 +1,12 @@
 -- `job_sheet::sheet::write_job` meets its contract. Assumes nothing.
-use mathlib.Core.Path.{refl}
+use mathlib.Core.Path.{refl, sym}
 use native.Mathlib.Omega.{arith}
+use lib.ListN.{replicate}
+use lib.Seq.{length-take-le}
 use borrow.Author.Needs.{needs}
 use Rattle.listing.proofs.Joined.{wrote-as}
 use Rattle.listing.proofs.Length.{refused-room}
-use Rattle.job_sheet.proofs.Ways.{room-after, solve-fits, job-refused, job-accepted}
+use Rattle.job_sheet.proofs.Ways.{room-after, solve-fits, job-odd, job-refused, job-accepted}
 use Rattle.job_sheet.proofs.sheet.write_job.Statement.{statement}
 use Rattle.job_sheet.proofs.sheet.write_job.Tie as tie
 
@@ -12,18 +14,35 @@ pub write-job-spec : {M : Type 1} → statement M
 write-job-spec =
     tie.close
     (tie.spec
-    (λ c κs. ((c .before .before .before .before .before .before .before .before .before) .pre .0 .few-rows, (c .before .before .before .before .before .before .before .before .before) .pre .0 .few-bodies))  -- solve-small-position-requires
+    (λ c κs. search needs)  -- tolerances-fit-requires
+    (λ c κs. refused-room _ _ (search needs) (omega (arith, (c .before .before .before .before .before .before .before .before .before) .pre .1)))  -- write-refusal-requires
+    (λ c. (c .before .out) .given)  -- same-length
+    (λ c. let a = (c .before .before .before .before .before .before .before .before .before .before .before .before) .args in wrote-as (job-odd (a .trailer) (a .numbers .now) (a .words .now) (a .masses .now) ((c .before .before .before .before .before .tolerances-fit) .ensures) ((c .before .before .before .before .if1) .taken)) ((c .before .before .write-refusal) .ensures))  -- returns
+    (λ c. search needs)  -- cast-rows
+    (λ c. search needs)  -- slice-aggregate-solve-small-position
+    (λ c. search needs)  -- slice-aggregate-solve-small-position-2
+    (λ c. (c .before .before .before .before .before .before .before .before .before .before .before .before .before .before) .pre .0 .few-rows)  -- array-borrow-prefix-rule-numbers
+    (λ c. sym (length-take-le _ _ ((c .before .before .before .before .before .before .before .before .before .before .before .before .before .before .before) .pre .0 .few-rows)))  -- slice-aggregate-solve-small-position-3
+    (λ c κs. ((c .before .before .before .before .before .before .before .before .before .before .before .before .before .before .before) .pre .0 .few-rows, (c .before .before .before .before .before .before .before .before .before .before .before .before .before .before .before) .pre .0 .few-bodies))  -- solve-small-position-requires
     (λ c. search needs)  -- enum-known-answer
-    (λ c κs. refused-room _ _ (search needs) (omega (arith, (c .before .before .before .before .before .before .before .before .before .before .before .before .before .before .before .before .before .before .before .before) .pre .1)))  -- write-refusal-requires
+    (λ c κs. refused-room _ _ (search needs) (omega (arith, (c .before .before .before .before .before .before .before .before .before .before .before .before .before .before .before .before .before .before .before .before .before .before .before .before .before .before .before) .pre .1)))  -- write-refusal-requires-2
     (λ c. search needs)  -- enum-known-answer-2
-    (λ c κs. (room-after ((c .before .before .before .before .before .before .before .before .before .before .before .before .before .before .before .before .before .before .before .before .before .before .before) .pre .0) ((c .before .before .before .before .before .before .before .before .before .before .before .before .numbers) .given) refl refl ((c .before .before .before .before .before .before .before .before .before .before .solution) .given) ((c .before .before .before .before .before .before .before .before .impulses) .given), (c .before .before .before .before .before .before .before .before .before .before .before .before .before .before .before .before .before .before .before .before .before .before .before) .pre .1))  -- write-accepted-requires
-    (λ c. (c .before .before .before .before .before .before .before .before .before .before .before .before .numbers) .given)  -- same-length
-    (λ c. (c .before .before .before .before .before .before .before .before .before .before .solution) .given)  -- same-length-2
-    (λ c. (c .before .before .before .before .before .before .before .before .impulses) .given)  -- same-length-3
-    (λ c. (c .before .out) .given)  -- same-length-4
-    (λ c. wrote-as (job-refused ((c .before .before .before .before .before .before .before .before .before .before .before .before .before .before .before .before .before .before .before .before .before .before .before) .args .trailer) ((c .before .before .before .before .before .before .before .before .before .before .before .before .before .before .before .before .before .before .before .before .before .before .before) .args .numbers .now) ((c .before .before .before .before .before .before .before .before .before .before .before .before .before .before .before .before .before .before .before .before .before .before .before) .args .words .now) ((c .before .before .before .before .before .before .before .before .before .before .before .before .before .before .before .before .before .before .before .before .before .before .before) .args .masses .now) ((c .before .before .before .before .before .before .before .before .before .before .before .before .before .before .before .before .before .before .before .before .before .before .before) .args .solution .now) ((c .before .before .before .before .before .before .before .before .before .before .before .before .before .before .before .before .before .before .before .before .before .before .before) .args .impulses .now) (solve-fits ((c .before .before .before .before .before .before .before .before .before .before .before .before .before .before .before .before .before .before .before .before .before .before .before) .pre .0)) ((c .before .before .before .before .before .before .before .before .before .before .before .before .before .solve-small-position) .ensures) ((c .before .before .before .before .before .answer) .given .1)) ((c .before .before .write-refusal) .ensures))  -- returns
-    (λ c. (c .before .before .before .before .before .before .before .before .before .before .before .before .before .before .before .numbers) .given)  -- same-length-5
-    (λ c. (c .before .before .before .before .before .before .before .before .before .before .before .before .before .solution) .given)  -- same-length-6
-    (λ c. (c .before .before .before .before .before .before .before .before .before .before .before .impulses) .given)  -- same-length-7
-    (λ c. (c .before .out2) .given)  -- same-length-8
-    (λ c. wrote-as (job-accepted ((c .before .before .before .before .before .before .before .before .before .before .before .before .before .before .before .before .before .before .before .before .before .before .before .before .before .before) .args .trailer) ((c .before .before .before .before .before .before .before .before .before .before .before .before .before .before .before .before .before .before .before .before .before .before .before .before .before .before) .args .numbers .now) ((c .before .before .before .before .before .before .before .before .before .before .before .before .before .before .before .before .before .before .before .before .before .before .before .before .before .before) .args .words .now) ((c .before .before .before .before .before .before .before .before .before .before .before .before .before .before .before .before .before .before .before .before .before .before .before .before .before .before) .args .masses .now) ((c .before .before .before .before .before .before .before .before .before .before .before .before .before .before .before .before .before .before .before .before .before .before .before .before .before .before) .args .solution .now) ((c .before .before .before .before .before .before .before .before .before .before .before .before .before .before .before .before .before .before .before .before .before .before .before .before .before .before) .args .impulses .now) (solve-fits ((c .before .before .before .before .before .before .before .before .before .before .before .before .before .before .before .before .before .before .before .before .before .before .before .before .before .before) .pre .0)) ((c .before .before .before .before .before .before .before .before .before .before .before .before .before .before .before .before .solve-small-position) .ensures) _ ((c .before .before .before .before .before .before .before .before .answer2) .given .1)) ((c .before .before .write-accepted) .ensures)))  -- returns-2
+    (λ c κs. (room-after ((c .before .before .before .before .before .before .before .before .before .before .before .before .before .before .before .before .before .before .before .before .before .before .before .before .before .before .before .before .before .before) .pre .0) ((c .before .before .before .before .before .before .before .before .before .before .before .before .before .numbers) .given) refl refl ((c .before .before .before .before .before .before .before .before .before .before .before .solution) .given) ((c .before .before .before .before .before .before .before .before .before .impulses) .given), (c .before .before .before .before .before .before .before .before .before .before .before .before .before .before .before .before .before .before .before .before .before .before .before .before .before .before .before .before .before .before) .pre .1))  -- write-accepted-requires
+    (λ c. (c .before .before .before .before .before .before .before .before .before .before .before .before .before .numbers) .given)  -- same-length-2
+    (λ c. (c .before .before .before .before .before .before .before .before .before .before .before .solution) .given)  -- same-length-3
+    (λ c. (c .before .before .before .before .before .before .before .before .before .impulses) .given)  -- same-length-4
+    (λ c. (c .before .out2) .given)  -- same-length-5
+    (λ c.
+    let a = (c .before .before .before .before .before .before .before .before .before .before .before .before .before .before .before .before .before .before .before .before .before .before .before .before .before .before .before .before .before .before) .args in
+    let room = (c .before .before .before .before .before .before .before .before .before .before .before .before .before .before .before .before .before .before .before .before .before .before .before .before .before .before .before .before .before .before) .pre .0 in
+    let fits = solve-fits room (length-take-le (a .trailer .rows) (replicate 128 0) (room .few-rows)) in
+    wrote-as (job-refused (a .trailer) (a .numbers .now) (a .words .now) (a .masses .now) ((c .before .before .before .before .before .before .before .before .before .before .before .before .before .before .before .before .before .before .before .before .before .before .before .tolerances-fit) .ensures) ((c .before .before .before .before .before .before .before .before .before .before .before .before .before .before .before .before .before .before .before .before .before .before .if1) .left) (a .solution .now) (a .impulses .now) fits ((c .before .before .before .before .before .before .before .before .before .before .before .before .before .before .solve-small-position) .ensures) ((c .before .before .before .before .before .answer) .given .1)) ((c .before .before .write-refusal2) .ensures))  -- returns-2
+    (λ c. (c .before .before .before .before .before .before .before .before .before .before .before .before .before .before .before .before .numbers) .given)  -- same-length-6
+    (λ c. (c .before .before .before .before .before .before .before .before .before .before .before .before .before .before .solution) .given)  -- same-length-7
+    (λ c. (c .before .before .before .before .before .before .before .before .before .before .before .before .impulses) .given)  -- same-length-8
+    (λ c. (c .before .out3) .given)  -- same-length-9
+    (λ c.
+    let a = (c .before .before .before .before .before .before .before .before .before .before .before .before .before .before .before .before .before .before .before .before .before .before .before .before .before .before .before .before .before .before .before .before .before) .args in
+    let room = (c .before .before .before .before .before .before .before .before .before .before .before .before .before .before .before .before .before .before .before .before .before .before .before .before .before .before .before .before .before .before .before .before .before) .pre .0 in
+    let fits = solve-fits room (length-take-le (a .trailer .rows) (replicate 128 0) (room .few-rows)) in
+    wrote-as (job-accepted (a .trailer) (a .numbers .now) (a .words .now) (a .masses .now) ((c .before .before .before .before .before .before .before .before .before .before .before .before .before .before .before .before .before .before .before .before .before .before .before .before .before .before .tolerances-fit) .ensures) ((c .before .before .before .before .before .before .before .before .before .before .before .before .before .before .before .before .before .before .before .before .before .before .before .before .before .if1) .left) (a .solution .now) (a .impulses .now) fits ((c .before .before .before .before .before .before .before .before .before .before .before .before .before .before .before .before .before .solve-small-position) .ensures) _ ((c .before .before .before .before .before .before .before .before .answer2) .given .1)) ((c .before .before .write-accepted) .ensures)))  -- returns-3

@@ -1,40 +1,55 @@
 -- `position_steps::opening::open_table` meets its contract. Assumes nothing.
 use Rattle.loops.proofs.Judge.{judge-done, judge-fail, judge-pass, judging}
 use Rattle.loops.proofs.Loop.{loops}
-use Rattle.position_steps.proofs.Openings.{masses-six, rows-five, words-four}
+use Rattle.position_steps.proofs.Openings.{masses-six, rows-28, rows-five, words-four}
 use Rattle.position_steps.proofs.opening.open_table.Statement.{statement}
 use Rattle.position_steps.proofs.opening.open_table.Tie as tie
 
-ruleset known = (judging, masses-six, rows-five, words-four, loops)
+ruleset known = (judging, loops)
 
 pub open-table-spec : {M : Type 1} → statement M
 open-table-spec =
     tie.close
     (tie.spec
     (λ c κs. search known)  -- shift-fits-requires
-    (λ c. search known)  -- returns
+    (λ c. judge-fail _ _ _ ((c .before .shift-fits) .ensures) ((c .if1) .taken))  -- returns
     (λ c κs. search known)  -- wide-requires
     (λ c κs. search known)  -- words-fit-requires
-    (λ c. search known)  -- returns-2
-    (λ c κs. search known)  -- tolerances-fit-requires
-    (λ c. search known)  -- returns-3
+    (λ c.
+    judge-pass _ _ _ ((c .before .before .before .before .shift-fits) .ensures) ((c .before .before .before .if1) .left)
+    (judge-fail _ _ _ (words-four _ _ _ _ _ _ _ ((c .before .before .wide) .ensures) ((c .before .words-fit) .ensures)) ((c .if2) .taken)))  -- returns-2
+    (λ c κs. search known)  -- rules-fit-requires
+    (λ c.
+    judge-pass _ _ _ ((c .before .before .before .before .before .before .shift-fits) .ensures) ((c .before .before .before .before .before .if1) .left)
+    (judge-pass _ _ _ (words-four _ _ _ _ _ _ _ ((c .before .before .before .before .wide) .ensures) ((c .before .before .before .words-fit) .ensures)) ((c .before .before .if2) .left)
+    (judge-fail _ _ _ ((c .before .rules-fit) .ensures) ((c .if3) .taken))))  -- returns-3
+    (λ c κs. search known)  -- wide-requires-2
+    (λ c κs. search known)  -- rows-ruled-requires
+    (λ c.
+    judge-pass _ _ _ ((c .before .before .before .before .before .before .before .before .before .shift-fits) .ensures) ((c .before .before .before .before .before .before .before .before .if1) .left)
+    (judge-pass _ _ _ (words-four _ _ _ _ _ _ _ ((c .before .before .before .before .before .before .before .wide) .ensures) ((c .before .before .before .before .before .before .words-fit) .ensures)) ((c .before .before .before .before .before .if2) .left)
+    (judge-pass _ _ _ ((c .before .before .before .before .rules-fit) .ensures) ((c .before .before .before .if3) .left)
+    (judge-fail _ _ _ (rows-28 _ _ _ _ _ _ _ _ ((c .before .before .wide2) .ensures) ((c .before .rows-ruled) .ensures)) ((c .if4) .taken)))))  -- returns-4
     (λ c κs. search known)  -- opens-requires
     (λ c.
-    judge-pass _ _ _ ((c .before .before .before .before .before .before .before .before .shift-fits) .ensures) ((c .before .before .before .before .before .before .before .if1) .left)
-    (judge-pass _ _ _ (words-four _ _ _ _ _ _ _ ((c .before .before .before .before .before .before .wide) .ensures) ((c .before .before .before .before .before .words-fit) .ensures)) ((c .before .before .before .before .if2) .left)
-    (judge-pass _ _ _ ((c .before .before .before .tolerances-fit) .ensures) ((c .before .before .if3) .left)
-    (judge-fail _ _ _ (rows-five _ _ _ _ _ ((c .before .opens) .ensures)) ((c .if4) .taken)))))  -- returns-4
-    (λ c κs. search known)  -- wide-requires-2
+    judge-pass _ _ _ ((c .before .before .before .before .before .before .before .before .before .before .before .shift-fits) .ensures) ((c .before .before .before .before .before .before .before .before .before .before .if1) .left)
+    (judge-pass _ _ _ (words-four _ _ _ _ _ _ _ ((c .before .before .before .before .before .before .before .before .before .wide) .ensures) ((c .before .before .before .before .before .before .before .before .words-fit) .ensures)) ((c .before .before .before .before .before .before .before .if2) .left)
+    (judge-pass _ _ _ ((c .before .before .before .before .before .before .rules-fit) .ensures) ((c .before .before .before .before .before .if3) .left)
+    (judge-pass _ _ _ (rows-28 _ _ _ _ _ _ _ _ ((c .before .before .before .before .wide2) .ensures) ((c .before .before .before .rows-ruled) .ensures)) ((c .before .before .if4) .left)
+    (judge-fail _ _ _ (rows-five _ _ _ _ _ ((c .before .opens) .ensures)) ((c .if5) .taken))))))  -- returns-5
+    (λ c κs. search known)  -- wide-requires-3
     (λ c κs. search known)  -- masses-finite-requires
     (λ c.
-    judge-pass _ _ _ ((c .before .before .before .before .before .before .before .before .before .before .before .shift-fits) .ensures) ((c .before .before .before .before .before .before .before .before .before .before .if1) .left)
-    (judge-pass _ _ _ (words-four _ _ _ _ _ _ _ ((c .before .before .before .before .before .before .before .before .before .wide) .ensures) ((c .before .before .before .before .before .before .before .before .words-fit) .ensures)) ((c .before .before .before .before .before .before .before .if2) .left)
-    (judge-pass _ _ _ ((c .before .before .before .before .before .before .tolerances-fit) .ensures) ((c .before .before .before .before .before .if3) .left)
-    (judge-pass _ _ _ (rows-five _ _ _ _ _ ((c .before .before .before .before .opens) .ensures)) ((c .before .before .before .if4) .left)
-    (judge-fail _ _ _ (masses-six _ _ _ _ _ _ _ ((c .before .before .wide2) .ensures) ((c .before .masses-finite) .ensures)) ((c .if5) .taken))))))  -- returns-5
+    judge-pass _ _ _ ((c .before .before .before .before .before .before .before .before .before .before .before .before .before .before .shift-fits) .ensures) ((c .before .before .before .before .before .before .before .before .before .before .before .before .before .if1) .left)
+    (judge-pass _ _ _ (words-four _ _ _ _ _ _ _ ((c .before .before .before .before .before .before .before .before .before .before .before .before .wide) .ensures) ((c .before .before .before .before .before .before .before .before .before .before .before .words-fit) .ensures)) ((c .before .before .before .before .before .before .before .before .before .before .if2) .left)
+    (judge-pass _ _ _ ((c .before .before .before .before .before .before .before .before .before .rules-fit) .ensures) ((c .before .before .before .before .before .before .before .before .if3) .left)
+    (judge-pass _ _ _ (rows-28 _ _ _ _ _ _ _ _ ((c .before .before .before .before .before .before .before .wide2) .ensures) ((c .before .before .before .before .before .before .rows-ruled) .ensures)) ((c .before .before .before .before .before .if4) .left)
+    (judge-pass _ _ _ (rows-five _ _ _ _ _ ((c .before .before .before .before .opens) .ensures)) ((c .before .before .before .if5) .left)
+    (judge-fail _ _ _ (masses-six _ _ _ _ _ _ _ ((c .before .before .wide3) .ensures) ((c .before .masses-finite) .ensures)) ((c .if6) .taken)))))))  -- returns-6
     (λ c.
-    judge-pass _ _ _ ((c .before .before .before .before .before .before .before .before .before .before .before .shift-fits) .ensures) ((c .before .before .before .before .before .before .before .before .before .before .if1) .left)
-    (judge-pass _ _ _ (words-four _ _ _ _ _ _ _ ((c .before .before .before .before .before .before .before .before .before .wide) .ensures) ((c .before .before .before .before .before .before .before .before .words-fit) .ensures)) ((c .before .before .before .before .before .before .before .if2) .left)
-    (judge-pass _ _ _ ((c .before .before .before .before .before .before .tolerances-fit) .ensures) ((c .before .before .before .before .before .if3) .left)
-    (judge-pass _ _ _ (rows-five _ _ _ _ _ ((c .before .before .before .before .opens) .ensures)) ((c .before .before .before .if4) .left)
-    (judge-pass _ _ _ (masses-six _ _ _ _ _ _ _ ((c .before .before .wide2) .ensures) ((c .before .masses-finite) .ensures)) ((c .if5) .left) judge-done))))))  -- returns-6
+    judge-pass _ _ _ ((c .before .before .before .before .before .before .before .before .before .before .before .before .before .before .shift-fits) .ensures) ((c .before .before .before .before .before .before .before .before .before .before .before .before .before .if1) .left)
+    (judge-pass _ _ _ (words-four _ _ _ _ _ _ _ ((c .before .before .before .before .before .before .before .before .before .before .before .before .wide) .ensures) ((c .before .before .before .before .before .before .before .before .before .before .before .words-fit) .ensures)) ((c .before .before .before .before .before .before .before .before .before .before .if2) .left)
+    (judge-pass _ _ _ ((c .before .before .before .before .before .before .before .before .before .rules-fit) .ensures) ((c .before .before .before .before .before .before .before .before .if3) .left)
+    (judge-pass _ _ _ (rows-28 _ _ _ _ _ _ _ _ ((c .before .before .before .before .before .before .before .wide2) .ensures) ((c .before .before .before .before .before .before .rows-ruled) .ensures)) ((c .before .before .before .before .before .if4) .left)
+    (judge-pass _ _ _ (rows-five _ _ _ _ _ ((c .before .before .before .before .opens) .ensures)) ((c .before .before .before .if5) .left)
+    (judge-pass _ _ _ (masses-six _ _ _ _ _ _ _ ((c .before .before .wide3) .ensures) ((c .before .masses-finite) .ensures)) ((c .if6) .left) judge-done)))))))  -- returns-7

@@ -1,0 +1,111 @@
+-- The rule of each row, from what the solve by rules promises. Assumes nothing.
+use Prim.Native.Nat.{ℕ, _*_, _≤_}
+use mathlib.Core.Path.{_≡_, refl, sym, ap, _∙_}
+use mathlib.Core.Bool.{Bool, true, false, not, _&&_}
+use mathlib.Core.List.{List}
+use native.Mathlib.Omega.{arith}
+use lib.Dec.{leb, eqb}
+use lib.Ieee.{Float}
+use borrow.Author.Tests.{not-true, not-false, eqb-true, leb-true}
+use Rattle.loops.specs.Run.{Run, going, ended, on}
+use Rattle.loops.specs.Judge.{AllPass}
+use Rattle.loops.specs.Tabulate.{tabulate}
+use Rattle.loops.proofs.Both.{both}
+use Rattle.loops.proofs.Judge.{judge-going}
+use Rattle.kapitsa_joint.specs.Row.{rowOf, wordsOf}
+use Rattle.kapitsa_joint.specs.Table.{Table, tableOf}
+use Rattle.rules.specs.Rules.{Rules, ruleLengthsFit, ruledBy, Ruled}
+use Rattle.rules.specs.Rows.{ruleIn}
+use Rattle.rules.proofs.Ruled.{passes-28}
+use Rattle.preconditioner.specs.declared.mode.Mode.{Mode}
+use Rattle.position.specs.Problem.{Problem}
+use Rattle.position_iteration.specs.Method.{openingOf, openingTests, methodOf}
+use Rattle.position_iteration.specs.Places.{Apart}
+use Rattle.position_iteration.specs.Position.{shiftedProblem}
+use Rattle.position_delivery.specs.Outcome.{Lent, Outcome, proposalOf, outcomeOf}
+use Rattle.position_delivery.specs.declared.answer.PositionPcg.{PositionPcg}
+use Rattle.position_delivery.specs.declared.answer.PositionPcg.the-variants as answers
+use Rattle.position_delivery.specs.declared.answer.PositionPcgResult.{PositionPcgResult}
+use Rattle.steps.specs.Solve.{solve}
+use Rattle.work_memory.specs.Work.{WorkMemory}
+use Rattle.pcg.specs.SolveHeld.{SolveHeld}
+use Rattle.pcg.specs.Ruled.{rulesLent, NamingRoom, namedBy, SolveRuled}
+use Rattle.pcg.proofs.Entry.{solved-three}
+
+-- ---- an accepted answer has passed what is judged before step 0
+module _ (fits : Bool) (p : Problem) (mode : Mode) (limit n : ℕ) (before after : Lent) {answer : PositionPcg} (answered : outcomeOf n before (solve (methodOf fits p mode) limit) ≡ record { answer = answer; lent = after }) (r : PositionPcgResult)
+    (accepted : answer ≡ answers.Accepted r) where
+  accepted-opens : openingOf fits p limit ≡ going tt
+  unfolding proposalOf solve on
+  accepted-opens = go (openingOf fits p limit) refl
+    where
+      told : outcomeOf n before (solve (methodOf fits p mode) limit) .answer ≡ answers.Accepted r
+      told = ap (λ (o : Outcome). o .answer) answered ∙ accepted
+
+      go : (o : Run Unit ℕ) → openingOf fits p limit ≡ o → openingOf fits p limit ≡ going tt
+      go (going u) e = e
+      go (ended k) e = absurd (let h : answers.Refused k ≡ answers.Accepted r = rw e at told in let z : _≡_ {A = ℕ} 0 1 = cc in omega arith)
+
+  pub accepted-tests : AllPass (openingTests fits p limit)
+  unfolding openingOf
+  accepted-tests = judge-going (openingTests fits p limit) .0 accepted-opens
+
+-- ---- the lengths of the rules
+module _ (rows words tolerances numbers : ℕ) {b : Bool} (e : b ≡ rulesLent rows words tolerances numbers) (h : not b ≡ false) where
+  lent-parts : (ruleLengthsFit words tolerances ≡ true) × (eqb numbers rows ≡ true)
+  unfolding rulesLent
+  lent-parts = both (ruleLengthsFit words tolerances) (eqb numbers rows) (sym e ∙ not-false b h)
+
+  pub lent-rules : (3 * tolerances ≤ words) × (tolerances ≤ 64)
+  unfolding ruleLengthsFit
+  lent-rules =
+      let (p, q) = both (leb tolerances 64) (eqb words (3 * tolerances)) (lent-parts .0) in
+      let l = eqb-true words (3 * tolerances) q in
+      (omega arith, leb-true tolerances 64 p)
+
+  pub lent-numbers : numbers ≡ rows
+  lent-numbers = eqb-true numbers rows (lent-parts .1)
+
+-- ---- what takes the rules has the rows' words beside it
+pub naming-room : (fits : Bool) (p : Problem) (mode : Mode) (limit n : ℕ) (before after : Lent) {answer : PositionPcg} {work workAfter : WorkMemory} {numbers words : ℕ} → SolveHeld fits p mode limit n before after answer work workAfter
+    → (fits ≡ true → words ≡ 8 * n) → numbers ≡ n → NamingRoom answer numbers words
+unfolding AllPass
+naming-room fits p mode limit n before after held long e = record {
+  room = λ r a. let w = long (accepted-tests fits p mode limit n before after (held .answered) r a .0) in omega arith;
+}
+
+-- ---- the entry; b is what the test of the rules' lengths answered
+module _ (s : Rules) (rows bodies : ℕ) (numbers : List Float) (words : List ℕ) (masses : List Float) (shift : Float) (mode : Mode) (limit : ℕ) (before : Lent) (named : List ℕ) (work : WorkMemory) (a b q : Bool) (e : b ≡ a) where
+  abbrev t : Table
+  t = tableOf rows bodies numbers words masses
+
+  abbrev p : Problem
+  p = shiftedProblem t (ruledBy s t) shift
+
+  pub ruled-three : Apart p → not b ≡ true → SolveRuled (a && q) s p mode limit rows before before named named (answers.Refused 3) work work
+  ruled-three apart h =
+      let none : a ≡ false = sym e ∙ not-true b h in
+      record {
+        held = solved-three (a && q) p mode limit rows before work (a && q) apart refl (rw none);
+        named = refl;
+        ruled = λ r c. absurd (let z : _≡_ {A = ℕ} 0 1 = cc in omega arith);
+      }
+
+  module _ {after : Lent} {answer : PositionPcg} {workAfter : WorkMemory} (h : not b ≡ false) (held : SolveHeld q p mode limit rows before after answer work workAfter) where
+    each-ruled : (r : PositionPcgResult) → answer ≡ answers.Accepted r → Ruled s t
+    unfolding AllPass
+    each-ruled r c = passes-28 s t .0 (accepted-tests q p mode limit rows before after (held .answered) r c .1 .1 .1 .1 .0)
+
+    pub ruled-on : (n : ℕ) (after-named : List ℕ) → n ≡ rows → after-named ≡ namedBy answer (ruleIn s words) n named → SolveRuled (a && q) s p mode limit rows before after named after-named answer work workAfter
+    unfolding rowOf wordsOf
+    ruled-on n after-named en l =
+        let passed : a ≡ true = sym e ∙ not-false b h in
+        rw passed (record { held = held; named = l ∙ ap (λ (k : ℕ). namedBy answer (ruleIn s words) k named) en; ruled = each-ruled })
+
+-- ---- `name_accepted`
+module _ (a : PositionPcg) (rule : ℕ → ℕ) (n : ℕ) (before : List ℕ) where
+  pub named-accepted : {r : PositionPcgResult} {l : List ℕ} → a ≡ answers.Accepted r → l ≡ tabulate rule n → l ≡ namedBy a rule n before
+  named-accepted e h = rw e h
+
+  pub named-refused : {k : ℕ} → a ≡ answers.Refused k → before ≡ namedBy a rule n before
+  named-refused e = rw e

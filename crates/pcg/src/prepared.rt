@@ -1,0 +1,117 @@
+// The position solve over lent tables, by lent rules: the entry.
+ghost use mathlib.Core.Path.{_≡_};
+ghost use mathlib.Core.Bool.{_&&_};
+ghost use Prim.Native.Nat.{_*_, _≤_};
+ghost use lib.ListN.{length};
+ghost use Rattle.rules.specs.Rows.{rulesIn, ruleIn};
+ghost use Rattle.preconditioner.specs.Mode.{modeOf};
+ghost use Rattle.position_iteration.specs.Position.{positionOf};
+ghost use Rattle.work_memory.specs.Work.{workMemory};
+ghost use Rattle.work_memory.specs.Lengths.{passes3};
+ghost use Rattle.pcg.specs.Ruled.{rulesLent, NamingRoom, namedBy, SolveRuled};
+use crate::solve::solve_by_rules;
+use loops::wide;
+use position_delivery::PositionPcg;
+use rules::name_rules;
+use rules::rule_lengths_fit;
+
+// Refusal 3, of the rules and of what takes each row's: true where it does not apply.
+pub fn rules_lent(rows: u32, words: usize, tolerances: usize, numbers: usize) -> bool
+    ensures { λ r. ⌜ r ≡ rulesLent rows words tolerances numbers ⌝ }
+{
+    rule_lengths_fit(words, tolerances) & (numbers == wide(rows))
+}
+
+// The rule of each row, where the answer is accepted.
+fn name_accepted(
+    answer: PositionPcg,
+    words: &[u32],
+    rule_words: &[u32],
+    rule_tolerances: &[f64],
+    rule_numbers: &mut [u32],
+)
+    requires { ⌜ (3 * length (now «rule_tolerances») ≤ length (now «rule_words»)) × (length (now «rule_tolerances») ≤ 64) ⌝ }
+    requires { ⌜ NamingRoom answer (length (now «rule_numbers»)) (length (now words)) ⌝ }
+    ensures { λ _. ⌜ now («rule_numbers» .exit) ≡ namedBy answer (ruleIn (rulesIn (now («rule_words» .entry)) (now («rule_tolerances» .entry))) (now (words .entry))) (length (now («rule_numbers» .entry))) (now («rule_numbers» .entry)) ⌝ }
+{
+    match answer {
+        PositionPcg::Accepted(result) => {
+            name_rules(words, rule_words, rule_tolerances, rule_numbers);
+        }
+        PositionPcg::Refused(number) => {}
+    }
+}
+
+// Solution, impulses, accumulated multipliers and each row's rule are written only where the answer is accepted; the work memory is +0.0 (integers 0) afterwards, except after refusal 3, which writes nothing.
+pub fn solve_position_pcg_prepared(
+    numbers: &mut [f64],
+    words: &[u32],
+    masses: &[f64],
+    rows: u32,
+    bodies: u32,
+    rule_words: &[u32],
+    rule_tolerances: &[f64],
+    limit: u32,
+    mode: u32,
+    shift: f64,
+    solution: &mut [f64],
+    impulses: &mut [f64],
+    rule_numbers: &mut [u32],
+    jacobians: &mut [f64],
+    links: &mut [u32],
+    tolerances: &mut [f64],
+    diagonal: &mut [f64],
+    residual: &mut [f64],
+    pending: &mut [f64],
+    direction: &mut [f64],
+    product: &mut [f64],
+    body_impulses: &mut [f64],
+    pattern: &mut [u32],
+    order: &mut [u32],
+    values: &mut [f64],
+) -> PositionPcg
+    ensures { λ r. ⌜ SolveRuled (rulesLent rows (length (now («rule_words» .entry))) (length (now («rule_tolerances» .entry))) (length (now («rule_numbers» .entry))) && passes3 rows bodies mode (now (numbers .entry)) (now (words .entry)) (now (masses .entry)) (now (solution .entry)) (now (impulses .entry)) (workMemory (now (jacobians .entry)) (now (links .entry)) (now (tolerances .entry)) (now (diagonal .entry)) (now (residual .entry)) (now (pending .entry)) (now (direction .entry)) (now (product .entry)) (now («body_impulses» .entry)) (now (pattern .entry)) (now (order .entry)) (now (values .entry))))
+        (rulesIn (now («rule_words» .entry)) (now («rule_tolerances» .entry)))
+        (positionOf rows bodies (now (numbers .entry)) (now (words .entry)) (now (masses .entry)) (rulesIn (now («rule_words» .entry)) (now («rule_tolerances» .entry))) shift) (modeOf mode shift) limit rows
+        record { numbers = now (numbers .entry); solution = now (solution .entry); impulses = now (impulses .entry) } record { numbers = now (numbers .exit); solution = now (solution .exit); impulses = now (impulses .exit) }
+        (now («rule_numbers» .entry)) (now («rule_numbers» .exit)) r
+        (workMemory (now (jacobians .entry)) (now (links .entry)) (now (tolerances .entry)) (now (diagonal .entry)) (now (residual .entry)) (now (pending .entry)) (now (direction .entry)) (now (product .entry)) (now («body_impulses» .entry)) (now (pattern .entry)) (now (order .entry)) (now (values .entry)))
+        (workMemory (now (jacobians .exit)) (now (links .exit)) (now (tolerances .exit)) (now (diagonal .exit)) (now (residual .exit)) (now (pending .exit)) (now (direction .exit)) (now (product .exit)) (now («body_impulses» .exit)) (now (pattern .exit)) (now (order .exit)) (now (values .exit))) ⌝ }
+{
+    if !rules_lent(
+        rows,
+        rule_words.len(),
+        rule_tolerances.len(),
+        rule_numbers.len(),
+    ) {
+        return PositionPcg::Refused(3);
+    }
+    let answer = solve_by_rules(
+        numbers,
+        words,
+        masses,
+        rows,
+        bodies,
+        rule_words,
+        rule_tolerances,
+        limit,
+        mode,
+        shift,
+        solution,
+        impulses,
+        jacobians,
+        links,
+        tolerances,
+        diagonal,
+        residual,
+        pending,
+        direction,
+        product,
+        body_impulses,
+        pattern,
+        order,
+        values,
+    );
+    name_accepted(answer, words, rule_words, rule_tolerances, rule_numbers);
+    answer
+}

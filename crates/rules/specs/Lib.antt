@@ -1,0 +1,3 @@
+pub mod Rules
+pub mod Found
+pub mod Rows
