@@ -29,7 +29,7 @@ import sys
 HOME = pathlib.Path(__file__).resolve().parent
 
 # The requests of document 02 that are in place. A case is left out while it needs another.
-LANDED = {"f", "h", "j", "k"}
+LANDED = {"d", "f", "h", "j", "k"}
 
 # The request that brings a kind of case.
 BROUGHT_BY = {"groups": "g", "margins": "m", "write": "e", "convert": "e", "same": "e", "sequence": "l"}
@@ -91,7 +91,7 @@ class Job:
         self.numbers = b"".join(row[: 8 * ROW_NUMBERS] for row in rows)
         self.words = b"".join(row[8 * ROW_NUMBERS :] for row in rows)
         self.masses = b"".join(mass[:80] for mass in masses)
-        self.centres = b"".join(mass[80:] for mass in masses)
+        self.centres = b"".join(mass[80:] if trailer.layout == 1 else bytes(24) for mass in masses)
 
 
 def lent(kind, data):
@@ -139,21 +139,25 @@ class Library:
         job, expect = case.job, case.expect
         numbers = lent(ctypes.c_double, job.numbers)
         words, masses = lent(ctypes.c_uint32, job.words), lent(ctypes.c_double, job.masses)
+        centres, new_centres = lent(ctypes.c_double, job.centres), outputs(3 * min(job.bodies, 600))
         solution, impulses = outputs(min(job.rows, 600)), outputs(6 * min(job.bodies, 600))
         rule_numbers = word_outputs(min(job.rows, 600))
         answer = (ctypes.c_uint64 * 5)(*[UNTOUCHED] * 5)
         self.call(
-            "oracle_solve_position", numbers, words, masses, *case.lent_rules(), job.rows,
-            job.bodies, job.limit, job.mode, case.shift, solution, impulses, rule_numbers, answer,
+            "oracle_solve_position", numbers, words, masses, centres, *case.lent_rules(), job.rows,
+            job.bodies, job.limit, job.mode, case.shift, solution, impulses, new_centres,
+            rule_numbers, answer,
         )  # fmt: skip
         before = bits(lent(ctypes.c_double, job.numbers))
         if expect["refusal"]:
             wanted = [expect["refusal"], 0, 0, 0, 0]
             wanted_solution, wanted_impulses = [UNTOUCHED] * len(solution), [UNTOUCHED] * len(impulses)
+            wanted_centres = [UNTOUCHED] * len(new_centres)
             wanted_rules = [UNTOUCHED_WORD] * len(rule_numbers)
         else:
             wanted = [0, expect["count"], expect["flag"], *bits_of(expect["maxima"])]
             wanted_solution, wanted_impulses = bits_of(expect["solution"]), bits_of(expect["impulses"])
+            wanted_centres = bits_of(expect["centres"])
             wanted_rules = expect["rules"]
             before[MULTIPLIER::ROW_NUMBERS] = bits_of(expect["multipliers"])
         return self.work() + different(
@@ -161,17 +165,19 @@ class Library:
             ("solution", bits(solution), wanted_solution),
             ("multipliers or row numbers", bits(numbers), before),
             ("impulses", bits(impulses), wanted_impulses),
+            ("new centres", bits(new_centres), wanted_centres),
+            ("centres", bits(centres), bits(lent(ctypes.c_double, job.centres))),
             ("rule numbers", list(rule_numbers), wanted_rules),
         )
 
     def check(self, case):
         job, expect = case.job, case.expect
         numbers, masses = lent(ctypes.c_double, job.numbers), lent(ctypes.c_double, job.masses)
-        words = lent(ctypes.c_uint32, job.words)
+        words, centres = lent(ctypes.c_uint32, job.words), lent(ctypes.c_double, job.centres)
         rule_numbers = word_outputs(min(job.rows, 600))
         answer = (ctypes.c_uint64 * 4)(*[UNTOUCHED] * 4)
         self.call(
-            "oracle_closing_check", numbers, words, masses, *case.lent_rules(), job.rows,
+            "oracle_closing_check", numbers, words, masses, centres, *case.lent_rules(), job.rows,
             job.bodies, lent(ctypes.c_double, case.list), rule_numbers, answer,
         )  # fmt: skip
         if expect["refusal"]:
@@ -245,8 +251,7 @@ class Case:
             yield [number for number, holds in enumerate(held) if holds]
 
     def waits_for(self):
-        """The requests that must be in place before the case can be compared. Centres can be left
-        unread, but where they bring a refusal: 6 by one lent, and perhaps 17, where new ones overflow."""
+        """The requests that must be in place before the case can be compared."""
         needs = {BROUGHT_BY[self.op]} if self.op in BROUGHT_BY else set()
         if self.has_rules:
             needs.add("k")
@@ -255,13 +260,10 @@ class Case:
         if self.op == "program":
             # A file that is too short for a trailer is refused by 1 all along.
             trailer = trailer_of(self.file.rjust(TRAILER_BYTES, b"\0"))
-            by_centre = trailer.layout == 1 or self.expect["text"].startswith("solve 17 ")
-            needs |= {"d"} if by_centre else set()
+            needs |= {"d"} if trailer.layout == 1 else set()
             needs |= {"j"} if is_odd(trailer.linear) or is_odd(trailer.angular) else set()
         elif self.op in ("solve", "check"):
-            centres = lent(ctypes.c_double, self.job.centres)
-            by_centre = not all(map(math.isfinite, centres)) or self.expect["refusal"] == 17
-            needs |= {"d"} if by_centre else set()
+            needs.add("d")
             needs |= {"j"} if any(map(is_odd, self.job.tolerances)) else set()
         return needs - LANDED
 

@@ -1,10 +1,12 @@
 #!/usr/bin/env python3
-"""Writes the sample jobs beside this file: P1 of document 01, a four-bar linkage and a clock train.
+"""Writes the sample jobs beside this file: P1 of document 01, a four-bar linkage and a clock train, the last two also
+with the centres of their parts.
 
     python3 samples/make.py
 
 The same bytes each time. A job file is little-endian: 248 bytes a row (27 doubles, then 8 words),
-80 bytes a mass, and a trailer of 48 bytes that points back at both sections.
+80 bytes a mass, and a trailer of 48 bytes that points back at both sections. Where the trailer's last word
+is 1 a mass has 104 bytes, its centre at its end.
 
 Linkage and train are drawn here as a workshop would scan them: true places, and for each part a
 small error of its scan, after which the joints gape by fractions of a millimetre. Metres and radians.
@@ -34,16 +36,21 @@ def negated(u):
 
 
 class Job:
-    def __init__(self, limit, mode, linear, angular):
-        self.limit, self.mode, self.tolerances = limit, mode, (linear, angular)
-        self.rows, self.masses, self.owner = b"", b"", -1
+    def __init__(self, limit, mode, linear, angular, spare=0):
+        self.limit, self.mode, self.tolerances, self.spare = limit, mode, (linear, angular), spare
+        self.rows, self.masses, self.centres, self.owner = b"", b"", b"", -1
 
     def body(self, inverse_mass, inverse_inertia):
         """A body with its inverse inertia about the world's axes; returns its number."""
         x, y, z = inverse_inertia
         columns = (x, 0.0, 0.0, 0.0, y, 0.0, 0.0, 0.0, z)
         self.masses += struct.pack("<10d", inverse_mass, *columns)
+        self.centres += bytes(24)
         return len(self.masses) // 80 - 1
+
+    def place(self, centres):
+        """Where the bodies lie; only a file of spare 1 tells it."""
+        self.centres = b"".join(struct.pack("<3d", *centre) for centre in centres)
 
     def joint(self):
         """The rows that follow belong to one joint."""
@@ -67,12 +74,18 @@ class Job:
             LINEAR, a, b, axis, cross(arm_a, axis), negated(axis), negated(cross(arm_b, axis)), error
         )
 
+    def mass_section(self):
+        if self.spare != 1:
+            return self.masses
+        bodies = range(len(self.masses) // 80)
+        return b"".join(self.masses[80 * j : 80 * j + 80] + self.centres[24 * j : 24 * j + 24] for j in bodies)
+
     def bytes(self):
-        rows, bodies = len(self.rows) // 248, len(self.masses) // 80
-        length = len(self.rows) + len(self.masses) + 48
+        rows, bodies, masses = len(self.rows) // 248, len(self.masses) // 80, self.mass_section()
+        length = len(self.rows) + len(masses) + 48
         words = (rows, bodies, self.limit, self.mode, 0, len(self.rows))
-        trailer = struct.pack("<6I2d2I", *words, *self.tolerances, length, 0)
-        return self.rows + self.masses + trailer
+        trailer = struct.pack("<6I2d2I", *words, *self.tolerances, length, self.spare)
+        return self.rows + masses + trailer
 
 
 def p1():
@@ -86,9 +99,9 @@ def p1():
     return job
 
 
-def four_bar():
+def four_bar(spare=0):
     """Frame, crank, coupler and rocker in a plane: four joints of two rows each."""
-    job = Job(limit=32, mode=1, linear=1e-9, angular=1e-9)
+    job = Job(limit=32, mode=1, linear=1e-9, angular=1e-9, spare=spare)
     # joints A and D on the frame, B at the crank's end, C at the rocker's
     a, b, c, d = (0.0, 0.0, 0.0), (0.06, 0.08, 0.0), (0.32, 0.19, 0.0), (0.30, 0.0, 0.0)
     middle = lambda u, v: tuple((x + y) / 2 for x, y in zip(u, v))
@@ -102,6 +115,7 @@ def four_bar():
     scans = [(0.0, 0.0), (2.1e-4, -1.3e-4), (-1.7e-4, 0.9e-4), (0.6e-4, 2.4e-4)]
     at = lambda part, point: (point[0] + scans[part][0], point[1] + scans[part][1], 0.0)
     seen = [at(part, centre) for part, centre in enumerate(centres)]
+    job.place(seen)
     for first, second, point in [(0, 1, a), (1, 2, b), (2, 3, c), (3, 0, d)]:
         job.joint()
         points = (at(first, point), at(second, point))
@@ -110,9 +124,9 @@ def four_bar():
     return job
 
 
-def clock_train():
+def clock_train(spare=0):
     """Plates and four arbors: each turns in two pivots (four rows) with no endshake (one row), and each drives the next by its teeth (one row of angle)."""
-    job = Job(limit=64, mode=0, linear=1e-9, angular=1e-9)
+    job = Job(limit=64, mode=0, linear=1e-9, angular=1e-9, spare=spare)
     # great, centre, third and escape arbor: place in the plates, kilograms, radius of its wheel
     arbors = [(0.0, 0.0, 0.40, 0.045), (0.05, 0.03, 0.12, 0.032), (0.09, 0.01, 0.06, 0.026), (0.12, 0.04, 0.03, 0.020)]
     teeth = [(96, 12), (80, 10), (75, 8)]
@@ -126,6 +140,7 @@ def clock_train():
         centres.append((x, y, 0.0))
     scans = [(0.0, 0.0, 0.0), (1.1e-4, -0.4e-4, 0.7e-4), (-0.8e-4, 1.6e-4, -0.5e-4), (0.3e-4, -1.2e-4, 1.4e-4), (-1.5e-4, 0.2e-4, 0.6e-4)]
     seen = [tuple(x + e for x, e in zip(centre, scan)) for centre, scan in zip(centres, scans)]
+    job.place(seen)
     for arbor in range(1, 5):
         x, y, _ = centres[arbor]
         for z, axes in [(front, 3), (back, 2)]:
@@ -145,6 +160,7 @@ def clock_train():
 
 if __name__ == "__main__":
     here = pathlib.Path(__file__).parent
-    for name, job in [("p1", p1()), ("four_bar", four_bar()), ("clock_train", clock_train())]:
+    plain = [("p1", p1()), ("four_bar", four_bar()), ("clock_train", clock_train())]
+    for name, job in plain + [("four_bar_centres", four_bar(1)), ("clock_train_centres", clock_train(1))]:
         (here / f"{name}.job").write_bytes(job.bytes())
         print(f"{name}.job: {len(job.rows) // 248} rows, {len(job.masses) // 80} bodies, {len(job.bytes())} bytes")

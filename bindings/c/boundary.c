@@ -94,10 +94,14 @@ static struct rules two_rules(double tolerance)
     return to;
 }
 
+/* So many more numbers of centres and of new centres than three a body are lent: 0 but in
+   lengths_of_centres(). */
 struct job {
     double numbers[27 * ROWS], masses[10 * BODIES], shift; /* shift 0 but in shifts() */
+    double centres[3 * BODIES + 1];
     struct rules rules;
     uint32_t words[8 * ROWS], rows, bodies;
+    int more_centres, more_new_centres;
 };
 
 static void set_row(double *row, uint32_t *words, uint32_t a, uint32_t b, uint32_t owner)
@@ -130,6 +134,7 @@ static struct job p1(double error, double tolerance)
 static struct job chain(void)
 {
     static const double errors[] = {0.1, -0.03, 0.07};
+    static const double places[] = {0.1, -0.7, 0.3, 1.1, -0.9, 0.6, 2.3, -1.3, 0.7};
     struct job job;
     memset(&job, 0, sizeof job);
     for (uint32_t i = 0; i < 3; i++) {
@@ -143,6 +148,7 @@ static struct job chain(void)
         mass[0] = 0.7;
         mass[1] = mass[5] = mass[9] = 1.1; /* the inertia's diagonal */
     }
+    memcpy(job.centres, places, sizeof places);
     job.rows = job.bodies = 3;
     job.rules = two_rules(1e-9);
     return job;
@@ -199,6 +205,7 @@ static size_t length(size_t need, int more)
 
 struct solved {
     double numbers[27 * ROWS], solution[ROWS], impulses[6 * BODIES], maxima[2];
+    double new_centres[3 * BODIES + 1];
     uint32_t rule_numbers[ROWS + 1], counts[2], refusal, control;
 };
 
@@ -215,11 +222,12 @@ static struct solved solve(const struct job *job, uint32_t mode, unsigned contro
     const unsigned before = _mm_getcsr();
     _mm_setcsr(control);
     to.refusal = kapitsa_solve_in(
-        to.numbers, 27 * n, job->words, 8 * n, job->masses, 10 * b, job->rules.words,
-        job->rules.words_len, job->rules.tolerances, job->rules.tolerances_len, n, b, LIMIT, mode,
-        job->shift, to.solution, n, to.impulses, 6 * b, to.rule_numbers,
-        length(n, job->rules.more_numbers), to.counts, to.maxima, doubles, doubles_len, words,
-        words_len);
+        to.numbers, 27 * n, job->words, 8 * n, job->masses, 10 * b, job->centres,
+        length(3 * b, job->more_centres), job->rules.words, job->rules.words_len,
+        job->rules.tolerances, job->rules.tolerances_len, n, b, LIMIT, mode, job->shift,
+        to.solution, n, to.impulses, 6 * b, to.new_centres, length(3 * b, job->more_new_centres),
+        to.rule_numbers, length(n, job->rules.more_numbers), to.counts, to.maxima, doubles,
+        doubles_len, words, words_len);
     to.control = _mm_getcsr();
     _mm_setcsr(before);
     return to;
@@ -242,10 +250,11 @@ static struct checked check(const struct job *job, const double *multipliers, un
     const unsigned before = _mm_getcsr();
     _mm_setcsr(control);
     to.refusal = kapitsa_check_in(
-        job->numbers, 27 * n, job->words, 8 * n, job->masses, 10 * b, job->rules.words,
-        job->rules.words_len, job->rules.tolerances, job->rules.tolerances_len, n, b, multipliers,
-        n, to.rule_numbers, length(n, job->rules.more_numbers), &to.verdict, to.gap, doubles,
-        doubles_len, words, words_len);
+        job->numbers, 27 * n, job->words, 8 * n, job->masses, 10 * b, job->centres,
+        length(3 * b, job->more_centres), job->rules.words, job->rules.words_len,
+        job->rules.tolerances, job->rules.tolerances_len, n, b, multipliers, n, to.rule_numbers,
+        length(n, job->rules.more_numbers), &to.verdict, to.gap, doubles, doubles_len, words,
+        words_len);
     to.control = _mm_getcsr();
     _mm_setcsr(before);
     return to;
@@ -267,16 +276,17 @@ static uint32_t raw_solve(const struct job *job, unsigned control, double *solut
 {
     double numbers[27 * ROWS], impulses[6 * BODIES], maxima[2], jacobians[12 * ROWS];
     double tolerances[ROWS], diagonal[ROWS], residual[ROWS], pending[ROWS], direction[ROWS];
-    double product[ROWS], body_impulses[6 * BODIES];
+    double product[ROWS], body_impulses[6 * BODIES], new_centres[3 * BODIES];
     uint32_t rule_numbers[ROWS], counts[2], links[2 * ROWS];
     const uint32_t n = job->rows, b = job->bodies;
     memcpy(numbers, job->numbers, sizeof numbers);
     const unsigned before = _mm_getcsr();
     _mm_setcsr(control);
     uint32_t refusal = kapitsa_solve_position(
-        numbers, 27 * n, job->words, 8 * n, job->masses, 10 * b, job->rules.words,
-        job->rules.words_len, job->rules.tolerances, job->rules.tolerances_len, n, b, LIMIT,
-        KAPITSA_DIAGONAL, 0.0, solution, n, impulses, 6 * b, rule_numbers, n, counts, 2, maxima, 2,
+        numbers, 27 * n, job->words, 8 * n, job->masses, 10 * b, job->centres, 3 * b,
+        job->rules.words, job->rules.words_len, job->rules.tolerances, job->rules.tolerances_len, n,
+        b, LIMIT, KAPITSA_DIAGONAL, 0.0, solution, n, impulses, 6 * b, new_centres, 3 * b,
+        rule_numbers, n, counts, 2, maxima, 2,
         jacobians, 12 * n, links, 2 * n, tolerances, n, diagonal, n, residual, n, pending, n,
         direction, n, product, n, body_impulses, 6 * b, NULL, 0, NULL, 0, NULL, 0);
     _mm_setcsr(before);
@@ -293,9 +303,9 @@ static uint32_t raw_check(const struct job *job, const double *multipliers, unsi
     const unsigned before = _mm_getcsr();
     _mm_setcsr(control);
     uint32_t refusal = kapitsa_closing_check(
-        job->numbers, 27 * n, job->words, 8 * n, job->masses, 10 * b, job->rules.words,
-        job->rules.words_len, job->rules.tolerances, job->rules.tolerances_len, n, b, multipliers,
-        n, rule_numbers, n, verdict, verdict_len, gap, gap_len,
+        job->numbers, 27 * n, job->words, 8 * n, job->masses, 10 * b, job->centres, 3 * b,
+        job->rules.words, job->rules.words_len, job->rules.tolerances, job->rules.tolerances_len, n,
+        b, multipliers, n, rule_numbers, n, verdict, verdict_len, gap, gap_len,
         jacobians, 12 * n, links, 2 * n, mass_sizes, 10 * b, multiplier_sizes, n, impulses,
         6 * b, values, n, sizes, n);
     _mm_setcsr(before);
@@ -406,8 +416,9 @@ static void arguments(void)
         _mm_setcsr(KAPITSA_CONTROL | (up ? UP : 0));
         tolerances[0] = less + little;
         uint32_t refusal = kapitsa_check_in(
-            sheet.numbers, 27, sheet.words, 8, sheet.masses, 20, sheet.rules.words, 6, tolerances,
-            2, 1, 2, multiplier, 1, &rule_number, 1, &verdict, gap, doubles, 47, words, 2);
+            sheet.numbers, 27, sheet.words, 8, sheet.masses, 20, sheet.centres, 6,
+            sheet.rules.words, 6, tolerances, 2, 1, 2, multiplier, 1, &rule_number, 1, &verdict,
+            gap, doubles, 47, words, 2);
         _mm_setcsr(before);
         expect(refusal == 0 && verdict == up && measures(gap, P1_GAP, 0),
                "a sum as argument", up ? "up" : "to nearest");
@@ -489,8 +500,8 @@ static void lengths_told(void)
 static int nothing_written(const struct job *job, const struct solved *found)
 {
     return !memcmp(found->numbers, job->numbers, sizeof found->numbers) && KEPT(found->solution)
-        && KEPT(found->impulses) && KEPT(found->rule_numbers) && KEPT(found->maxima)
-        && KEPT(found->counts);
+        && KEPT(found->impulses) && KEPT(found->new_centres) && KEPT(found->rule_numbers)
+        && KEPT(found->maxima) && KEPT(found->counts);
 }
 
 /* True where the solve is refused by 25, in any mode of the processor, and has written nothing. */
@@ -763,6 +774,133 @@ static void lengths_of_rules(void)
     refused_by(KAPITSA_REFUSED_LENGTH, "65 rules without rows", &job);
 }
 
+/* ---- centres */
+
+#define LARGEST 0x7fefffffffffffffu
+#define HALF_UNIT 0x7c90000000000000u /* 2^970, half a unit of the largest double */
+
+/* P1 with its bodies at places of these bits. */
+static struct job p1_at(const uint64_t places[6])
+{
+    struct job job = p1(-0.25, 0.001);
+    for (uint32_t k = 0; k < 6; k++)
+        job.centres[k] = from_bits(places[k]);
+    return job;
+}
+
+/* True where a solve leaves these places, and nothing behind them. */
+static int ends_at(const struct solved *found, const uint64_t places[6])
+{
+    for (uint32_t k = 0; k < 6; k++)
+        if (bits_of(found->new_centres[k]) != places[k])
+            return 0;
+    return found->refusal == 0
+        && all(PATTERN, found->new_centres + 6, sizeof found->new_centres - 6 * sizeof(double));
+}
+
+/* P1 moves its bodies by 1/8, the one along x, the other back. */
+static void new_centres(void)
+{
+    static const struct {
+        const char *what;
+        uint64_t from[6], to[6];
+    } moves[] = {
+        {"from the origin", {0}, {0x3fc0000000000000u, 0, 0, 0xbfc0000000000000u, 0, 0}},
+        {"from -0.0", {MINUS, MINUS, MINUS, MINUS, 0, MINUS},
+         {0x3fc0000000000000u, 0, 0, 0xbfc0000000000000u, 0, 0}},
+        {"to +0.0",
+         {0xbfc0000000000000u, 0x3ff0000000000000u, MINUS, 0x3fc0000000000000u, SMALLEST, LARGEST},
+         {0, 0x3ff0000000000000u, 0, 0, SMALLEST, LARGEST}},
+        /* 2^50 has units of 1/4: its half is rounded away, and added to the next one */
+        {"by half a unit", {0x4310000000000000u, 0, 0, 0x4310000000000001u, 0, 0},
+         {0x4310000000000000u, 0, 0, 0x4310000000000000u, 0, 0}},
+        {"at the largest", {LARGEST, 0, 0, MINUS | LARGEST, 0, 0},
+         {LARGEST, 0, 0, MINUS | LARGEST, 0, 0}},
+    };
+    for (size_t i = 0; i < sizeof moves / sizeof moves[0]; i++) {
+        struct job job = p1_at(moves[i].from);
+        for (uint32_t mode = 0; mode < 3; mode++) {
+            const struct solved found = solve(&job, mode, KAPITSA_CONTROL, exactly);
+            expect(ends_at(&found, moves[i].to), moves[i].what, "new centres");
+            alike(moves[i].what, &job, mode);
+        }
+        job.rules = two_rules(1.0);
+        struct solved found = solve(&job, 0, KAPITSA_CONTROL, exactly);
+        expect(found.counts[0] == 0 && ends_at(&found, moves[i].from), moves[i].what, "count 0");
+        job.rows = 0;
+        found = solve(&job, 0, KAPITSA_CONTROL, exactly);
+        expect(ends_at(&found, moves[i].from), moves[i].what, "no rows");
+    }
+    /* a body in no row keeps its bits */
+    struct job job = chain();
+    job.rows = 1;
+    job.centres[6] = from_bits(MINUS);
+    const struct solved found = solve(&job, 0, KAPITSA_CONTROL, exactly);
+    expect(found.refusal == 0 && bits_of(found.new_centres[6]) == MINUS
+           && bits_of(found.new_centres[7]) == bits_of(job.centres[7])
+           && bits_of(found.new_centres[0]) != bits_of(job.centres[0]), "a body in no row",
+           "chain");
+}
+
+/* Body 0 lies at the largest double and moves by this: 17 where it leaves the doubles, before
+   anything is written. */
+static void beyond_the_doubles(uint64_t error, uint32_t refusal)
+{
+    static const uint64_t places[6] = {LARGEST, 0, 0, 0, 0, 0};
+    struct job job = p1_at(places);
+    job.masses[0] = job.masses[10] = from_bits(0x7bf0000000000000u); /* 2^960 */
+    job.numbers[15] = from_bits(error);
+    for (size_t i = 0; i < CONTROLS; i++)
+        for (uint32_t mode = 0; mode < 3; mode++) {
+            const size_t d = kapitsa_solve_doubles(1, 2, mode), w = kapitsa_solve_words(1, 2, mode);
+            const struct solved found = solve(&job, mode, controls[i].word, exactly);
+            expect(found.refusal == refusal && work_clear(d, w)
+                   && (refusal ? nothing_written(&job, &found)
+                               : bits_of(found.new_centres[0]) == LARGEST), "17 by a new centre",
+                   controls[i].name);
+        }
+}
+
+static void odd_centres(void)
+{
+    static const uint64_t odd[] = {INFINITE, MINUS | INFINITE, 0x7ff8000000000000u,
+                                   0x7ff0000000000001u, 0xfff8000000000007u};
+    for (uint32_t k = 0; k < 6; k++)
+        for (size_t i = 0; i < sizeof odd / sizeof odd[0]; i++) {
+            struct job job = p1(-0.25, 0.001);
+            job.centres[k] = from_bits(odd[i]);
+            refused_by(KAPITSA_REFUSED_MASS, "a centre that is not finite", &job);
+            job.rows = 0;
+            refused_by(KAPITSA_REFUSED_MASS, "a centre that is not finite, no rows", &job);
+        }
+    struct job job = chain();
+    job.centres[8] = from_bits(INFINITE);
+    job.words[2] = 7; /* body_a: 7 */
+    refused_by(KAPITSA_REFUSED_MASS, "6 before 7", &job);
+    add_rule(&job.rules, KAPITSA_LINEAR, 0, 0, 1e-9);
+    refused_by(KAPITSA_REFUSED_RULES_OF_ROW, "28 before 6", &job);
+    beyond_the_doubles(MINUS | (HALF_UNIT + 0x0010000000000000u), KAPITSA_REFUSED_RESULT);
+    beyond_the_doubles(MINUS | (HALF_UNIT + 0x000fffffffffffffu), KAPITSA_ACCEPTED);
+}
+
+/* Three numbers a body, no more and no fewer, of what is lent and of what is written. */
+static void lengths_of_centres(void)
+{
+    static const int more[] = {-1, 1, -3, NONE};
+    for (size_t i = 0; i < sizeof more / sizeof more[0]; i++) {
+        struct job job = chain();
+        job.more_centres = more[i];
+        refused_by(KAPITSA_REFUSED_LENGTH, "centres of another length", &job);
+        job.more_centres = 0;
+        job.more_new_centres = more[i];
+        for (uint32_t mode = 0; mode < 3; mode++) {
+            const struct solved found = solve(&job, mode, KAPITSA_CONTROL, exactly);
+            expect(found.refusal == KAPITSA_REFUSED_LENGTH && nothing_written(&job, &found)
+                   && work_clear(0, 0), "new centres of another length", "solve");
+        }
+    }
+}
+
 /* ---- work memory */
 
 static void sizes(void)
@@ -837,9 +975,10 @@ static int solve_of_nothing(uint32_t rows, uint32_t bodies, uint32_t mode, doubl
     double maxima[2];
     memset(counts, PATTERN, sizeof counts);
     memset(maxima, PATTERN, sizeof maxima);
-    const uint32_t found = kapitsa_solve_in(NULL, 0, NULL, 0, NULL, 0, NULL, 0, NULL, 0, rows,
-                                            bodies, 0, mode, 0.0, NULL, 0, NULL, 0, NULL, 0, counts,
-                                            maxima, work, work_len, more, more_len);
+    const uint32_t found = kapitsa_solve_in(NULL, 0, NULL, 0, NULL, 0, NULL, 0, NULL, 0, NULL, 0,
+                                            rows, bodies, 0, mode, 0.0, NULL, 0, NULL, 0, NULL, 0,
+                                            NULL, 0, counts, maxima, work, work_len, more,
+                                            more_len);
     return found == refusal
         && (found ? KEPT(counts) && KEPT(maxima)
                   : counts[0] == 0 && counts[1] == 1 && all(0, maxima, sizeof maxima));
@@ -851,9 +990,9 @@ static int check_of_nothing(uint32_t rows, uint32_t bodies, double *work, size_t
     uint32_t verdict = 9;
     double gap[2];
     memset(gap, PATTERN, sizeof gap);
-    const uint32_t found = kapitsa_check_in(NULL, 0, NULL, 0, NULL, 0, NULL, 0, NULL, 0, rows,
-                                            bodies, NULL, 0, NULL, 0, &verdict, gap, work, work_len,
-                                            more, more_len);
+    const uint32_t found = kapitsa_check_in(NULL, 0, NULL, 0, NULL, 0, NULL, 0, NULL, 0, NULL, 0,
+                                            rows, bodies, NULL, 0, NULL, 0, &verdict, gap, work,
+                                            work_len, more, more_len);
     return found == refusal && verdict == (found ? 9 : KAPITSA_CLOSED)
         && (found ? KEPT(gap) : measures(gap, 0, 0));
 }
@@ -891,6 +1030,7 @@ static void at_the_limits(void)
 {
     enum { N = KAPITSA_MAX_ROWS, B = KAPITSA_MAX_BODIES, R = KAPITSA_MAX_RULES };
     static double numbers[27 * N], masses[10 * B], solution[N], impulses[6 * B], maxima[2];
+    static double centres[3 * B], new_places[3 * B];
     static uint32_t row_words[8 * N], rule_numbers[N], counts[2];
     struct rules rules = no_rules();
     for (uint32_t i = 0; i < N; i++) {
@@ -901,6 +1041,8 @@ static void at_the_limits(void)
         add_rule(&rules, KAPITSA_LINEAR, 4 * i, 4 * i + 3, 1e-9);
     for (uint32_t j = 0; j < B; j++)
         masses[10 * j] = 0.5;
+    for (uint32_t k = 0; k < 3 * B; k++)
+        centres[k] = 0.125 * k;
     numbers[15] = 0.01; /* the first row's error */
     for (uint32_t mode = 0; mode < 3; mode++) {
         const size_t d = kapitsa_solve_doubles(N, B, mode), w = kapitsa_solve_words(N, B, mode);
@@ -908,14 +1050,18 @@ static void at_the_limits(void)
         for (uint32_t i = 0; i < N; i++)
             rule_numbers[i] = 999;
         const uint32_t refusal = kapitsa_solve_in(
-            numbers, 27 * N, row_words, 8 * N, masses, 10 * B, rules.words, 3 * R, rules.tolerances,
-            R, N, B, 1, mode, 0.0, solution, N, impulses, 6 * B, rule_numbers, N, counts, maxima,
-            doubles, d, words, w);
+            numbers, 27 * N, row_words, 8 * N, masses, 10 * B, centres, 3 * B, rules.words, 3 * R,
+            rules.tolerances, R, N, B, 1, mode, 0.0, solution, N, impulses, 6 * B, new_places,
+            3 * B, rule_numbers, N, counts, maxima, doubles, d, words, w);
         expect(refusal == (mode == 1 ? KAPITSA_REFUSED_PIVOT : KAPITSA_ACCEPTED)
                && work_clear(d, w), "512 rows", "solve");
         for (uint32_t i = 0; i < N; i++)
             expect(rule_numbers[i] == (mode == 1 ? 999 : i % 256 / 4),
                    "the rule of each of 512 rows", "solve");
+        for (uint32_t k = 0; k < 3 * B && mode != 1; k++)
+            expect((bits_of(new_places[k]) == bits_of(centres[k]))
+                       == (bits_of(impulses[6 * (k / 3) + k % 3]) == 0),
+                   "which of 256 bodies move", "solve");
     }
     const size_t d = kapitsa_check_doubles(N, B), w = kapitsa_check_words(N, B);
     uint32_t verdict = 9;
@@ -923,8 +1069,9 @@ static void at_the_limits(void)
     fill_work();
     memset(rule_numbers, PATTERN, sizeof rule_numbers);
     const uint32_t refusal = kapitsa_check_in(
-        numbers, 27 * N, row_words, 8 * N, masses, 10 * B, rules.words, 3 * R, rules.tolerances, R,
-        N, B, solution, N, rule_numbers, N, &verdict, gap, doubles, d, words, w);
+        numbers, 27 * N, row_words, 8 * N, masses, 10 * B, centres, 3 * B, rules.words, 3 * R,
+        rules.tolerances, R, N, B, solution, N, rule_numbers, N, &verdict, gap, doubles, d, words,
+        w);
     for (uint32_t i = 0; i < N; i++)
         expect(rule_numbers[i] == i % 256 / 4, "the rule of each of 512 rows", "check");
     expect(refusal == 0 && verdict == KAPITSA_OPEN && bits_of(gap[0]) > bits_of(1e-9)
@@ -952,6 +1099,9 @@ int main(void)
     odd_rules();
     rules_of_rows();
     lengths_of_rules();
+    new_centres();
+    odd_centres();
+    lengths_of_centres();
     sizes();
     work_memory();
     empty_jobs();

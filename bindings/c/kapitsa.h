@@ -2,14 +2,16 @@
    of `rt staticlib kapitsa_c`, an archive for x86-64.
 
    A slice is a pointer, then its length; where the length is 0 the pointer may be NULL. For n rows
-   and b bodies numbers has 27 n doubles, words 8 n, masses 10 b; solution, multipliers and
-   rule_numbers have n, impulses 6 b. Row i has its doubles from numbers[27 * i]: linear_a (3), angular_a (3),
-   position_angular_a (3), linear_b (3), angular_b (3), error, target_velocity, force_bias,
-   compliance, damping, min_multiplier, max_multiplier, min_impulse, max_impulse,
-   accumulated_multiplier, accumulated_impulse, cached_velocity_effective_mass; its words from
-   words[8 * i]: key, dimension (0 linear, 1 angular), body_a, body_b, force_driven,
-   position_enabled, owner, spare (0). Body j has its inverse mass and its inverse inertia by
-   columns from masses[10 * j].
+   and b bodies numbers has 27 n doubles, words 8 n, masses 10 b, centres and new_centres 3 b each;
+   solution, multipliers and rule_numbers have n, impulses 6 b. Row i has its doubles from
+   numbers[27 * i]: linear_a (3), angular_a (3), position_angular_a (3), linear_b (3), angular_b
+   (3), error, target_velocity, force_bias, compliance, damping, min_multiplier, max_multiplier,
+   min_impulse, max_impulse, accumulated_multiplier, accumulated_impulse,
+   cached_velocity_effective_mass; its words from words[8 * i]: key, dimension (0 linear, 1
+   angular), body_a, body_b, force_driven, position_enabled, owner, spare (0). Body j has its
+   inverse mass and its inverse inertia by columns from masses[10 * j], and its centre from
+   centres[3 * j]: where no centre is known, lend zeros, and what new_centres gets is by how much
+   each body moves.
 
    Tolerances are given by rules, at most KAPITSA_MAX_RULES: for r rules rule_words has 3 r,
    rule_tolerances r. Rule i has dimension, first key and last key from rule_words[3 * i] and its
@@ -86,7 +88,7 @@ enum kapitsa_refusal {
     KAPITSA_REFUSED_LENGTH = 3,     /* a count, the mode or a slice's length does not fit; 65 rules */
     KAPITSA_REFUSED_WORD = 4,       /* a row has a key, dimension, flag or spare that there is not */
     KAPITSA_REFUSED_OPENING = 5,    /* rows and limit 0, or a row off, soft, driven or bounded */
-    KAPITSA_REFUSED_MASS = 6,       /* a mass number is not finite */
+    KAPITSA_REFUSED_MASS = 6,       /* a mass number, or one of a centre, is not finite */
     KAPITSA_REFUSED_ROW = 7,        /* a row is not valid, or names a body that there is not */
     KAPITSA_REFUSED_DIAGONAL = 8,   /* a row's diagonal overflows */
     KAPITSA_REFUSED_IMMOVABLE = 9,  /* a row's diagonal is at most MIN, its error above tolerance */
@@ -97,7 +99,7 @@ enum kapitsa_refusal {
     KAPITSA_REFUSED_RESIDUAL = 14,  /* residual times preconditioned residual is at most MIN */
     KAPITSA_REFUSED_DIRECTION = 15, /* direction times product is at most MIN */
     KAPITSA_REFUSED_STEP = 16,      /* a number in the steps is not finite */
-    KAPITSA_REFUSED_RESULT = 17,    /* a final impulse or multiplier is not finite */
+    KAPITSA_REFUSED_RESULT = 17,    /* a final impulse, multiplier or centre is not finite */
     KAPITSA_REFUSED_RANGE = 18,     /* check: a number neither 0 nor from 2^-150 to 2^150 in size */
     KAPITSA_REFUSED_NUMBER = 21,    /* inverse: a number is not finite */
     KAPITSA_REFUSED_SYMMETRY = 22,  /* inverse: two numbers are farther apart than 2^-47 allows */
@@ -157,28 +159,34 @@ enum kapitsa_refusal {
 /* ---- the raw functions; at their end a pointer and a length for each work slice, in order */
 
 /* Refusals 3, 25, 4, 27, 28 and 5 to 17. counts (2) gets count and flag, maxima (2) the linear and
-   the angular residual maximum; with them accumulated multipliers (in numbers), solution, impulses
-   and rule_numbers are written. 27 judges rules that no row is under too, and a job without rows.
-   In mode 1 each pivot starts from diagonal * (1 + shift): 0 is the plain factor, a
-   little more lets rows pass that say almost the same and that 13 turns back. Modes 0 and 2 use no
-   shift, but it must be from 0 to 1 there too, and in a job without rows. */
+   the angular residual maximum; with them accumulated multipliers (in numbers), solution,
+   impulses, new_centres and rule_numbers are written. The new centre of a body is its centre plus
+   inverse mass times linear impulse, part by part, each rounded; a body whose six impulses are all
+   zero keeps its centre's bits, and with count 0 every body does. 27 judges rules that no row is
+   under too, and a job without rows. In mode 1 each pivot starts from diagonal * (1 + shift): 0 is
+   the plain factor, a little more lets rows pass that say almost the same and that 13 turns back.
+   Modes 0 and 2 use no shift, but it must be from 0 to 1 there too, and in a job without rows. */
 KAPITSA_MUST_USE uint32_t kapitsa_solve_position(
     double *numbers, size_t numbers_len, const uint32_t *words, size_t words_len,
-    const double *masses, size_t masses_len, const uint32_t *rule_words, size_t rule_words_len,
+    const double *masses, size_t masses_len, const double *centres, size_t centres_len,
+    const uint32_t *rule_words, size_t rule_words_len,
     const double *rule_tolerances, size_t rule_tolerances_len,
     uint32_t rows, uint32_t bodies, uint32_t limit, uint32_t mode, double shift,
     double *solution, size_t solution_len, double *impulses, size_t impulses_len,
+    double *new_centres, size_t new_centres_len,
     uint32_t *rule_numbers, size_t rule_numbers_len,
     uint32_t *counts, size_t counts_len, double *maxima, size_t maxima_len
     KAPITSA_SOLVE_WORK(KAPITSA_TAKES_DOUBLES, KAPITSA_TAKES_WORDS));
 
 /* Refusals 3, 4, 27, 28, 6, 7 and 18. multipliers are the gains since the errors were measured,
-   such as a solve's solution. verdict (1) gets KAPITSA_OPEN or KAPITSA_CLOSED, by each row's own
-   tolerance, gap (2) the measured gap of the linear rows and of the angular ones: no row's exact
-   gap is larger, and 0 stands where there is no such row. */
+   such as a solve's solution. centres are judged by 6, and nothing else reads them. verdict (1)
+   gets KAPITSA_OPEN or KAPITSA_CLOSED, by each row's own tolerance, gap (2) the measured gap of
+   the linear rows and of the angular ones: no row's exact gap is larger, and 0 stands where there
+   is no such row. */
 KAPITSA_MUST_USE uint32_t kapitsa_closing_check(
     const double *numbers, size_t numbers_len, const uint32_t *words, size_t words_len,
-    const double *masses, size_t masses_len, const uint32_t *rule_words, size_t rule_words_len,
+    const double *masses, size_t masses_len, const double *centres, size_t centres_len,
+    const uint32_t *rule_words, size_t rule_words_len,
     const double *rule_tolerances, size_t rule_tolerances_len,
     uint32_t rows, uint32_t bodies, const double *multipliers, size_t multipliers_len,
     uint32_t *rule_numbers, size_t rule_numbers_len,
@@ -263,10 +271,12 @@ static inline uint32_t *kapitsa_carve_words(uint32_t **rest, size_t length)
 
 KAPITSA_APART uint32_t kapitsa_solve_in(
     double *numbers, size_t numbers_len, const uint32_t *words, size_t words_len,
-    const double *masses, size_t masses_len, const uint32_t *rule_words, size_t rule_words_len,
+    const double *masses, size_t masses_len, const double *centres, size_t centres_len,
+    const uint32_t *rule_words, size_t rule_words_len,
     const double *rule_tolerances, size_t rule_tolerances_len,
     uint32_t rows, uint32_t bodies, uint32_t limit, uint32_t mode, double shift,
     double *solution, size_t solution_len, double *impulses, size_t impulses_len,
+    double *new_centres, size_t new_centres_len,
     uint32_t *rule_numbers, size_t rule_numbers_len, uint32_t counts[2], double maxima[2],
     double *work_doubles, size_t work_doubles_len, uint32_t *work_words, size_t work_words_len)
 {
@@ -279,10 +289,10 @@ KAPITSA_APART uint32_t kapitsa_solve_in(
     unsigned control = _mm_getcsr();
     _mm_setcsr(KAPITSA_CONTROL);
     uint32_t refusal = kapitsa_solve_position(
-        numbers, numbers_len, words, words_len, masses, masses_len,
+        numbers, numbers_len, words, words_len, masses, masses_len, centres, centres_len,
         rule_words, rule_words_len, rule_tolerances, rule_tolerances_len,
         rows, bodies, limit, mode, shift, solution, solution_len, impulses, impulses_len,
-        rule_numbers, rule_numbers_len, counts, 2, maxima, 2
+        new_centres, new_centres_len, rule_numbers, rule_numbers_len, counts, 2, maxima, 2
         KAPITSA_SOLVE_WORK(KAPITSA_LEND, KAPITSA_LEND));
     _mm_setcsr(control);
     return refusal;
@@ -291,7 +301,8 @@ KAPITSA_APART uint32_t kapitsa_solve_in(
 /* Read *verdict, gap and rule_numbers only where 0 was returned: a refusal leaves there what was there. */
 KAPITSA_APART uint32_t kapitsa_check_in(
     const double *numbers, size_t numbers_len, const uint32_t *words, size_t words_len,
-    const double *masses, size_t masses_len, const uint32_t *rule_words, size_t rule_words_len,
+    const double *masses, size_t masses_len, const double *centres, size_t centres_len,
+    const uint32_t *rule_words, size_t rule_words_len,
     const double *rule_tolerances, size_t rule_tolerances_len,
     uint32_t rows, uint32_t bodies, const double *multipliers, size_t multipliers_len,
     uint32_t *rule_numbers, size_t rule_numbers_len, uint32_t *verdict, double gap[2],
@@ -306,7 +317,7 @@ KAPITSA_APART uint32_t kapitsa_check_in(
     unsigned control = _mm_getcsr();
     _mm_setcsr(KAPITSA_CONTROL);
     uint32_t refusal = kapitsa_closing_check(
-        numbers, numbers_len, words, words_len, masses, masses_len,
+        numbers, numbers_len, words, words_len, masses, masses_len, centres, centres_len,
         rule_words, rule_words_len, rule_tolerances, rule_tolerances_len,
         rows, bodies, multipliers, multipliers_len, rule_numbers, rule_numbers_len,
         verdict, 1, gap, 2

@@ -28,7 +28,8 @@ static const double LINK[9] = {2.0, 1.0, 0.0, 1.0, 2.0, 0.0, 0.0, 0.0, 4.0};
 static int joined(void)
 {
     double numbers[27] = {0}, masses[20], solution[1], impulses[12], maxima[2], gap[2];
-    double work_doubles[64];
+    const double centres[6] = {0}; /* nobody asks where the links lie */
+    double new_centres[6], work_doubles[64];
     uint32_t words[8] = {0, 0, 0, 1, 0, 1, 0, 0}, rule_numbers[1], counts[2], verdict;
     uint32_t work_words[8];
     const uint32_t rule_words[] = KAPITSA_TWO_RULES;
@@ -46,12 +47,13 @@ static int joined(void)
     numbers[15] = -0.25; /* error */
     numbers[20] = -from_bits(0x7ff0000000000000u);
     numbers[21] = from_bits(0x7ff0000000000000u);
-    if (kapitsa_solve_in(numbers, 27, words, 8, masses, 20, rule_words, 6, rule_tolerances, 2, 1, 2,
-                         4, KAPITSA_DIAGONAL, 0.0, solution, 1, impulses, 12, rule_numbers, 1,
-                         counts, maxima, work_doubles, 64, work_words, 8) != 0
-        || kapitsa_check_in(numbers, 27, words, 8, masses, 20, rule_words, 6, rule_tolerances, 2, 1,
-                            2, solution, 1, rule_numbers, 1, &verdict, gap, work_doubles, 64,
-                            work_words, 8) != 0)
+    if (kapitsa_solve_in(numbers, 27, words, 8, masses, 20, centres, 6, rule_words, 6,
+                         rule_tolerances, 2, 1, 2, 4, KAPITSA_DIAGONAL, 0.0, solution, 1, impulses,
+                         12, new_centres, 6, rule_numbers, 1, counts, maxima, work_doubles, 64,
+                         work_words, 8) != 0
+        || kapitsa_check_in(numbers, 27, words, 8, masses, 20, centres, 6, rule_words, 6,
+                            rule_tolerances, 2, 1, 2, solution, 1, rule_numbers, 1, &verdict, gap,
+                            work_doubles, 64, work_words, 8) != 0)
         return 0;
     printf("multiplier %g, %s\n", solution[0], verdict == KAPITSA_CLOSED ? "closed" : "open");
     return counts[0] == 1 && counts[1] == 1 && verdict == KAPITSA_CLOSED;

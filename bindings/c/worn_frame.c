@@ -13,7 +13,7 @@ static const uint32_t RULES[] = KAPITSA_TWO_RULES;
 static const double TOLERANCES[] = {1e-9, 1e-9}; /* a nanometre */
 
 struct frame {
-    double numbers[27 * ROWS], masses[10 * BODIES];
+    double numbers[27 * ROWS], masses[10 * BODIES], centres[3 * BODIES];
     uint32_t words[8 * ROWS];
 };
 
@@ -35,6 +35,8 @@ static void make(struct frame *frame)
     }
     for (uint32_t j = 1; j < BODIES; j++) /* body 0 keeps inverse mass 0 */
         frame->masses[10 * j] = 0.5 + 0.25 * ((j - 1) % 3);
+    for (uint32_t j = 0; j < BODIES; j++) /* a part every ten centimetres */
+        frame->centres[3 * j] = 0.1 * j;
 }
 
 /* Solves the frame and checks what comes out; true where all is as it should be. */
@@ -45,19 +47,20 @@ static int try_it(uint32_t mode, double shift, uint32_t refused, uint32_t steps)
     const size_t d = sizeof work_doubles / sizeof work_doubles[0];
     const size_t w = sizeof work_words / sizeof work_words[0];
     struct frame frame;
-    double solution[ROWS], impulses[6 * BODIES], maxima[2], gap[2];
+    double solution[ROWS], impulses[6 * BODIES], new_centres[3 * BODIES], maxima[2], gap[2];
     uint32_t rule_numbers[ROWS], counts[2], verdict;
     make(&frame);
     printf("mode %u, shift %g: ", (unsigned)mode, shift);
     uint32_t refusal = kapitsa_solve_in(
-        frame.numbers, 27 * ROWS, frame.words, 8 * ROWS, frame.masses, 10 * BODIES, RULES, 6,
-        TOLERANCES, 2, ROWS, BODIES, LIMIT, mode, shift, solution, ROWS, impulses, 6 * BODIES,
-        rule_numbers, ROWS, counts, maxima, work_doubles, d, work_words, w);
+        frame.numbers, 27 * ROWS, frame.words, 8 * ROWS, frame.masses, 10 * BODIES, frame.centres,
+        3 * BODIES, RULES, 6, TOLERANCES, 2, ROWS, BODIES, LIMIT, mode, shift, solution, ROWS,
+        impulses, 6 * BODIES, new_centres, 3 * BODIES, rule_numbers, ROWS, counts, maxima,
+        work_doubles, d, work_words, w);
     if (refusal == 0)
         refusal = kapitsa_check_in(
-            frame.numbers, 27 * ROWS, frame.words, 8 * ROWS, frame.masses, 10 * BODIES, RULES, 6,
-            TOLERANCES, 2, ROWS, BODIES, solution, ROWS, rule_numbers, ROWS, &verdict, gap,
-            work_doubles, d, work_words, w);
+            frame.numbers, 27 * ROWS, frame.words, 8 * ROWS, frame.masses, 10 * BODIES,
+            frame.centres, 3 * BODIES, RULES, 6, TOLERANCES, 2, ROWS, BODIES, solution, ROWS,
+            rule_numbers, ROWS, &verdict, gap, work_doubles, d, work_words, w);
     if (refusal != 0) {
         printf("refused by %u\n", (unsigned)refusal);
         return refusal == refused;

@@ -1,5 +1,5 @@
 //! The boundary between the port and Rust, as bindings/c/boundary.c has it for C: floating-point
-//! modes, 18, rules, lengths, empty jobs and the limits. The last line is `N passed, 0 failed`.
+//! modes, 18, rules, centres, lengths, empty jobs and the limits. The last line is `N passed, 0 failed`.
 //! Rust itself assumes the default mode: in another one nothing is computed here.
 
 #[allow(dead_code)] // the limits of pairs
@@ -30,6 +30,7 @@ struct Job {
     numbers: Vec<f64>,
     words: Vec<u32>,
     masses: Vec<f64>,
+    centres: Vec<f64>,
     rules: Rules,
     shift: f64,
 }
@@ -50,6 +51,7 @@ impl Job {
 
     fn mass(&mut self, inverse: f64, inertia: f64) {
         self.masses.extend([inverse, inertia, 0.0, 0.0, 0.0, inertia, 0.0, 0.0, 0.0, inertia]);
+        self.centres.extend([0.1, -0.7, 0.3]);
     }
 }
 
@@ -110,26 +112,35 @@ fn within<T>(mode: u32, call: impl FnOnce() -> T) -> (T, u32) {
 }
 
 /// Everything that a solve and the check of its solution leave, doubles as bits; the rule numbers
-/// of both, `KEPT` where nothing was written.
+/// of both, and the new centres, `KEPT` where nothing was written.
 #[derive(Debug, PartialEq)]
 struct Outcome {
     solved: Result<(bool, u32, [u64; 2]), Refusal>,
     checked: Result<(Verdict, [u64; 2]), Refusal>,
     numbers: Vec<u64>,
+    new_centres: Vec<u64>,
     rules: [Vec<u32>; 2],
 }
 
 const KEPT: u32 = 0x5eed;
+const KEPT_BITS: u64 = 0x5eed_5eed_5eed_5eed;
 
 fn outcome(job: &Job, mode: Mode, work: &mut Work) -> Outcome {
     let mut numbers = job.numbers.clone();
     let rows = job.words.len() / 8;
     let mut solution = vec![0.0; rows];
-    let mut impulses = vec![0.0; 6 * (job.masses.len() / 10)];
+    let bodies = job.masses.len() / 10;
+    let mut impulses = vec![0.0; 6 * bodies];
+    let mut new_centres = vec![f64::from_bits(KEPT_BITS); 3 * bodies];
     let mut rules = [vec![KEPT; rows], vec![KEPT; rows]];
-    let mut tables = Tables { numbers: &mut numbers, words: &job.words, masses: &job.masses };
-    let to =
-        Delivered { solution: &mut solution, impulses: &mut impulses, rule_numbers: &mut rules[0] };
+    let Job { words, masses, centres, .. } = job;
+    let mut tables = Tables { numbers: &mut numbers, words, masses, centres };
+    let to = Delivered {
+        solution: &mut solution,
+        impulses: &mut impulses,
+        new_centres: &mut new_centres,
+        rule_numbers: &mut rules[0],
+    };
     let solved = solve_position(&mut tables, &job.rules, 50, mode, job.shift, to, work);
     let checked = closing_check(&tables, &job.rules, &solution, &mut rules[1], work);
     let lists = numbers.iter().chain(&solution).chain(&impulses);
@@ -143,6 +154,7 @@ fn outcome(job: &Job, mode: Mode, work: &mut Work) -> Outcome {
             (found.verdict, gap.map(f64::to_bits))
         }),
         numbers: lists.map(|number| number.to_bits()).collect(),
+        new_centres: new_centres.iter().map(|number| number.to_bits()).collect(),
         rules,
     }
 }
@@ -327,25 +339,90 @@ fn refused_rules(tests: &mut Tests, work: &mut Work) {
     }
 }
 
+/// P1, which moves its bodies by 1/8 along x, the one there and the other back.
+fn centres(tests: &mut Tests) {
+    let mut work = Work::default();
+    let at = |centres: [f64; 6]| Job { centres: centres.to_vec(), ..p1(-0.25, 0.001) };
+    let bits = |centres: [f64; 6]| centres.map(f64::to_bits).to_vec();
+    let (far, unit) = (f64::MAX, 0.25); // 2^50 has units of 1/4
+    let large = 1_125_899_906_842_624.0; // 2^50
+    for (from, to) in [
+        ([0.0; 6], [0.125, 0.0, 0.0, -0.125, 0.0, 0.0]),
+        ([-0.0; 6], [0.125, 0.0, 0.0, -0.125, 0.0, 0.0]),
+        ([-0.125, 1.0, -0.0, 0.125, 0.5, 2.0], [0.0, 1.0, 0.0, 0.0, 0.5, 2.0]),
+        ([large, 0.0, 0.0, large + unit, 0.0, 0.0], [large, 0.0, 0.0, large, 0.0, 0.0]),
+        ([far, -far, far, -far, far, 0.0], [far, -far, far, -far, far, 0.0]),
+    ] {
+        for mode in ALL {
+            let found = outcome(&at(from), mode, &mut work);
+            tests.expect(found.new_centres == bits(to), "where P1's bodies end up");
+            tests.expect(found.checked == Ok((Verdict::Closed, P1_GAP)), "the same check");
+            for (name, control) in MODES {
+                let (again, _) = within(control, || outcome(&at(from), mode, &mut work));
+                tests.expect(again == found, &format!("{mode:?}, {name}: the same centres"));
+            }
+        }
+        let met = Job { rules: Rules::two(1.0, 1.0), ..at(from) };
+        let found = outcome(&met, Mode::Diagonal, &mut work);
+        tests.expect(found.new_centres == bits(from), "centres at count 0");
+        let empty = Job { numbers: vec![], words: vec![], ..met };
+        let found = outcome(&empty, Mode::Diagonal, &mut work);
+        tests.expect(found.new_centres == bits(from), "centres without rows");
+    }
+    let refused = |tests: &mut Tests, job: &Job, refusal, what: &str| {
+        for (mode, (name, control)) in ALL.iter().flat_map(|mode| MODES.map(|two| (mode, two))) {
+            let mut work = Work::default();
+            let (found, _) = within(control, || outcome(job, *mode, &mut work));
+            tests.expect(found.solved == Err(refusal), &format!("{what}, {name}"));
+            let kept = found.new_centres.iter().all(|bits| *bits == KEPT_BITS);
+            tests.expect(kept, "new centres stay after a refusal");
+            let mut numbers = found.numbers.iter().zip(&job.numbers);
+            tests.expect(numbers.all(|(l, r)| *l == r.to_bits()), "multipliers stay");
+        }
+    };
+    for (place, odd) in [f64::NAN, f64::INFINITY, f64::NEG_INFINITY].repeat(2).iter().enumerate() {
+        let mut job = at([0.5; 6]);
+        job.centres[place] = *odd;
+        refused(tests, &job, Refusal::Mass, "6 by a centre");
+        let found = outcome(&job, Mode::Diagonal, &mut work);
+        tests.expect(found.checked == Err(Refusal::Mass), "6 by a centre, the check");
+    }
+    let half = 2f64.powi(970); // half a unit of the largest double
+    let mut beyond = p1(-2.0 * half, 0.001);
+    (beyond.masses[0], beyond.masses[10]) = (2f64.powi(960), 2f64.powi(960));
+    beyond.centres = vec![f64::MAX, 0.0, 0.0, 0.0, 0.0, 0.0];
+    refused(tests, &beyond, Refusal::Result, "17 by a new centre");
+    beyond.numbers[15] = -(2.0 * half).next_down();
+    let found = outcome(&beyond, Mode::Diagonal, &mut work);
+    tests.expect(found.new_centres[0] == f64::MAX.to_bits(), "a unit less, and no 17");
+    for length in [0, 5, 7] {
+        let job = Job { centres: vec![0.0; length], ..at([0.0; 6]) };
+        refused(tests, &job, Refusal::Length, "3 by the length of centres");
+    }
+}
+
 type Tried = (Result<u32, Refusal>, Result<Checked, Refusal>);
 
 /// A solve in each mode, its count, and a check over zeros: numbers, words, masses, solution,
-/// impulses and rule numbers of these lengths.
+/// impulses, new centres and rule numbers of these lengths, and three centre numbers a mass.
 fn tried(
-    [numbers, words, masses, solution, impulses, rules]: [usize; 6],
+    [numbers, words, masses, solution, impulses, moved, rules]: [usize; 7],
     shift: f64,
 ) -> [Tried; 3] {
     let mut numbers = vec![0.0; numbers];
+    let centres = vec![0.0; 3 * (masses / 10)];
     let (words, masses) = (vec![0; words], vec![0.0; masses]);
     let (mut solution, mut impulses) = (vec![0.0; solution], vec![0.0; impulses]);
-    let mut rule_numbers = vec![0; rules];
-    let mut tables = Tables { numbers: &mut numbers, words: &words, masses: &masses };
+    let (mut new_centres, mut rule_numbers) = (vec![0.0; moved], vec![0; rules]);
+    let mut tables =
+        Tables { numbers: &mut numbers, words: &words, masses: &masses, centres: &centres };
     let rules = Rules::two(1.0, 1.0);
     let mut work = Work::default();
     ALL.map(|mode| {
         let to = Delivered {
             solution: &mut solution,
             impulses: &mut impulses,
+            new_centres: &mut new_centres,
             rule_numbers: &mut rule_numbers,
         };
         let solved = solve_position(&mut tables, &rules, 1, mode, shift, to, &mut work);
@@ -360,18 +437,18 @@ fn lengths(tests: &mut Tests) {
     let refused = (Err(Refusal::Length), Err(Refusal::Length));
     let fitting = (Err(Refusal::Opening), Err(Refusal::Row)); // zeros make no row
     for (lengths, wanted, what) in [
-        ([0, 0, 0, 0, 0, 0], accepted, "an empty job"),
-        ([0, 0, 10 * 256, 0, 6 * 256, 0], accepted, "256 bodies"),
-        ([0, 0, 10 * 257, 0, 6 * 257, 0], refused, "257 bodies"),
-        ([27 * 512, 8 * 512, 2560, 512, 1536, 512], fitting, "512 rows"),
-        ([27 * 513, 8 * 513, 2560, 513, 1536, 513], refused, "513 rows"),
-        ([26, 8, 20, 1, 12, 1], refused, "numbers too short"),
-        ([27, 9, 20, 1, 12, 1], refused, "words too long"),
-        ([27, 8, 21, 1, 12, 1], refused, "masses too long"),
-        ([27, 8, 20, 0, 12, 1], refused, "solution and multipliers too short"),
-        ([27, 8, 20, 1, 12, 0], refused, "rule numbers too short"),
-        ([27, 8, 20, 1, 12, 2], refused, "rule numbers too long"),
-        ([27, 8, 20, 1, 12, 1], fitting, "one row"),
+        ([0, 0, 0, 0, 0, 0, 0], accepted, "an empty job"),
+        ([0, 0, 10 * 256, 0, 6 * 256, 3 * 256, 0], accepted, "256 bodies"),
+        ([0, 0, 10 * 257, 0, 6 * 257, 3 * 257, 0], refused, "257 bodies"),
+        ([27 * 512, 8 * 512, 2560, 512, 1536, 768, 512], fitting, "512 rows"),
+        ([27 * 513, 8 * 513, 2560, 513, 1536, 768, 513], refused, "513 rows"),
+        ([26, 8, 20, 1, 12, 6, 1], refused, "numbers too short"),
+        ([27, 9, 20, 1, 12, 6, 1], refused, "words too long"),
+        ([27, 8, 21, 1, 12, 6, 1], refused, "masses too long"),
+        ([27, 8, 20, 0, 12, 6, 1], refused, "solution and multipliers too short"),
+        ([27, 8, 20, 1, 12, 6, 0], refused, "rule numbers too short"),
+        ([27, 8, 20, 1, 12, 6, 2], refused, "rule numbers too long"),
+        ([27, 8, 20, 1, 12, 6, 1], fitting, "one row"),
     ] {
         tests.expect(tried(lengths, 0.0) == [wanted; 3], what);
         // 25 is right after 3.
@@ -379,8 +456,12 @@ fn lengths(tests: &mut Tests) {
         tests.expect(tried(lengths, f64::NAN) == [(solved, wanted.1); 3], what);
     }
     for shift in [0.0, f64::NAN] {
-        let found = tried([27, 8, 20, 1, 11, 1], shift)[0].0;
+        let found = tried([27, 8, 20, 1, 11, 6, 1], shift)[0].0;
         tests.expect(found == Err(Refusal::Length), "impulses too short");
+        for moved in [0, 5, 7] {
+            let found = tried([27, 8, 20, 1, 12, moved, 1], shift)[0].0;
+            tests.expect(found == Err(Refusal::Length), "new centres of another length");
+        }
     }
 }
 
@@ -389,6 +470,7 @@ fn main() {
     floating_point_modes(&mut tests);
     shifts(&mut tests);
     rules(&mut tests);
+    centres(&mut tests);
     lengths(&mut tests);
     let refusals =
         [Refusal::Length, Refusal::Range, Refusal::Shift, Refusal::Rule, Refusal::RulesOfRow];

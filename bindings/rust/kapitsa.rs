@@ -70,7 +70,7 @@ refusals! {
     Length = 3, "a count, the mode or a slice's length does not fit, or more than 64 rules";
     Word = 4, "a row has a key, dimension, flag or spare that there is not";
     Opening = 5, "rows and limit 0, or a row off, soft, driven or bounded";
-    Mass = 6, "a mass number is not finite";
+    Mass = 6, "a mass number, or one of a centre, is not finite";
     Row = 7, "a row is not valid, or names a body that there is not";
     Diagonal = 8, "a row's diagonal overflows";
     Immovable = 9, "a row's diagonal is at most MIN, its error above tolerance";
@@ -81,7 +81,7 @@ refusals! {
     Residual = 14, "residual times preconditioned residual is at most MIN";
     Direction = 15, "direction times product is at most MIN";
     Step = 16, "a number in the steps is not finite";
-    Result = 17, "a final impulse or multiplier is not finite";
+    Result = 17, "a final impulse, multiplier or centre is not finite";
     Range = 18, "check: a number neither 0 nor from 2^-150 to 2^150 in size";
     Number = 21, "inverse: a number is not finite";
     Symmetry = 22, "inverse: two numbers are farther apart than 2^-47 allows";
@@ -141,11 +141,13 @@ pub struct Checked {
     pub angular_gap_rad: f64,
 }
 
-/// Rows (27 doubles and 8 words each) and masses (10 doubles each), as document 01 has them.
+/// Rows (27 doubles and 8 words each) and masses (10 doubles each), as document 01 has them, and the
+/// bodies' centres (3 doubles each): zeros where none are known.
 pub struct Tables<'a> {
     pub numbers: &'a mut [f64],
     pub words: &'a [u32],
     pub masses: &'a [f64],
+    pub centres: &'a [f64],
 }
 
 impl Tables<'_> {
@@ -201,10 +203,13 @@ fn factor_lengths(n: usize, mode: Mode) -> (usize, usize, usize) {
 }
 
 /// What a solve delivers besides the multipliers, which it writes into the rows: solution, one a
-/// row; impulses, six a body; and the number of each row's rule.
+/// row; impulses, six a body; where each body's centre ends up, three a body (its centre plus
+/// inverse mass times linear impulse; the same bits where its six impulses are all zero); and the
+/// number of each row's rule.
 pub struct Delivered<'a> {
     pub solution: &'a mut [f64],
     pub impulses: &'a mut [f64],
+    pub new_centres: &'a mut [f64],
     pub rule_numbers: &'a mut [u32],
 }
 
@@ -224,7 +229,7 @@ pub fn solve_position(
     work: &mut Work,
 ) -> Result<Answer, Refusal> {
     let (n, b) = tables.counts()?;
-    let Delivered { solution, impulses, rule_numbers } = to;
+    let Delivered { solution, impulses, new_centres, rule_numbers } = to;
     let (pattern_len, order_len, values_len) = factor_lengths(n, mode);
     let (mut doubles, mut words) =
         work.lend(18 * n + 6 * b + values_len, 2 * n + pattern_len + order_len);
@@ -250,10 +255,12 @@ pub fn solve_position(
             tables.numbers.as_mut_ptr(), tables.numbers.len(),
             tables.words.as_ptr(), tables.words.len(),
             tables.masses.as_ptr(), tables.masses.len(),
+            tables.centres.as_ptr(), tables.centres.len(),
             rules.words.as_ptr(), rules.words.len(),
             rules.tolerances.as_ptr(), rules.tolerances.len(),
             n as u32, b as u32, limit, mode as u32, shift,
             solution.as_mut_ptr(), solution.len(), impulses.as_mut_ptr(), impulses.len(),
+            new_centres.as_mut_ptr(), new_centres.len(),
             rule_numbers.as_mut_ptr(), rule_numbers.len(),
             counts.as_mut_ptr(), counts.len(), maxima.as_mut_ptr(), maxima.len(),
             jacobians.as_mut_ptr(), jacobians.len(), links.as_mut_ptr(), links.len(),
@@ -277,7 +284,8 @@ pub fn solve_position(
 }
 
 /// Measures every joint's gap from `multipliers`, the gains since the errors were measured, and
-/// judges each row by its own rule, whose number is written only where the answer is `Ok`.
+/// judges each row by its own rule, whose number is written only where the answer is `Ok`. The
+/// centres must be finite; nothing else of it reads them.
 #[inline(never)]
 pub fn closing_check(
     tables: &Tables,
@@ -305,6 +313,7 @@ pub fn closing_check(
             tables.numbers.as_ptr(), tables.numbers.len(),
             tables.words.as_ptr(), tables.words.len(),
             tables.masses.as_ptr(), tables.masses.len(),
+            tables.centres.as_ptr(), tables.centres.len(),
             rules.words.as_ptr(), rules.words.len(),
             rules.tolerances.as_ptr(), rules.tolerances.len(), n as u32, b as u32,
             multipliers.as_ptr(), multipliers.len(),
@@ -376,10 +385,12 @@ fn load_control(word: u32) {
 unsafe extern "C" {
     fn kapitsa_solve_position(
         numbers: *mut f64, numbers_len: usize, words: *const u32, words_len: usize,
-        masses: *const f64, masses_len: usize, rule_words: *const u32, rule_words_len: usize,
+        masses: *const f64, masses_len: usize, centres: *const f64, centres_len: usize,
+        rule_words: *const u32, rule_words_len: usize,
         rule_tolerances: *const f64, rule_tolerances_len: usize,
         rows: u32, bodies: u32, limit: u32, mode: u32, shift: f64,
         solution: *mut f64, solution_len: usize, impulses: *mut f64, impulses_len: usize,
+        new_centres: *mut f64, new_centres_len: usize,
         rule_numbers: *mut u32, rule_numbers_len: usize,
         counts: *mut u32, counts_len: usize, maxima: *mut f64, maxima_len: usize,
         jacobians: *mut f64, jacobians_len: usize, links: *mut u32, links_len: usize,
@@ -396,7 +407,8 @@ unsafe extern "C" {
 
     fn kapitsa_closing_check(
         numbers: *const f64, numbers_len: usize, words: *const u32, words_len: usize,
-        masses: *const f64, masses_len: usize, rule_words: *const u32, rule_words_len: usize,
+        masses: *const f64, masses_len: usize, centres: *const f64, centres_len: usize,
+        rule_words: *const u32, rule_words_len: usize,
         rule_tolerances: *const f64, rule_tolerances_len: usize, rows: u32, bodies: u32,
         multipliers: *const f64, multipliers_len: usize,
         rule_numbers: *mut u32, rule_numbers_len: usize, verdict: *mut u32, verdict_len: usize,

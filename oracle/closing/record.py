@@ -1,22 +1,24 @@
 #!/usr/bin/env python3
 """Closing checks worked in exact rational arithmetic.
 
-Written from document 01 ("The closing check", refusals 3, 4, 6, 7, 18) and 02 (27, the gap) alone, the two
-tolerances taken as two rules over keys 0 to 255, so that 28 finds nothing wrong: every operation is done on
-fractions, and where the document rounds, the exact result is rounded to the nearest double once. For each check the
-exact gap is formed as well, and what verdict and measured gap mean is tested on it before the check is listed.
+Written from document 01 ("The closing check", refusals 3, 4, 6, 7, 18) and 02 (27, the gap, 6 of the centres, which
+nothing else reads) alone, the two tolerances taken as two rules over keys 0 to 255, so that 28 finds nothing wrong:
+every operation is done on fractions, and where the document rounds, the exact result is rounded to the nearest double
+once. For each check the exact gap is formed as well, and what verdict and measured gap mean is tested on it before
+the check is listed.
 
     cd crates/closing_recorded && ../../oracle/closing/record.py > stdin 2> stdout
 
 `stdin` is the list and `stdout` what the program must print of it. First come 1,500 drawn checks, then those that
 are not drawn: two refusals at once, the largest counts and one beyond, tolerances on both sides of 27 and at the
-reach.
+reach, centres of every kind. The drawn ones have centres of +0.0.
 
 A check is a run of 64-bit words, little end first: its length in bytes, rows n, bodies b, the linear and the
 angular tolerance, the answer (0 open, 1 closed, else the refusal's number), the linear and the angular gap, 27n
-row numbers, 8n row words, 10b mass numbers, n multipliers. So the gap stands in bytes 48 to 63 and the row numbers
-begin at byte 64. A gap is the largest rounded |r| + E of the rows of its dimension, from +0.0 upward; both are
-+0.0 where the check is refused. Doubles are given by their bits. The same seed makes the same bytes.
+row numbers, 8n row words, 10b mass numbers, 3b centre numbers, n multipliers. So the gap stands in bytes 48 to 63,
+the row numbers begin at byte 64 and the centres at 64 + 280n + 80b. A gap is the largest rounded |r| + E of the rows
+of its dimension, from +0.0 upward; both are +0.0 where the check is refused. Doubles are given by their bits. The
+same seed makes the same bytes.
 """
 import copy
 import itertools
@@ -55,11 +57,12 @@ def plus(u, v, to):
 
 
 class Sheet:
-    """A table of rows and masses with its listed multipliers and two tolerances."""
+    """A table of rows and masses with its listed multipliers and two tolerances; the centres are +0.0 at first."""
 
     def __init__(self, numbers, words, masses, multipliers, tolerances):
         self.numbers, self.words, self.masses = numbers, words, masses
         self.multipliers, self.tolerances = multipliers, tolerances
+        self.centres = [[0.0] * 3 for _ in masses]
 
     def values(self, number, to):
         """Each row's value: J M^-1 J^T on the multipliers, rows ascending, linear then angular, a before b."""
@@ -160,7 +163,7 @@ def refusal(sheet):
         return 4
     if not all(map(passes_27, sheet.tolerances)):
         return 27
-    if not all(math.isfinite(x) for mass in sheet.masses for x in mass):
+    if not all(math.isfinite(x) for listed in sheet.masses + sheet.centres for x in listed):
         return 6
     if not all(passes_7(row, word, bodies) for row, word in zip(sheet.numbers, sheet.words)):
         return 7
@@ -310,7 +313,13 @@ LEAST = math.nextafter(0.0, 1.0)
 FAULTS = {
     4: [put(("words", at), value) for at, value in ((0, 256), (1, 2), (4, 2), (5, 2), (7, 1))],
     27: [put(("tolerances", 0), value) for value in (-LEAST, math.nan, math.inf)],
-    6: [put(("masses", 0), math.nan), put(("masses", 4), math.inf), put(("masses", 9), -math.inf)],
+    6: [
+        put(("masses", 0), math.nan),
+        put(("masses", 4), math.inf),
+        put(("masses", 9), -math.inf),
+        put(("centres", 0), -math.inf),
+        put(("centres", 2), math.nan),
+    ],
     7: [
         put(("numbers", 6), math.nan),
         put(("words", 3), 2),
@@ -366,7 +375,7 @@ def without_rows():
         yield sheet
     yield Sheet([], [], [], [], [0.0, 0.0])
     yield from (plain_sheet(0, MOST_BODIES), plain_sheet(0, MOST_BODIES + 1))
-    for fault in (FAULTS[6][1], FAULTS[18][3]):
+    for fault in (FAULTS[6][1], FAULTS[18][3], FAULTS[6][3]):
         sheet = plain_sheet(0, 2)
         fault(sheet, 1)
         yield sheet
@@ -383,6 +392,21 @@ def at_27():
         sheet.tolerances[place] = value
         assert answer(sheet) == (1 if value in passing else 27)
         yield sheet
+
+
+def at_centres():
+    """6 by one number of a centre, of a body in no row too; what 18 would turn back of a mass passes, and the answer
+    is that of centres +0.0."""
+    passing = (0.0, -0.0, LEAST, LOW / 2, 2 * HIGH, -sys.float_info.max, 1.5)
+    for value, place in itertools.product(passing + (math.nan, math.inf, -math.inf), (0, 4, 8)):
+        for tolerances in ([1.0, 1.0], [0.0, 0.0]):
+            sheet = plain_sheet(2, 3)
+            sheet.words[1][2:4] = sheet.words[0][2:4]
+            sheet.tolerances = tolerances
+            plain = outcome(sheet)
+            sheet.centres[place // 3][place % 3] = value
+            assert outcome(sheet) == (plain if value in passing else (6, [0.0, 0.0]))
+            yield sheet
 
 
 def some_sheet(rows, bodies, numbers, chance):
@@ -415,6 +439,7 @@ def not_drawn(chance):
     yield from counts()
     yield from without_rows()
     yield from at_27()
+    yield from at_centres()
     for rows in (5, 6, 7, 8):
         for bodies in (2, 3, 4, 2):
             yield from at_own_reach(rows, bodies, [chance.uniform(-2.0, 2.0) for _ in range(40)], chance)
@@ -430,6 +455,7 @@ def words_of(sheet, told, gap):
     words += [bits(x) for row in sheet.numbers for x in row]
     words += [x for word in sheet.words for x in word]
     words += [bits(x) for mass in sheet.masses for x in mass]
+    words += [bits(x) for centre in sheet.centres for x in centre]
     words += [bits(x) for x in sheet.multipliers]
     return [8 * (len(words) + 1), *words]
 

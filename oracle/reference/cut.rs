@@ -7,7 +7,7 @@ use std::fs;
 use std::path::Path;
 
 /// Each output file, the source it is cut from, and the heads of its items.
-const CUTS: [(&str, &str, &[&str]); 6] = [
+const CUTS: [(&str, &str, &[&str]); 7] = [
     (
         "solver_items.rs",
         "crates/kapitsa-core/src/joint/solver.rs",
@@ -37,6 +37,13 @@ const CUTS: [(&str, &str, &[&str]); 6] = [
         "solver_mass_methods.rs",
         "crates/kapitsa-core/src/rigid_body/solver_mass.rs",
         &["    pub(crate) fn diagonal(", "    pub(crate) fn cross("],
+    ),
+    // Two statements of `apply_constraint_position_impulse_cached`, which the harness puts into a
+    // function of their own.
+    (
+        "next_center.rs",
+        "crates/kapitsa-core/src/rigid_body/solver_mass.rs",
+        &["        let linear_delta = linear_impulse", "        let next_center = cached"],
     ),
     (
         "inverse_items.rs",
@@ -72,14 +79,17 @@ fn main() {
     write(&output.join("pcg_untimed.rs"), &without_timers(&read(&source.join(PCG))));
 }
 
-/// Methods need their `impl` around them; everything else stands by itself.
+/// Methods need their `impl` around them, statements a function; everything else stands by itself.
 fn wrap(name: &str, items: &str) -> String {
-    if name == "solver_mass_methods.rs" {
-        format!("impl SolverMass {{\n{items}}}\n")
-    } else {
-        items.to_string()
+    match name {
+        "solver_mass_methods.rs" => format!("impl SolverMass {{\n{items}}}\n"),
+        "next_center.rs" => format!("{NEXT_CENTER} {{\n{items}        Ok(next_center)\n}}\n"),
+        _ => items.to_string(),
     }
 }
+
+const NEXT_CENTER: &str =
+    "fn next_center(cached: SolverMass, linear_impulse: Vec3) -> Result<Vec3, BodyError>";
 
 /// The item whose head line begins with `head`: its attributes and comments,
 /// its head, and everything to the brace that closes it.
@@ -88,14 +98,16 @@ fn cut<'a>(text: &'a str, head: &str, from: &str) -> &'a str {
     if begins.len() != 1 {
         fail(&format!("{from}: '{head}' was found {} times, not once", begins.len()));
     }
-    let end = closing_brace(text, begins[0]);
+    let statement = head.trim_start().starts_with("let ");
+    let end = if statement { semicolon(text, begins[0]) } else { closing_brace(text, begins[0]) };
     &text[with_attributes(text, begins[0])..end]
 }
 
 /// `head` ends at a name's end, so `struct SolverMass` is not `struct SolverMassSlot`.
 fn begins_item(line: &str, head: &str) -> bool {
-    line.strip_prefix(head)
-        .is_some_and(|rest| head.ends_with(['(', '<', ']']) || rest.starts_with([' ', '<', '{']))
+    line.strip_prefix(head).is_some_and(|rest| {
+        head.ends_with(['(', '<', ']']) || rest.starts_with([' ', '<', '{', '\n'])
+    })
 }
 
 fn line_starts(text: &str) -> impl Iterator<Item = usize> + '_ {
@@ -128,6 +140,11 @@ fn closing_brace(text: &str, start: usize) -> usize {
         }
     }
     fail("an item is not closed")
+}
+
+/// The place after the line of the statement's end: those named above hold no block.
+fn semicolon(text: &str, start: usize) -> usize {
+    text[start..].find(";\n").map_or_else(|| fail("a statement does not end"), |at| start + at + 2)
 }
 
 /// pcg.rs reads its clock in lines that do nothing else.

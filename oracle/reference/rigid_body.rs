@@ -1,7 +1,8 @@
 //! Bodies. physics.rs is as published; SolverMass with cross and diagonal is cut, and so is
 //! inverse_spd.
 //! The rest stands in for bodies and slots: resolving hands out the given mass,
-//! applying records the impulse and never fails, every body is Dynamic.
+//! applying records the impulse and never fails, every body is Dynamic. Where a body's centre ends
+//! up is worked from that impulse, by the two statements that the Rust has for it.
 
 mod physics {
     include!(concat!(env!("KAPITSA_SRC"), "/crates/kapitsa-core/src/rigid_body/physics.rs"));
@@ -48,6 +49,13 @@ impl RigidBody {
     pub(crate) fn of(mass: SolverMass) -> Self {
         Self { mass, applied: None }
     }
+    /// A body that nothing was applied to stays where it is; None where the Rust overflows.
+    pub(crate) fn next_center(&self) -> Option<Vec3> {
+        match self.applied {
+            None => Some(self.mass.center),
+            Some((linear, _)) => solver_mass::moved(self.mass, linear).ok(),
+        }
+    }
     pub(crate) fn physics(&self) -> &'static BodyPhysics {
         &physics::DYNAMIC
     }
@@ -71,13 +79,18 @@ impl RigidBody {
 }
 
 pub mod solver_mass {
-    use super::RigidBody;
+    use super::{BodyError, RigidBody};
     use crate::collision::CollisionError;
     use kapitsa_math::{CholeskyError, Mat3, Vec3};
 
     include!(concat!(env!("ORACLE_CUT"), "/inverse_items.rs"));
     include!(concat!(env!("ORACLE_CUT"), "/solver_mass_types.rs"));
     include!(concat!(env!("ORACLE_CUT"), "/solver_mass_methods.rs"));
+    include!(concat!(env!("ORACLE_CUT"), "/next_center.rs"));
+
+    pub(super) fn moved(mass: SolverMass, linear: Vec3) -> Result<Vec3, BodyError> {
+        next_center(mass, linear)
+    }
 
     impl SolverMass {
         pub(crate) fn from_body(body: &RigidBody) -> Result<Self, CollisionError> {

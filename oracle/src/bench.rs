@@ -117,7 +117,8 @@ fn summary(mut times: Vec<f64>) -> Times {
 
 /// Multipliers go on growing from run to run; nothing that a solve does depends on them.
 fn published(job: &Job) -> Solve<'_> {
-    let mut prepared = reference::Prepared::new(&job.numbers, &job.words, &job.masses);
+    let mut prepared =
+        reference::Prepared::new(&job.numbers, &job.words, &job.masses, &job.centres);
     let cholesky = job.mode == INCOMPLETE_CHOLESKY;
     Box::new(move || {
         black_box(prepared.solve(job.limit as usize, job.tolerances, cholesky));
@@ -125,7 +126,8 @@ fn published(job: &Job) -> Solve<'_> {
 }
 
 fn untimed(job: &Job) -> Solve<'_> {
-    let mut prepared = reference_untimed::Prepared::new(&job.numbers, &job.words, &job.masses);
+    let mut prepared =
+        reference_untimed::Prepared::new(&job.numbers, &job.words, &job.masses, &job.centres);
     let cholesky = job.mode == INCOMPLETE_CHOLESKY;
     Box::new(move || {
         black_box(prepared.solve(job.limit as usize, job.tolerances, cholesky));
@@ -137,6 +139,7 @@ fn implemented<'a>(implementation: &'a Implementation, job: &Job) -> Solve<'a> {
     let mut to = Outputs {
         solution: vec![0.0; job.rows as usize],
         impulses: vec![0.0; IMPULSE_NUMBERS * job.bodies as usize],
+        centres: vec![0.0; CENTRE_NUMBERS * job.bodies as usize],
         rule_numbers: vec![0; job.rows as usize],
     };
     Box::new(move || {
@@ -227,7 +230,8 @@ pub fn closing(library: &str) -> Result<bool, String> {
     if let Some(refusal) = [refusal, again].into_iter().find(|refusal| *refusal != 0) {
         return Err(format!("the check is refused by {refusal}: no time of a verdict"));
     }
-    let mut operator = reference::Operator::new(&job.numbers, &job.words, &job.masses);
+    let mut operator =
+        reference::Operator::new(&job.numbers, &job.words, &job.masses, &job.centres);
     operator.product(&list).map_err(|error| format!("{error:?}"))?;
     let solves: Vec<Solve> = vec![
         Box::new(|| {

@@ -22,11 +22,13 @@ pub unsafe extern "C" fn kapitsa_solve_position(
     numbers: *mut f64, numbers_len: usize,
     words: *const u32, words_len: usize,
     masses: *const f64, masses_len: usize,
+    centres: *const f64, centres_len: usize,
     rule_words: *const u32, rule_words_len: usize,
     rule_tolerances: *const f64, rule_tolerances_len: usize,
     rows: u32, bodies: u32, limit: u32, mode: u32, shift: f64,
     solution: *mut f64, solution_len: usize,
     impulses: *mut f64, impulses_len: usize,
+    new_centres: *mut f64, new_centres_len: usize,
     rule_numbers: *mut u32, rule_numbers_len: usize,
     answer: *mut u64, answer_len: usize,
 ) {
@@ -34,6 +36,7 @@ pub unsafe extern "C" fn kapitsa_solve_position(
     let to = Outputs {
         solution: unsafe { from_raw_parts_mut(solution, solution_len) },
         impulses: unsafe { from_raw_parts_mut(impulses, impulses_len) },
+        new_centres: unsafe { from_raw_parts_mut(new_centres, new_centres_len) },
         rule_numbers: unsafe { from_raw_parts_mut(rule_numbers, rule_numbers_len) },
     };
     let answer = unsafe { from_raw_parts_mut(answer, answer_len) };
@@ -45,6 +48,7 @@ pub unsafe extern "C" fn kapitsa_solve_position(
         numbers: numbers.to_vec(),
         words: unsafe { from_raw_parts(words, words_len) }.to_vec(),
         masses: unsafe { from_raw_parts(masses, masses_len) }.to_vec(),
+        centres: unsafe { from_raw_parts(centres, centres_len) }.to_vec(),
         rules: Some(rules),
         rows, bodies, limit, mode, shift,
         ..Job::default()
@@ -55,13 +59,15 @@ pub unsafe extern "C" fn kapitsa_solve_position(
 struct Outputs<'a> {
     solution: &'a mut [f64],
     impulses: &'a mut [f64],
+    new_centres: &'a mut [f64],
     rule_numbers: &'a mut [u32],
 }
 
 fn solve(job: &Job, numbers: &mut [f64], to: Outputs) -> [u64; 5] {
     let (rows, bodies) = (job.rows as usize, job.bodies as usize);
-    let lengths = [to.solution.len(), to.impulses.len(), to.rule_numbers.len()];
-    if lengths != [rows, 6 * bodies, rows] {
+    let Outputs { solution, impulses, new_centres, rule_numbers } = to;
+    let lengths = [solution.len(), impulses.len(), new_centres.len(), rule_numbers.len()];
+    if lengths != [rows, 6 * bodies, 3 * bodies, rows] {
         return Answer::Refused(3).words();
     }
     let judged = judge::judge(job);
@@ -70,9 +76,10 @@ fn solve(job: &Job, numbers: &mut [f64], to: Outputs) -> [u64; 5] {
     }
     let solved = judged.solved;
     if let Answer::Accepted { .. } = solved.answer {
-        to.solution.copy_from_slice(&solved.solution);
-        to.impulses.copy_from_slice(&solved.impulses);
-        to.rule_numbers.copy_from_slice(&solved.rules);
+        solution.copy_from_slice(&solved.solution);
+        impulses.copy_from_slice(&solved.impulses);
+        new_centres.copy_from_slice(&solved.centres);
+        rule_numbers.copy_from_slice(&solved.rules);
         for (row, multiplier) in numbers.chunks_exact_mut(ROW_NUMBERS).zip(solved.multipliers) {
             row[MULTIPLIER] = multiplier;
         }
@@ -89,6 +96,7 @@ pub unsafe extern "C" fn kapitsa_closing_check(
     numbers: *const f64, numbers_len: usize,
     words: *const u32, words_len: usize,
     masses: *const f64, masses_len: usize,
+    centres: *const f64, centres_len: usize,
     rule_words: *const u32, rule_words_len: usize,
     rule_tolerances: *const f64, rule_tolerances_len: usize,
     rows: u32, bodies: u32,
@@ -104,6 +112,7 @@ pub unsafe extern "C" fn kapitsa_closing_check(
         numbers: unsafe { from_raw_parts(numbers, numbers_len) }.to_vec(),
         words: unsafe { from_raw_parts(words, words_len) }.to_vec(),
         masses: unsafe { from_raw_parts(masses, masses_len) }.to_vec(),
+        centres: unsafe { from_raw_parts(centres, centres_len) }.to_vec(),
         rules: Some(rules),
         rows, bodies,
         ..Job::default()

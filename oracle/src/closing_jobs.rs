@@ -20,6 +20,10 @@ pub fn closing_job(job: &Job, solved: &Solved, random: &mut Random) -> (Job, Vec
         }
         4 | 5 => at_reach(&mut job, &list, random),
         6 if random.chance(20) => list.push(0.0),
+        7 if !job.centres.is_empty() && random.chance(40) => {
+            let at = random.below(job.centres.len());
+            job.centres[at] = edge(random);
+        }
         _ => {}
     }
     (job, list)

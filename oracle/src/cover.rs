@@ -5,8 +5,8 @@ mod items;
 mod slip;
 mod worked;
 
-use crate::job::{BLOCK_JACOBI, INCOMPLETE_CHOLESKY, Job, Solved};
-use crate::model::{Begun, Table, at_factor, solve, tolerances_fit};
+use crate::job::{Answer, BLOCK_JACOBI, INCOMPLETE_CHOLESKY, Job, Solved};
+use crate::model::{Begun, Table, at_factor, delivered, solve, tolerances_fit};
 use items::{Item, items};
 use slip::{SLIPS, Slip};
 use std::collections::BTreeSet;
@@ -25,12 +25,48 @@ struct Seen {
     else_by: u32,
     /// A tolerance is −0.0, and the job is not refused.
     minus_zero: bool,
+    centres: Centres,
     accepted: bool,
     changed: Vec<Slip>,
     not_finite: &'static str,
     replaced: bool,
     pairs: Pairs,
     blocks: Vec<usize>,
+}
+
+/// What a job has of centres (document 02, d).
+#[derive(Default)]
+struct Centres {
+    /// One is not finite, while all mass numbers are; and what the job would be refused by else.
+    odd: bool,
+    else_by: u32,
+    /// All are +0.0.
+    none: bool,
+    /// 17 is by a new centre alone.
+    turn_back: bool,
+    /// One is −0.0, and comes out so with count 0.
+    minus_zero_kept: bool,
+}
+
+impl Centres {
+    fn of(job: &Job, solved: &Solved) -> Self {
+        let finite = |values: &[f64]| values.iter().all(|value| value.is_finite());
+        let bits = |value: f64| move |other: &f64| other.to_bits() == value.to_bits();
+        let refusal = solved.answer.refusal();
+        let mut centres = Centres {
+            odd: !finite(&job.centres) && finite(&job.masses),
+            none: job.centres.iter().all(bits(0.0)),
+            turn_back: refusal == 17 && delivered(job).answer.refusal() == 0,
+            ..Centres::default()
+        };
+        if centres.odd && refusal == 6 {
+            let plain = Job { centres: vec![0.0; job.centres.len()], ..job.clone() };
+            centres.else_by = solve(&plain).answer.refusal();
+        }
+        let at_once = matches!(solved.answer, Answer::Accepted { count: 0, .. });
+        centres.minus_zero_kept = at_once && solved.centres.iter().any(bits(-0.0));
+        centres
+    }
 }
 
 /// Pairs of rows by what they share, in mode 1.
@@ -53,6 +89,7 @@ impl Seen {
         if refusal == 27 {
             seen.else_by = solve(&Job { tolerances: [0.0; 2], ..job.clone() }).answer.refusal();
         }
+        seen.centres = Centres::of(job, solved);
         if let Some((table, begun)) = at_factor(job) {
             seen.at_factor(job, solved, &table, &begun)?;
         }
@@ -139,13 +176,13 @@ impl Cover {
         self.counts[at] < self.items[at].enough
     }
 
-    /// Whether one of these items is short of jobs.
-    pub fn wants(&self, met: &[usize]) -> bool {
-        met.iter().any(|&at| self.short(at))
+    /// Whether one of these items is short of jobs, of those about centres or of the others.
+    pub fn wants(&self, met: &[usize], centred: bool) -> bool {
+        met.iter().any(|&at| self.items[at].centred == centred && self.short(at))
     }
 
-    pub fn full(&self) -> bool {
-        (0..self.items.len()).all(|at| !self.short(at))
+    pub fn full(&self, centred: bool) -> bool {
+        (0..self.items.len()).all(|at| self.items[at].centred != centred || !self.short(at))
     }
 
     /// A line for each name, with its count in each mode that is asked for.

@@ -1,6 +1,6 @@
 //! docs/DIFFERENCES.md's inputs, run on the reference.
 
-use crate::generator::{chain_along_x, push_x_row, star};
+use crate::generator::{chain_along_x, from_the_origin, push_x_row, star};
 use crate::inertia;
 use crate::job::*;
 use crate::judge::run_reference;
@@ -49,6 +49,13 @@ fn refusals() -> Vec<Difference> {
     kinds.set_word(1, KEY, 7);
     let kinds = under(&[(0, 0, 6, 0.001), (0, 7, 7, 1.0)], kinds);
     let kinds = Job { limit: 1, ..kinds };
+    let mut odd_centre = p1();
+    odd_centre.centres[4] = f64::NAN;
+    let mut at_the_largest = chain_along_x(two(960), &[-two(971)]);
+    at_the_largest.centres[0] = f64::MAX;
+    let mut within = chain_along_x(two(960), &[-two(971).next_down()]);
+    within.centres[0] = f64::MAX;
+    let origin = from_the_origin(two(209), two(1018), two(-821));
     let named = |name, input, job| Difference { name, input, job };
     vec![
         named("17-bodies", "P1, inverse masses 2^-1000, multiplier the largest double", moved),
@@ -57,6 +64,10 @@ fn refusals() -> Vec<Difference> {
         named("6-bystander", "P1, a third body in no row of inverse mass NaN", bystander),
         named("6-count-0", "the same at tolerance 1", closed),
         named("6-no-rows", "no rows, one body of inverse mass NaN", empty),
+        named("6-centre", "P1, a number of body 1's centre NaN", odd_centre),
+        named("17-centre", AT_THE_LARGEST, at_the_largest),
+        named("17-centre-less", "the same, the error one unit smaller", within),
+        named("17-origin", FROM_THE_ORIGIN, origin),
         named("10", "mode 1, a star of 182 rows", star(182)),
         named("3", "513 rows that are closed", many),
         named("26-infinite", "P1, linear tolerance infinite", at([f64::INFINITY, 0.001], p1())),
@@ -70,6 +81,9 @@ fn refusals() -> Vec<Difference> {
         named("shift", "P1's row and one with linear_a (1, 2^-28, 0), mode 1, shift 2^-20", worn),
     ]
 }
+
+const AT_THE_LARGEST: &str = "P1, inverse masses 2^960, error -2^971, so that body 0 moves by 2^970; its centre the largest double";
+const FROM_THE_ORIGIN: &str = "two rows that all but cancel, alpha about 2^20, the second body of inverse mass 2^1018; centres +0.0";
 
 /// What the Rust does and Hestenes and Stiefel 1952 or Meijerink and van der Vorst 1977 do not.
 fn methods() -> Vec<Difference> {
@@ -112,14 +126,21 @@ pub fn run() -> bool {
     for difference in refusals().iter().chain(&methods()) {
         println!("{}: {}", difference.name, difference.input);
         println!("  Rust:        {}", rust(&difference.job));
-        // Neither the Rust nor document 01 has a shift or rules, or judges a tolerance.
+        // Neither the Rust nor document 01 has a shift or rules, or judges a tolerance or a centre.
         let Job { rules, shift, .. } = &difference.job;
         let same = rules.is_none() && *shift == 0.0 && model::tolerances_fit(&difference.job);
+        let same = same && !placed(&difference.job);
         let measure = if same { "01" } else { "02" };
         println!("  document {measure}: {}", document(&difference.job));
     }
     inertia::differences();
     true
+}
+
+/// A body has a centre other than +0.0, or ends up beyond the doubles.
+fn placed(job: &Job) -> bool {
+    let moved = model::delivered(job).centres;
+    job.centres.iter().any(|part| part.to_bits() != 0) || !moved.iter().all(|part| part.is_finite())
 }
 
 /// What a caller that lends rules is told, and without rules what the job program prints.
@@ -129,7 +150,10 @@ fn document(job: &Job) -> String {
     match solved.answer {
         Answer::Refused(number) => format!("refusal {number}, nothing written"),
         Answer::Accepted { flag, count, linear, angular } => {
-            let text = accepted(flag, count as usize, linear, angular, &solved.solution);
+            let mut text = accepted(flag, count as usize, linear, angular, &solved.solution);
+            if placed(job) {
+                text += &format!(", body 0 at {:e}", solved.centres[0]);
+            }
             format!("{text}; {}", check(job, &solved.solution))
         }
     }
@@ -152,7 +176,9 @@ fn rust(job: &Job) -> String {
     let (outcome, prepared) = run_reference(job, job.tolerances);
     let told = match outcome {
         Outcome::Accepted { count, converged, linear, angular } => {
-            return accepted(converged, count, linear, angular, prepared.solution());
+            let text = accepted(converged, count, linear, angular, prepared.solution());
+            let beyond = prepared.next_centers().iter().position(Option::is_none);
+            return text + &beyond.map_or(String::new(), overflows);
         }
         Outcome::NotAvailable => "Ok(None)".to_string(),
         Outcome::Error(error) => format!("Err({error:?})"),
@@ -162,6 +188,11 @@ fn rust(job: &Job) -> String {
     let (old, new) = (job.multipliers(), prepared.multipliers());
     let written = old.iter().zip(&new).filter(|pair| changed(*pair)).count();
     format!("{told}, {moved} bodies moved, {written} multipliers written")
+}
+
+/// What the two statements for a new centre say of a body.
+fn overflows(body: usize) -> String {
+    format!(", the centre of body {body} overflows")
 }
 
 /// The solution is told where it is short.

@@ -1,7 +1,7 @@
 //! The differential driver: an implementation against the judge, job by job.
 
 use crate::closing_jobs::closing_job;
-use crate::generator::{Sizes, job, ruled, shifted};
+use crate::generator::{Sizes, centred, job, ruled, shifted};
 use crate::implementation::{Implementation, Outputs};
 use crate::job::{Answer, INCOMPLETE_CHOLESKY, Job, MULTIPLIER, ROW_NUMBERS, Solved, same_bits};
 use crate::judge::judge;
@@ -31,6 +31,11 @@ pub fn rules(library: &str, jobs: u64, seed: u64, home: &Path) -> Result<bool, S
     drive(library, jobs, seed, home, ruled)
 }
 
+/// The same with centres for each job's bodies.
+pub fn centres(library: &str, jobs: u64, seed: u64, home: &Path) -> Result<bool, String> {
+    drive(library, jobs, seed, home, centred)
+}
+
 /// The jobs of a seed, each as `draw` has it.
 fn drive(
     library: &str,
@@ -56,7 +61,7 @@ fn drive(
         let name = format!("{seed}-{index}");
         if !found.is_empty() {
             println!("job {name}, shift {:e}, {:?}: {}", job.shift, job.rules, found.join("; "));
-            save(home, &format!("{name}.job"), &job_file::write(&job))?;
+            save(home, &format!("{name}.job"), &with_centres(&job))?;
         }
         let (closing, list) = closing_job(&job, &solved, &mut random);
         let (told, differ) = compare_check(&implementation, &closing, &list, &mut random);
@@ -64,7 +69,7 @@ fn drive(
         if !differ.is_empty() {
             println!("closing check {name}, {:?}: {}", closing.rules, differ.join("; "));
             let listed: Vec<u8> = list.iter().flat_map(|value| value.to_le_bytes()).collect();
-            save(home, &format!("{name}-closing.job"), &job_file::write(&closing))?;
+            save(home, &format!("{name}-closing.job"), &with_centres(&closing))?;
             save(home, &format!("{name}-closing.list"), &listed)?;
         }
         mismatches += u64::from(!found.is_empty() || !differ.is_empty());
@@ -78,7 +83,7 @@ fn drive(
     Ok(mismatches == 0)
 }
 
-/// What the shifts and the rules of the jobs come to.
+/// What the shifts, the rules and the centres of the jobs come to.
 #[derive(Default)]
 struct Effect {
     shifted: u64,
@@ -87,10 +92,14 @@ struct Effect {
     ruled: u64,
     agreeing: u64,
     by_rules: u64,
+    placed: u64,
+    moved: u64,
+    beyond: u64,
 }
 
 impl Effect {
     fn add(&mut self, job: &Job, solved: &Solved) {
+        self.add_centres(job, solved);
         if job.rules.is_some() && !matches!(solved.answer.refusal(), 3 | 25 | 4 | 27 | 28) {
             let plain = model::solve(&Job { rules: None, ..job.clone() });
             self.ruled += 1;
@@ -110,7 +119,24 @@ impl Effect {
         self.instead_of_13 += u64::from(refusal == 0 && plain.answer.refusal() == 13);
     }
 
+    /// Of jobs that 6 lets pass with a centre other than +0.0.
+    fn add_centres(&mut self, job: &Job, solved: &Solved) {
+        let refusal = solved.answer.refusal();
+        if job.centres.iter().any(|part| part.to_bits() != 0) && !matches!(refusal, 3..=6 | 25..) {
+            self.placed += 1;
+            self.moved += u64::from(refusal == 0 && !same_bits(&job.centres, &solved.centres));
+            let by_centre = refusal == 17 && model::delivered(job).answer.refusal() == 0;
+            self.beyond += u64::from(by_centre);
+        }
+    }
+
     fn print(&self) {
+        if self.placed > 0 {
+            println!(
+                "centres: {} jobs with centres that 6 lets pass, {} accepted with one moved, {} refused by 17 for a new one alone",
+                self.placed, self.moved, self.beyond
+            );
+        }
         if self.shifted > 0 {
             println!(
                 "shifts: {} other than 0, {} with another outcome than at 0, {} accepted instead of 13",
@@ -195,7 +221,7 @@ fn compare_solve(
 
 /// The outputs of a solve, one of them now and then too short; and whether all fit.
 fn outputs(job: &Job, random: &mut Random) -> (Outputs, bool) {
-    let which = if random.below(200) == 0 { random.below(3) } else { 3 };
+    let which = if random.below(200) == 0 { random.below(4) } else { 4 };
     let lent = |place: usize, count: u32, each: usize| {
         (each * count.min(600) as usize).saturating_sub(usize::from(place == which))
     };
@@ -203,10 +229,12 @@ fn outputs(job: &Job, random: &mut Random) -> (Outputs, bool) {
         solution: vec![UNTOUCHED; lent(0, job.rows, 1)],
         impulses: vec![UNTOUCHED; lent(1, job.bodies, 6)],
         rule_numbers: vec![UNTOUCHED_WORD; lent(2, job.rows, 1)],
+        centres: vec![UNTOUCHED; lent(3, job.bodies, 3)],
     };
     let (rows, bodies) = (job.rows as usize, job.bodies as usize);
-    let lengths = [to.solution.len(), to.impulses.len(), to.rule_numbers.len()];
-    (to, lengths == [rows, 6 * bodies, rows])
+    let Outputs { solution, impulses, centres, rule_numbers } = &to;
+    let lengths = [solution.len(), impulses.len(), centres.len(), rule_numbers.len()];
+    (to, lengths == [rows, 6 * bodies, 3 * bodies, rows])
 }
 
 fn differences(
@@ -228,10 +256,12 @@ fn differences(
     if let Answer::Accepted { .. } = wanted.answer {
         hold(same_bits(&to.solution, &wanted.solution), "solution");
         hold(same_bits(&to.impulses, &wanted.impulses), "impulses");
+        hold(same_bits(&to.centres, &wanted.centres), "new centres");
         hold(as_judged(&to.rule_numbers, Some(&wanted.rules)), "rule numbers");
     } else {
         hold(untouched(&to.solution), "solution was written after a refusal");
         hold(untouched(&to.impulses), "impulses were written after a refusal");
+        hold(untouched(&to.centres), "new centres were written after a refusal");
         hold(as_judged(&to.rule_numbers, None), "rule numbers were written after a refusal");
     }
     found
@@ -248,6 +278,10 @@ fn after(job: &Job, wanted: &Solved) -> Vec<f64> {
         row[MULTIPLIER] = *multiplier;
     }
     numbers
+}
+
+fn with_centres(job: &Job) -> Vec<u8> {
+    job_file::write(&Job { spare: 1, ..job.clone() })
 }
 
 /// A saved job has the program's layout; the program itself takes 128 rows at most.

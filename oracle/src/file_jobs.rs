@@ -1,6 +1,6 @@
 //! Job files in every placement, some damaged, each with what the job program prints.
 
-use crate::generator::{Sizes, job};
+use crate::generator::{Sizes, job, place};
 use crate::job::Job;
 use crate::random::Random;
 use crate::{job_file, listing};
@@ -8,13 +8,13 @@ use std::path::Path;
 
 const TRAILER_WORDS: usize = 12;
 
-/// Writes FOLDER/INDEX.job and FOLDER/INDEX.out.
-pub fn write(folder: &str, jobs: u64, seed: u64) -> Result<bool, String> {
+/// Writes FOLDER/INDEX.job and FOLDER/INDEX.out, all of this spare, but for damaged ones.
+pub fn write(folder: &str, jobs: u64, seed: u64, spare: u32) -> Result<bool, String> {
     let folder = Path::new(folder);
     std::fs::create_dir_all(folder).map_err(|error| error.to_string())?;
     for index in 0..jobs {
         let mut random = Random::of(!seed, index);
-        let file = file(seed, index, &mut random);
+        let file = file(seed, index, spare, &mut random);
         let save = |ending: &str, bytes: &[u8]| {
             std::fs::write(folder.join(format!("{index}.{ending}")), bytes)
         };
@@ -26,9 +26,13 @@ pub fn write(folder: &str, jobs: u64, seed: u64) -> Result<bool, String> {
     Ok(true)
 }
 
-fn file(seed: u64, index: u64, random: &mut Random) -> Vec<u8> {
+/// The choices of a spare of 1 are drawn apart, so that files of spare 0 are what they were.
+fn file(seed: u64, index: u64, spare: u32, random: &mut Random) -> Vec<u8> {
     let sizes = if random.chance(80) { Sizes::Small } else { Sizes::Any };
-    let job = job(seed, index, sizes);
+    let mut job = Job { spare, ..job(seed, index, sizes) };
+    if spare == 1 {
+        place(&mut job, &mut Random::of(seed ^ 0xce27, index));
+    }
     let mut file = placed(&job, random);
     if random.chance(25) {
         damage(&mut file, random);
@@ -39,14 +43,15 @@ fn file(seed: u64, index: u64, random: &mut Random) -> Vec<u8> {
 /// A file as above, or one damaged anywhere, or bytes at random, now and then with a stored
 /// length that is right.
 pub fn any(seed: u64, index: u64, random: &mut Random) -> Vec<u8> {
-    let mut file = file(seed, index, random);
+    let spare = random.below(2) as u32;
+    let mut file = file(seed, index, spare, random);
     match random.below(4) {
         0 => flip(&mut file, random),
         1 if random.chance(30) => {
             let length = random.pick(&[0, 1, 47, 48, 49, 300, 4_000, 65_535, 65_536, 65_537]);
             file = (0..length).map(|_| random.below(256) as u8).collect();
             if random.chance(70) {
-                store_length(&mut file);
+                store_length(&mut file, spare);
             }
         }
         _ => {}
@@ -74,19 +79,20 @@ fn flip(file: &mut [u8], random: &mut Random) {
     }
 }
 
-/// The length and the spare as document 01 has them.
-fn store_length(file: &mut [u8]) {
+/// The length and the spare as documents 01 and 02 have them.
+fn store_length(file: &mut [u8], spare: u32) {
     let length = file.len();
     if length >= 48 {
         file[length - 8..length - 4].copy_from_slice(&(length as u32).to_le_bytes());
-        file[length - 4..].fill(0);
+        file[length - 4..].copy_from_slice(&spare.to_le_bytes());
     }
 }
 
 /// Rows or masses first, with gaps; a count that no longer fits its list is written as it is.
 fn placed(job: &Job, random: &mut Random) -> Vec<u8> {
     let gaps = [0; 2].map(|_| random.pick(&[0, 0, 1, 7, 64]));
-    let (rows, masses) = (248 * (job.words.len() / 8), 8 * job.masses.len());
+    let centres = if job.spare == 1 { 8 * job.centres.len() } else { 0 };
+    let (rows, masses) = (248 * (job.words.len() / 8), 8 * job.masses.len() + centres);
     if random.chance(50) {
         job_file::write_at(job, gaps[0], gaps[0] + rows + gaps[1])
     } else {

@@ -1,5 +1,6 @@
 //! Jobs by seed and index: a mechanism, its numbers, and what is wrong with it.
 
+mod centres;
 pub mod doubles;
 mod edges;
 mod examples;
@@ -13,6 +14,7 @@ mod rules;
 mod shifts;
 mod thresholds;
 
+pub use centres::{centred, centred_pin, fixed_centres, from_the_origin, place};
 pub use examples::{chain_along_x, examples, push_x_row};
 pub use fixed::fixed;
 pub use large::star;

@@ -7,13 +7,13 @@ use std::ffi::{c_int, c_void};
 
 #[rustfmt::skip]
 type Solve = unsafe extern "C" fn(
-    *mut f64, usize, *const u32, usize, *const f64, usize,
+    *mut f64, usize, *const u32, usize, *const f64, usize, *const f64, usize,
     *const u32, usize, *const f64, usize, u32, u32, u32, u32, f64,
-    *mut f64, usize, *mut f64, usize, *mut u32, usize, *mut u64, usize,
+    *mut f64, usize, *mut f64, usize, *mut f64, usize, *mut u32, usize, *mut u64, usize,
 );
 #[rustfmt::skip]
 type Close = unsafe extern "C" fn(
-    *const f64, usize, *const u32, usize, *const f64, usize,
+    *const f64, usize, *const u32, usize, *const f64, usize, *const f64, usize,
     *const u32, usize, *const f64, usize, u32, u32,
     *const f64, usize, *mut u32, usize, *mut u64, usize,
 );
@@ -24,6 +24,7 @@ type Cleared = unsafe extern "C" fn() -> c_int;
 pub struct Outputs {
     pub solution: Vec<f64>,
     pub impulses: Vec<f64>,
+    pub centres: Vec<f64>,
     pub rule_numbers: Vec<u32>,
 }
 
@@ -64,17 +65,19 @@ impl Implementation {
     pub fn solve(&self, job: &mut Job, rules: &Rules, to: &mut Outputs) -> [u64; 5] {
         let mut answer = [u64::MAX; 5];
         let solve = self.solve.expect("the implementation solves");
-        let Outputs { solution, impulses, rule_numbers } = to;
+        let Outputs { solution, impulses, centres, rule_numbers } = to;
         unsafe {
             solve(
                 job.numbers.as_mut_ptr(), job.numbers.len(),
                 job.words.as_ptr(), job.words.len(),
                 job.masses.as_ptr(), job.masses.len(),
+                job.centres.as_ptr(), job.centres.len(),
                 rules.words.as_ptr(), rules.words.len(),
                 rules.tolerances.as_ptr(), rules.tolerances.len(),
                 job.rows, job.bodies, job.limit, job.mode, job.shift,
                 solution.as_mut_ptr(), solution.len(),
                 impulses.as_mut_ptr(), impulses.len(),
+                centres.as_mut_ptr(), centres.len(),
                 rule_numbers.as_mut_ptr(), rule_numbers.len(),
                 answer.as_mut_ptr(), answer.len(),
             );
@@ -91,6 +94,7 @@ impl Implementation {
                 job.numbers.as_ptr(), job.numbers.len(),
                 job.words.as_ptr(), job.words.len(),
                 job.masses.as_ptr(), job.masses.len(),
+                job.centres.as_ptr(), job.centres.len(),
                 rules.words.as_ptr(), rules.words.len(),
                 rules.tolerances.as_ptr(), rules.tolerances.len(), job.rows, job.bodies,
                 list.as_ptr(), list.len(),

@@ -3,6 +3,7 @@
 pub const ROW_NUMBERS: usize = 27;
 pub const ROW_WORDS: usize = 8;
 pub const MASS_NUMBERS: usize = 10;
+pub const CENTRE_NUMBERS: usize = 3;
 pub const IMPULSE_NUMBERS: usize = 6;
 
 /// Places of a row's doubles.
@@ -82,6 +83,8 @@ pub struct Job {
     pub numbers: Vec<f64>,
     pub words: Vec<u32>,
     pub masses: Vec<f64>,
+    /// Where each body's centre lies (document 02, d): +0.0 where nobody says.
+    pub centres: Vec<f64>,
     pub tolerances: [f64; 2],
     /// What a solve and a check are given; without one, the two tolerances as two rules. No job
     /// file has one.
@@ -92,6 +95,8 @@ pub struct Job {
     pub mode: u32,
     /// Mode 1 starts each pivot from diagonal × (1 + shift). No job file has one: it is 0 there.
     pub shift: f64,
+    /// Of a job file: 1 where its masses have their centres, 104 bytes each, 0 where they have none.
+    pub spare: u32,
 }
 
 impl Job {
@@ -106,10 +111,11 @@ impl Job {
         self.rows as usize - 1
     }
 
-    /// A body whose inertia has this diagonal.
+    /// A body whose inertia has this diagonal, at the origin.
     pub fn push_mass(&mut self, inverse_mass: f64, inertia: [f64; 3]) {
         let [x, y, z] = inertia;
         self.masses.extend([inverse_mass, x, 0.0, 0.0, 0.0, y, 0.0, 0.0, 0.0, z]);
+        self.centres.extend([0.0; CENTRE_NUMBERS]);
         self.bodies += 1;
     }
 
@@ -171,6 +177,8 @@ pub struct Solved {
     pub solution: Vec<f64>,
     pub multipliers: Vec<f64>,
     pub impulses: Vec<f64>,
+    /// Where each body's centre ends up.
+    pub centres: Vec<f64>,
     /// The rule that each row was judged by.
     pub rules: Vec<u32>,
 }
@@ -182,6 +190,7 @@ impl Solved {
             solution: Vec::new(),
             multipliers: Vec::new(),
             impulses: Vec::new(),
+            centres: Vec::new(),
             rules: Vec::new(),
         }
     }
@@ -192,6 +201,7 @@ impl Solved {
             && same_bits(&self.solution, &other.solution)
             && same_bits(&self.multipliers, &other.multipliers)
             && same_bits(&self.impulses, &other.impulses)
+            && same_bits(&self.centres, &other.centres)
             && self.rules == other.rules
     }
 }

@@ -42,23 +42,27 @@ pub struct Judged {
     pub dispute: Option<String>,
 }
 
-/// Answers a job by the model, and holds the answer to the reference where that applies.
+/// Answers a job by the model, and holds the answer to the reference where that applies. One that
+/// 17 turns back by a new centre alone is not compared; what it delivers but for that is held to the
+/// reference all the same.
 pub fn judge(job: &Job) -> Judged {
-    let solved = model::solve(job);
-    let refusal = solved.answer.refusal();
+    let delivered = model::delivered(job);
+    let refusal = delivered.answer.refusal();
     // The Rust has no shift, and two tolerances: with another shift than 0, or rules of one
     // dimension that do not agree, the definition is the measure.
     let comparable = job.mode <= INCOMPLETE_CHOLESKY
         && job.shift == 0.0
         && (refusal == 0 || rust_outcome(refusal).is_some());
     let agreed = if comparable { model::agreed(job) } else { None };
-    let dispute = agreed.and_then(|tolerances| dispute(job, tolerances, &solved));
-    Judged { solved, compared: agreed.is_some(), dispute }
+    let dispute = agreed.and_then(|tolerances| dispute(job, tolerances, &delivered));
+    let solved = model::settled(delivered);
+    let by_centre = solved.answer.refusal() != refusal;
+    Judged { solved, compared: agreed.is_some() && !by_centre, dispute }
 }
 
 /// Runs the reference, at these tolerances, on a job whose counts and words are sound.
 pub fn run_reference(job: &Job, tolerances: [f64; 2]) -> (Outcome, Prepared) {
-    let mut prepared = Prepared::new(&job.numbers, &job.words, &job.masses);
+    let mut prepared = Prepared::new(&job.numbers, &job.words, &job.masses, &job.centres);
     let cholesky = job.mode == INCOMPLETE_CHOLESKY;
     let outcome = prepared.solve(job.limit as usize, tolerances, cholesky);
     (outcome, prepared)
@@ -91,9 +95,9 @@ fn told(answer: Answer, by: RustOutcome) -> bool {
     rust_outcome(answer.refusal()) == Some(by)
 }
 
-/// Multipliers, solution and impulses; at count 0 the Rust makes neither of the last two.
+/// Multipliers, centres, solution and impulses; at count 0 the Rust makes neither of the last two.
 fn same_delivery(prepared: &Prepared, solved: &Solved, count: usize) -> bool {
-    if !same_bits(&prepared.multipliers(), &solved.multipliers) {
+    if !same_bits(&prepared.multipliers(), &solved.multipliers) || !same_centres(prepared, solved) {
         return false;
     }
     let applied = prepared.applied();
@@ -106,5 +110,16 @@ fn same_delivery(prepared: &Prepared, solved: &Solved, count: usize) -> bool {
         && applied.iter().zip(wanted).all(|(found, wanted)| match found {
             Some(six) => same_bits(six, wanted),
             None => wanted.iter().all(|value| *value == 0.0),
+        })
+}
+
+/// Each body's new centre, or that it overflows.
+fn same_centres(prepared: &Prepared, solved: &Solved) -> bool {
+    let found = prepared.next_centers();
+    let wanted = solved.centres.chunks_exact(3);
+    found.len() == wanted.len()
+        && found.iter().zip(wanted).all(|(found, wanted)| match found {
+            Some(centre) => same_bits(centre, wanted),
+            None => !wanted.iter().all(|value| value.is_finite()),
         })
 }

@@ -27,7 +27,7 @@ fn of_job(job: &Job) -> String {
             writeln!(text, "gap{}", gap(&checked)).unwrap();
             writeln!(text, "carried{}", hexadecimal(&[linear, angular])).unwrap();
             writeln!(text, "close {}", verdict(&checked)).unwrap();
-            delivered(&mut text, &solved);
+            delivered(&mut text, &solved, job.spare == 1);
             text
         }
     }
@@ -43,12 +43,15 @@ pub fn verdict(checked: &Judged<Checked>) -> u32 {
     checked.as_ref().map_or_else(|refusal| *refusal, |found| u32::from(found.closed))
 }
 
-fn delivered(text: &mut String, solved: &Solved) {
+/// A body's new centre is told of a file that has centres.
+fn delivered(text: &mut String, solved: &Solved, centres: bool) {
     for (row, multiplier) in solved.multipliers.iter().enumerate() {
         writeln!(text, "row {row}{}", hexadecimal(&[*multiplier])).unwrap();
     }
-    for (body, six) in solved.impulses.chunks_exact(6).enumerate() {
-        writeln!(text, "body {body}{}", hexadecimal(six)).unwrap();
+    let bodies = solved.impulses.chunks_exact(6).zip(solved.centres.chunks_exact(3));
+    for (body, (six, centre)) in bodies.enumerate() {
+        let told = if centres { hexadecimal(centre) } else { String::new() };
+        writeln!(text, "body {body}{}{told}", hexadecimal(six)).unwrap();
     }
 }
 

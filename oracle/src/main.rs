@@ -30,6 +30,7 @@ const USAGE: &str = "usage: oracle/run COMMAND
   drive LIBRARY [JOBS] [SEED]     an implementation (see oracle/wrap) against the judge
   shifts LIBRARY [JOBS] [SEED]    the same with a shift for each job
   rules LIBRARY [JOBS] [SEED]     the same with a table of rules for each job
+  centres LIBRARY [JOBS] [SEED]   the same with centres for each job's bodies
   record                          makes the recorded solves in crates/solve_recorded
   replay                          judges the recorded solves anew
   cover                           counts what the recorded solves meet
@@ -39,7 +40,8 @@ const USAGE: &str = "usage: oracle/run COMMAND
   bench-closing LIBRARY           time of an implementation's closing check at 512 rows
   bench-program PROGRAM           time of the job program's process on the largest job
   job FILE                        what the job program prints of a job file
-  files FOLDER [JOBS] [SEED]      job files in every placement, with what the program prints
+  files FOLDER [JOBS] [SEED] [SPARE]
+                                  job files in every placement, with what the program prints
   program PROGRAM [FILES] [SEED]  the job program's own process on generated, damaged and random files
   inertia record                  makes the recorded matrices in crates/inertia_recorded
   inertia PROGRAM [COUNT] [SEED]  that program, target/bin/inertia_recorded, on drawn matrices
@@ -74,6 +76,9 @@ fn command(words: &[&str]) -> Result<bool, String> {
         ["rules", library, ..] => {
             driver::rules(library, number(2, 100_000)?, number(3, 1)?, &home())
         }
+        ["centres", library, ..] => {
+            driver::centres(library, number(2, 100_000)?, number(3, 1)?, &home())
+        }
         ["record"] => recorded::make(&home()),
         ["replay"] => recorded::replay(&home()),
         ["cover"] => recorded::cover(&home()),
@@ -89,7 +94,9 @@ fn command(words: &[&str]) -> Result<bool, String> {
             Ok(true)
         }
         ["program", program, ..] => program::run(program, number(2, 1000)?, number(3, 1)?, &home()),
-        ["files", folder, ..] => file_jobs::write(folder, number(2, 1000)?, number(3, 1)?),
+        ["files", folder, ..] => {
+            file_jobs::write(folder, number(2, 1000)?, number(3, 1)?, number(4, 0)? as u32)
+        }
         ["inertia", "record"] => inertia::record(&home()),
         ["inertia", program, ..] => inertia::drive(program, number(2, 500_000)?, number(3, 1)?),
         ["examples"] => listing::examples(&home()),

@@ -4,6 +4,7 @@
 //! never becomes finite again under +, -, × and division by a finite number.
 
 mod algebra;
+mod centres;
 mod closing;
 mod operator;
 mod preconditioner;
@@ -31,7 +32,17 @@ fn pass(number: u32, passes: bool) -> Judged<()> {
 }
 
 pub fn solve(job: &Job) -> Solved {
+    settled(delivered(job))
+}
+
+/// The same but for 17 by a new centre, which the Rust does not work where it is compared.
+pub fn delivered(job: &Job) -> Solved {
     attempt(job).unwrap_or_else(Solved::refused)
+}
+
+/// Refused by 17 where a centre comes out not finite.
+pub fn settled(delivered: Solved) -> Solved {
+    if all_finite(&delivered.centres) { delivered } else { Solved::refused(17) }
 }
 
 /// The job program's solve: it judges its two tolerances by 26, after 3 and 4, and then takes
@@ -59,7 +70,9 @@ fn attempt(job: &Job) -> Judged<Solved> {
     let multipliers: Vec<f64> = gained.collect();
     pass(17, all_finite(&multipliers))?;
     let answer = answer(&table, &ended.residual, ended.count, ended.flag);
-    Ok(Solved { answer, solution: ended.solution, multipliers, impulses, rules: table.rules })
+    let centres = centres::moved(job, &table.masses, &impulses);
+    let solution = ended.solution;
+    Ok(Solved { answer, solution, multipliers, impulses, centres, rules: table.rules })
 }
 
 /// The table and step 0 of a job that comes to its factor.
@@ -69,13 +82,14 @@ pub fn at_factor(job: &Job) -> Option<(Table, Begun)> {
     (!table.meets(&begun.residual)).then_some((table, begun))
 }
 
-/// Count 0: multipliers keep their bits, solution and impulses are +0.0.
+/// Count 0: multipliers and centres keep their bits, solution and impulses are +0.0.
 fn at_step_zero(job: &Job, table: &Table, residual: &[f64]) -> Solved {
     Solved {
         answer: answer(table, residual, 0, true),
         solution: vec![0.0; table.rows.len()],
         multipliers: job.multipliers(),
         impulses: vec![0.0; 6 * table.masses.len()],
+        centres: job.centres.clone(),
         rules: table.rules.clone(),
     }
 }

@@ -26,13 +26,23 @@ pub fn pack(entry: &Entry) -> Vec<u8> {
     let mut bytes = header(job, &solved.answer, *closing);
     pack_records(&mut bytes, &row_words(job), ROW_RECORD);
     pack_records(&mut bytes, &bits(&job.masses), MASS_NUMBERS);
+    pack_records(&mut bytes, &bits(&job.centres), CENTRE_NUMBERS);
     if let Answer::Accepted { .. } = solved.answer {
         let delivered = solved.solution.iter().zip(&solved.multipliers);
         let delivered: Vec<u64> = delivered.flat_map(|(s, m)| [s.to_bits(), m.to_bits()]).collect();
         pack_records(&mut bytes, &delivered, DELIVERY_RECORD);
         pack_records(&mut bytes, &bits(&solved.impulses), IMPULSE_NUMBERS);
+        pack_records(&mut bytes, &bits(&solved.centres), CENTRE_NUMBERS);
     }
     bytes
+}
+
+/// How much of it the centres take, those given and those delivered.
+pub fn centre_bytes(entry: &Entry) -> usize {
+    let mut bytes = Vec::new();
+    pack_records(&mut bytes, &bits(&entry.job.centres), CENTRE_NUMBERS);
+    pack_records(&mut bytes, &bits(&entry.solved.centres), CENTRE_NUMBERS);
+    bytes.len()
 }
 
 fn header(job: &Job, answer: &Answer, closing: u32) -> Vec<u8> {

@@ -13,10 +13,12 @@ static const uint64_t untouched = 0x5eed5eed5eed5eed;
 
 void oracle_solve_position(
     double *numbers, size_t numbers_len, const uint32_t *words, size_t words_len,
-    const double *masses, size_t masses_len, const uint32_t *rule_words, size_t rule_words_len,
+    const double *masses, size_t masses_len, const double *centres, size_t centres_len,
+    const uint32_t *rule_words, size_t rule_words_len,
     const double *rule_tolerances, size_t rule_tolerances_len,
     uint32_t rows, uint32_t bodies, uint32_t limit, uint32_t mode, double shift,
     double *solution, size_t solution_len, double *impulses, size_t impulses_len,
+    double *new_centres, size_t new_centres_len,
     uint32_t *rule_numbers, size_t rule_numbers_len, uint64_t *answer, size_t answer_len)
 {
     uint32_t counts[2] = {(uint32_t)untouched, (uint32_t)untouched};
@@ -24,9 +26,10 @@ void oracle_solve_position(
     double maxima[2];
     memcpy(maxima, bits, sizeof maxima);
     uint32_t refusal = kapitsa_solve_in(
-        numbers, numbers_len, words, words_len, masses, masses_len, rule_words, rule_words_len,
-        rule_tolerances, rule_tolerances_len, rows, bodies, limit, mode, shift, solution,
-        solution_len, impulses, impulses_len, rule_numbers, rule_numbers_len, counts, maxima,
+        numbers, numbers_len, words, words_len, masses, masses_len, centres, centres_len, rule_words,
+        rule_words_len, rule_tolerances, rule_tolerances_len, rows, bodies, limit, mode, shift,
+        solution, solution_len, impulses, impulses_len, new_centres, new_centres_len, rule_numbers,
+        rule_numbers_len, counts, maxima,
         work_doubles, kapitsa_solve_doubles(rows, bodies, mode),
         work_words, kapitsa_solve_words(rows, bodies, mode));
     memcpy(bits, maxima, sizeof bits);
@@ -41,7 +44,8 @@ void oracle_solve_position(
 
 void oracle_closing_check(
     const double *numbers, size_t numbers_len, const uint32_t *words, size_t words_len,
-    const double *masses, size_t masses_len, const uint32_t *rule_words, size_t rule_words_len,
+    const double *masses, size_t masses_len, const double *centres, size_t centres_len,
+    const uint32_t *rule_words, size_t rule_words_len,
     const double *rule_tolerances, size_t rule_tolerances_len,
     uint32_t rows, uint32_t bodies, const double *multipliers, size_t multipliers_len,
     uint32_t *rule_numbers, size_t rule_numbers_len, uint64_t *answer, size_t answer_len)
@@ -51,9 +55,9 @@ void oracle_closing_check(
     double gap[2];
     memcpy(gap, bits, sizeof gap);
     uint32_t refusal = kapitsa_check_in(
-        numbers, numbers_len, words, words_len, masses, masses_len, rule_words, rule_words_len,
-        rule_tolerances, rule_tolerances_len, rows, bodies, multipliers, multipliers_len,
-        rule_numbers, rule_numbers_len, &verdict, gap,
+        numbers, numbers_len, words, words_len, masses, masses_len, centres, centres_len, rule_words,
+        rule_words_len, rule_tolerances, rule_tolerances_len, rows, bodies, multipliers,
+        multipliers_len, rule_numbers, rule_numbers_len, &verdict, gap,
         work_doubles, kapitsa_check_doubles(rows, bodies),
         work_words, kapitsa_check_words(rows, bodies));
     memcpy(bits, gap, sizeof bits);

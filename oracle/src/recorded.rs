@@ -4,11 +4,11 @@
 use crate::blocks;
 use crate::cover::Cover;
 use crate::generator::{self, Sizes};
-use crate::job::{BLOCK_JACOBI, Job, MASS_NUMBERS, ROW_NUMBERS, Solved};
+use crate::job::{BLOCK_JACOBI, CENTRE_NUMBERS, Job, MASS_NUMBERS, ROW_NUMBERS, Solved};
 use crate::judge::{Judged, judge};
 use crate::listing::verdict;
 use crate::model;
-use crate::packing::{Entry, pack, pack_list};
+use crate::packing::{Entry, centre_bytes, pack, pack_list};
 use crate::tally::{Outcome, Tally};
 use crate::unpacking::unpack_both;
 use std::collections::BTreeMap;
@@ -25,16 +25,16 @@ const NAMES: [&str; 2] = ["answers of the reference", "answers by definition"];
 const SEED: u64 = 20;
 const CANDIDATES: u64 = 400_000;
 const PINS: u64 = 100_000;
-/// A job that was drawn takes at most this many bytes.
+/// A job that was drawn takes at most this many bytes, without its centres.
 const MAX_ENTRY: usize = 1_400;
 
 /// Why a job is taken: always, while its outcome is wanted, or while `cover` wants what it
-/// meets.
+/// meets, of centres or of all else.
 #[derive(Clone, Copy, PartialEq)]
 enum Taken {
     Always,
     ForOutcome,
-    ForItem,
+    ForItem { centred: bool },
 }
 
 struct List {
@@ -70,11 +70,13 @@ impl Recording {
         let closing = closing_word(&job, &solved);
         let entry = Entry { job, solved, closing };
         let packed = pack(&entry);
-        if taken != Taken::Always && packed.len() > MAX_ENTRY {
+        if taken != Taken::Always && packed.len() - centre_bytes(&entry) > MAX_ENTRY {
             return Ok(());
         }
         let met = self.cover.met(&entry.job, &entry.solved)?;
-        if taken == Taken::ForItem && !self.cover.wants(&met) {
+        if let Taken::ForItem { centred } = taken
+            && !self.cover.wants(&met, centred)
+        {
             return Ok(());
         }
         *drawn += usize::from(taken == Taken::ForOutcome);
@@ -100,7 +102,7 @@ fn position_quota(_mode: u32, outcome: Outcome) -> usize {
     }
 }
 
-/// Answers by definition alone: mode 2, and refusals 3, 4, 6, 10 and 27.
+/// Answers by definition alone: mode 2, refusals 3, 4, 6, 10 and 27, and 17 by a new centre.
 fn defined_quota(mode: u32, outcome: Outcome) -> usize {
     match (mode, outcome) {
         (BLOCK_JACOBI, Outcome::FlagZero | Outcome::FlagOne) => 45,
@@ -113,6 +115,7 @@ fn defined_quota(mode: u32, outcome: Outcome) -> usize {
 fn recordable(job: &Job) -> bool {
     job.numbers.len() == ROW_NUMBERS * job.rows as usize
         && job.masses.len() == MASS_NUMBERS * job.bodies as usize
+        && job.centres.len() == CENTRE_NUMBERS * job.bodies as usize
 }
 
 pub fn make(home: &Path) -> Result<bool, String> {
@@ -126,8 +129,16 @@ pub fn make(home: &Path) -> Result<bool, String> {
         recording.offer(job, Taken::ForOutcome)?;
     }
     let mut pins = (0..PINS).map(|index| generator::pin(SEED, index));
-    while let (false, Some(job)) = (recording.cover.full(), pins.next()) {
-        recording.offer(job, Taken::ForItem)?;
+    while let (false, Some(job)) = (recording.cover.full(false), pins.next()) {
+        recording.offer(job, Taken::ForItem { centred: false })?;
+    }
+    for job in generator::fixed_centres() {
+        recording.offer(job, Taken::Always)?;
+    }
+    let pins = (0..PINS).map(|index| generator::centred_pin(SEED, index));
+    let mut pins = pins.filter(recordable);
+    while let (false, Some(job)) = (recording.cover.full(true), pins.next()) {
+        recording.offer(job, Taken::ForItem { centred: true })?;
     }
     write(home, &recording)
 }
@@ -148,10 +159,11 @@ fn write(home: &Path, recording: &Recording) -> Result<bool, String> {
     std::fs::write(home.join(LISTS), bytes)
         .and_then(|()| std::fs::write(home.join(PRINTED), printed))
         .map_err(|error| error.to_string())?;
-    if !recording.cover.full() {
+    let full = recording.cover.full(false) && recording.cover.full(true);
+    if !full {
         recording.cover.print();
     }
-    Ok(recording.cover.full())
+    Ok(full)
 }
 
 /// What the program prints where no job differs; at count 0 the flag is 1.
@@ -181,8 +193,7 @@ pub fn replay(home: &Path) -> Result<bool, String> {
         good &= differ == 0;
     }
     let blocks = both.iter().flatten().filter(|entry| entry.job.mode == BLOCK_JACOBI);
-    let witnessed: Vec<bool> =
-        blocks.filter_map(|entry| blocks::witnessed(&entry.job, &entry.solved)).collect();
+    let witnessed: Vec<bool> = blocks.filter_map(|entry| blocks::witnessed(&entry.job)).collect();
     let differ = witnessed.iter().filter(|same| !**same).count();
     println!("mode 2: {} jobs as the velocity side's blocks, {differ} differ", witnessed.len());
     good &= differ == 0;
@@ -210,5 +221,5 @@ pub fn cover(home: &Path) -> Result<bool, String> {
         cover.add(&met);
     }
     cover.print();
-    Ok(cover.full())
+    Ok(cover.full(false) && cover.full(true))
 }

@@ -82,6 +82,7 @@ fn entry(cursor: &mut Cursor) -> Result<Entry, String> {
         job.words.extend(row[ROW_NUMBERS..].iter().map(|word| *word as u32));
     }
     job.masses = cursor.doubles(bodies, MASS_NUMBERS)?;
+    job.centres = cursor.doubles(bodies, CENTRE_NUMBERS)?;
     let mut solved = Solved::refused(refusal);
     if refusal == 0 {
         solved.answer = Answer::Accepted { flag, count, linear, angular };
@@ -90,6 +91,7 @@ fn entry(cursor: &mut Cursor) -> Result<Entry, String> {
             solved.multipliers.push(pair[1]);
         }
         solved.impulses = cursor.doubles(bodies, IMPULSE_NUMBERS)?;
+        solved.centres = cursor.doubles(bodies, CENTRE_NUMBERS)?;
         // Of the two rules that the tolerances stand for, a row is under that of its dimension.
         solved.rules = (0..rows).map(|row| job.word(row, DIMENSION)).collect();
     }

@@ -3,6 +3,8 @@ ghost use mathlib.Core.Path.{_≡_};
 ghost use mathlib.Core.Bool.{true};
 ghost use Prim.Native.Nat.{_≤_};
 ghost use Rattle.kapitsa_joint.specs.Table.{tableOf};
+ghost use Rattle.kapitsa_joint.specs.Centre.{centresIn};
+ghost use Rattle.joint_refusals.specs.Refusals.{centresFinite};
 ghost use Rattle.mass_operator.specs.Flat.{coefficients};
 ghost use Rattle.check_range.specs.Closing.{closingOf};
 ghost use Rattle.check_refusals.specs.Refusals.{givenFits, tableLengths};
@@ -20,15 +22,16 @@ fn with_small_memory(
     numbers: &[f64],
     words: &[u32],
     masses: &[f64],
+    centres: &[f64],
     multipliers: &[f64],
     rule_words: &[u32],
     rule_tolerances: &[f64],
     rule_numbers: &mut [u32],
 ) -> CheckAnswer
-    requires { ⌜ givenFits n b (tableLengths (now numbers) (now words) (now masses) (now multipliers) (now «rule_words») (now «rule_tolerances») (now «rule_numbers»)) ≡ true ⌝ }
+    requires { ⌜ givenFits n b (tableLengths (now numbers) (now words) (now masses) (now centres) (now multipliers) (now «rule_words») (now «rule_tolerances») (now «rule_numbers»)) ≡ true ⌝ }
     requires { ⌜ (n ≤ 128) × (b ≤ 64) ⌝ }
-    ensures { λ r. ⌜ AloneHeld (givenFits n b (tableLengths (now (numbers .entry)) (now (words .entry)) (now (masses .entry)) (now (multipliers .entry)) (now («rule_words» .entry)) (now («rule_tolerances» .entry)) (now («rule_numbers» .entry)))) (rulesIn (now («rule_words» .entry)) (now («rule_tolerances» .entry)))
-        (closingOf (tableOf n b (now (numbers .entry)) (now (words .entry)) (now (masses .entry))) (coefficients (now (multipliers .entry))) (rulesIn (now («rule_words» .entry)) (now («rule_tolerances» .entry)))) r (now («rule_numbers» .entry)) (now («rule_numbers» .exit)) ⌝ }
+    ensures { λ r. ⌜ AloneHeld (givenFits n b (tableLengths (now (numbers .entry)) (now (words .entry)) (now (masses .entry)) (now (centres .entry)) (now (multipliers .entry)) (now («rule_words» .entry)) (now («rule_tolerances» .entry)) (now («rule_numbers» .entry)))) (rulesIn (now («rule_words» .entry)) (now («rule_tolerances» .entry)))
+        (closingOf (tableOf n b (now (numbers .entry)) (now (words .entry)) (now (masses .entry))) (coefficients (now (multipliers .entry))) (rulesIn (now («rule_words» .entry)) (now («rule_tolerances» .entry))) (centresFinite (centresIn b (now (centres .entry))))) r (now («rule_numbers» .entry)) (now («rule_numbers» .exit)) ⌝ }
 {
     let mut jacobians: [f64; 1536] = [0.0; 1536];
     let mut links: [u32; 256] = [0; 256];
@@ -49,6 +52,7 @@ fn with_small_memory(
         numbers,
         words,
         masses,
+        centres,
         multipliers,
         rule_words,
         rule_tolerances,
@@ -70,19 +74,21 @@ pub fn checked_small(
     numbers: &[f64],
     words: &[u32],
     masses: &[f64],
+    centres: &[f64],
     multipliers: &[f64],
     rule_words: &[u32],
     rule_tolerances: &[f64],
     rule_numbers: &mut [u32],
 ) -> CheckAnswer
     requires { ⌜ (n ≤ 128) × (b ≤ 64) ⌝ }
-    ensures { λ r. ⌜ AloneHeld (givenFits n b (tableLengths (now (numbers .entry)) (now (words .entry)) (now (masses .entry)) (now (multipliers .entry)) (now («rule_words» .entry)) (now («rule_tolerances» .entry)) (now («rule_numbers» .entry)))) (rulesIn (now («rule_words» .entry)) (now («rule_tolerances» .entry)))
-        (closingOf (tableOf n b (now (numbers .entry)) (now (words .entry)) (now (masses .entry))) (coefficients (now (multipliers .entry))) (rulesIn (now («rule_words» .entry)) (now («rule_tolerances» .entry)))) r (now («rule_numbers» .entry)) (now («rule_numbers» .exit)) ⌝ }
+    ensures { λ r. ⌜ AloneHeld (givenFits n b (tableLengths (now (numbers .entry)) (now (words .entry)) (now (masses .entry)) (now (centres .entry)) (now (multipliers .entry)) (now («rule_words» .entry)) (now («rule_tolerances» .entry)) (now («rule_numbers» .entry)))) (rulesIn (now («rule_words» .entry)) (now («rule_tolerances» .entry)))
+        (closingOf (tableOf n b (now (numbers .entry)) (now (words .entry)) (now (masses .entry))) (coefficients (now (multipliers .entry))) (rulesIn (now («rule_words» .entry)) (now («rule_tolerances» .entry))) (centresFinite (centresIn b (now (centres .entry))))) r (now («rule_numbers» .entry)) (now («rule_numbers» .exit)) ⌝ }
 {
     let table = TableLengths {
         numbers: numbers.len(),
         words: words.len(),
         masses: masses.len(),
+        centres: centres.len(),
         multipliers: multipliers.len(),
         rule_words: rule_words.len(),
         rule_tolerances: rule_tolerances.len(),
@@ -97,6 +103,7 @@ pub fn checked_small(
         numbers,
         words,
         masses,
+        centres,
         multipliers,
         rule_words,
         rule_tolerances,

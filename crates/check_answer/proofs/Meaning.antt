@@ -226,7 +226,7 @@ pub refusal-above : (fits : Bool) (c : Closing) → Ranges.Listed (λ n. 1 < n) 
 unfolding Ranges.Listed
 refusal-above fits c above n h =
     let t = c .table in
-    let rest : List (ℕ × Bool) = (6, passes6 t) ∷ (7, passes7 t) ∷ (18, passes18 c) ∷ [] in
+    let rest : List (ℕ × Bool) = (6, passes6 t && c .placed) ∷ (7, passes7 t) ∷ (18, passes18 c) ∷ [] in
     let last : Ranges.Listed (λ n. 1 < n) rest = (omega arith, (omega arith, (omega arith, tt))) in
     among-judge (λ n. 1 < n) (judgements fits c) (omega arith, (omega arith, listed-after (λ n. 1 < n) (c .toleranceTests) rest above last)) n (judge-ended (judgements fits c) n .1 h)
 

@@ -17,6 +17,7 @@ pub record Given (n b : ℕ) (t : TableLengths) : Type 0 where
   pub numbers : t .numbers ≡ 27 * n
   pub words : t .words ≡ 8 * n
   pub masses : t .masses ≡ 10 * b
+  pub centres : t .centres ≡ 3 * b
   pub multipliers : t .multipliers ≡ n
   pub ruleWords : t .«rule_words» ≡ 3 * t .«rule_tolerances»
   pub ruleTolerances : t .«rule_tolerances» ≤ 64
@@ -28,15 +29,17 @@ given-of n b t h =
     let a1 = eqb (t .numbers) (27 * n) in
     let a2 = eqb (t .words) (8 * n) in
     let a3 = eqb (t .masses) (10 * b) in
-    let a4 = eqb (t .multipliers) n in
-    let a5 = leb (t .«rule_tolerances») 64 in
-    let a6 = eqb (t .«rule_words») (3 * t .«rule_tolerances») in
-    let a7 = eqb (t .«rule_numbers») n in
-    let (p, q) = both (leb n 512 && leb b 256) (((((a1 && a2) && a3) && a4) && (a5 && a6)) && a7) h in
+    let a4 = eqb (t .centres) (3 * b) in
+    let a5 = eqb (t .multipliers) n in
+    let a6 = leb (t .«rule_tolerances») 64 in
+    let a7 = eqb (t .«rule_words») (3 * t .«rule_tolerances») in
+    let a8 = eqb (t .«rule_numbers») n in
+    let (p, q) = both (leb n 512 && leb b 256) ((((((a1 && a2) && a3) && a4) && a5) && (a6 && a7)) && a8) h in
     let (r, s) = both (leb n 512) (leb b 256) p in
-    let (q5, h7) = both ((((a1 && a2) && a3) && a4) && (a5 && a6)) a7 q in
-    let (q4, h56) = both (((a1 && a2) && a3) && a4) (a5 && a6) q5 in
-    let (h5, h6) = both a5 a6 h56 in
+    let (q6, h8) = both (((((a1 && a2) && a3) && a4) && a5) && (a6 && a7)) a8 q in
+    let (q5, h67) = both ((((a1 && a2) && a3) && a4) && a5) (a6 && a7) q6 in
+    let (h6, h7) = both a6 a7 h67 in
+    let (q4, h5) = both (((a1 && a2) && a3) && a4) a5 q5 in
     let (q3, h4) = both ((a1 && a2) && a3) a4 q4 in
     let (q2, h3) = both (a1 && a2) a3 q3 in
     let (h1, h2) = both a1 a2 q2 in
@@ -46,10 +49,11 @@ given-of n b t h =
       numbers = eqb-true (t .numbers) (27 * n) h1;
       words = eqb-true (t .words) (8 * n) h2;
       masses = eqb-true (t .masses) (10 * b) h3;
-      multipliers = eqb-true (t .multipliers) n h4;
-      ruleWords = eqb-true (t .«rule_words») (3 * t .«rule_tolerances») h6;
-      ruleTolerances = leb-true (t .«rule_tolerances») 64 h5;
-      ruleNumbers = eqb-true (t .«rule_numbers») n h7;
+      centres = eqb-true (t .centres) (3 * b) h4;
+      multipliers = eqb-true (t .multipliers) n h5;
+      ruleWords = eqb-true (t .«rule_words») (3 * t .«rule_tolerances») h7;
+      ruleTolerances = leb-true (t .«rule_tolerances») 64 h6;
+      ruleNumbers = eqb-true (t .«rule_numbers») n h8;
     }
 
 -- ---- the work memory

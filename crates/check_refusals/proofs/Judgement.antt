@@ -1,7 +1,7 @@
 -- What a table tells that the tests after refusal 3 let pass. Assumes nothing.
 use Prim.Native.Nat.{ℕ, _*_}
-use mathlib.Core.Path.{_≡_, _∙_}
-use mathlib.Core.Bool.{Bool, true}
+use mathlib.Core.Path.{_≡_, ap, _∙_}
+use mathlib.Core.Bool.{Bool, true, _&&_}
 use mathlib.Core.List.{List, [], _∷_}
 use lib.Ieee.{Float}
 use Rattle.loops.specs.Every.{every}
@@ -26,11 +26,15 @@ words-pass rows bodies numbers words masses e = e
 pub rows-pass : (s : Rules) (rows bodies : ℕ) (numbers : List Float) (words : List ℕ) (masses : List Float) {p : Bool} → p ≡ rowsRuled s words rows → p ≡ passes28 s (tableOf rows bodies numbers words masses)
 rows-pass s rows bodies numbers words masses e = e ∙ lent-28 s rows bodies numbers words masses
 
+-- ---- and 6 judges the centres with the masses
+pub placed-pass : (placed : Bool) {p q : Bool} → p ≡ q → (p && placed) ≡ (q && placed)
+placed-pass placed e = ap (λ (b : Bool). b && placed) e
+
 -- ---- what a list of which all pass tells
 module _ (c : Closing) (p : AllPass (tableTests c)) where
-  after-4 : AllPass (c .toleranceTests) × AllPass ((6, passes6 (c .table)) ∷ (7, passes7 (c .table)) ∷ (18, passes18 c) ∷ [])
+  after-4 : AllPass (c .toleranceTests) × AllPass ((6, passes6 (c .table) && c .placed) ∷ (7, passes7 (c .table)) ∷ (18, passes18 c) ∷ [])
   unfolding AllPass
-  after-4 = both-pass (c .toleranceTests) ((6, passes6 (c .table)) ∷ (7, passes7 (c .table)) ∷ (18, passes18 c) ∷ []) (p .1)
+  after-4 = both-pass (c .toleranceTests) ((6, passes6 (c .table) && c .placed) ∷ (7, passes7 (c .table)) ∷ (18, passes18 c) ∷ []) (p .1)
 
   pub passed-tolerances : AllPass (c .toleranceTests)
   passed-tolerances = after-4 .0

@@ -12,7 +12,7 @@ use Rattle.check_refusals.specs.declared.fit.WorkLengths.{WorkLengths}
 
 -- "a lent slice has not the length the counts call for"
 unfoldable pub tableFits : ℕ → ℕ → TableLengths → Bool
-tableFits n b l = ((rowsFit n b (l .numbers) (l .words) (l .masses) && eqb (l .multipliers) n) && ruleLengthsFit (l .«rule_words») (l .«rule_tolerances»)) && eqb (l .«rule_numbers») n
+tableFits n b l = (((rowsFit n b (l .numbers) (l .words) (l .masses) && eqb (l .centres) (3 * b)) && eqb (l .multipliers) n) && ruleLengthsFit (l .«rule_words») (l .«rule_tolerances»)) && eqb (l .«rule_numbers») n
 
 -- of what a caller gives
 unfoldable pub givenFits : ℕ → ℕ → TableLengths → Bool
@@ -26,11 +26,12 @@ unfoldable pub passes3 : ℕ → ℕ → TableLengths → WorkLengths → Bool
 passes3 n b t w = givenFits n b t && workFits n b w
 
 -- the lengths of the lent lists
-abbrev pub tableLengths : List Float → List ℕ → List Float → List Float → List ℕ → List Float → List ℕ → TableLengths
-tableLengths numbers words masses multipliers ruleWords ruleTolerances ruleNumbers = record {
+abbrev pub tableLengths : List Float → List ℕ → List Float → List Float → List Float → List ℕ → List Float → List ℕ → TableLengths
+tableLengths numbers words masses centres multipliers ruleWords ruleTolerances ruleNumbers = record {
   numbers = length numbers;
   words = length words;
   masses = length masses;
+  centres = length centres;
   multipliers = length multipliers;
   «rule_words» = length ruleWords;
   «rule_tolerances» = length ruleTolerances;

@@ -11,6 +11,7 @@ pub struct TableLengths {
     pub numbers: usize,
     pub words: usize,
     pub masses: usize,
+    pub centres: usize,
     pub multipliers: usize,
     pub rule_words: usize,
     pub rule_tolerances: usize,
@@ -35,6 +36,7 @@ fn table_fits(n: usize, b: usize, lengths: TableLengths) -> bool
     (lengths.numbers == 27 * n)
         & (lengths.words == 8 * n)
         & (lengths.masses == 10 * b)
+        & (lengths.centres == 3 * b)
         & (lengths.multipliers == n)
         & rule_lengths_fit(lengths.rule_words, lengths.rule_tolerances)
         & (lengths.rule_numbers == n)

@@ -20,6 +20,7 @@ pub enum TableJudged {
     Refused(u32),
 }
 
+// `placed` tells whether the centres are finite.
 pub fn judge_table(
     rows: u32,
     bodies: u32,
@@ -29,9 +30,10 @@ pub fn judge_table(
     multipliers: &[f64],
     rule_words: &[u32],
     rule_tolerances: &[f64],
+    placed: bool,
 ) -> TableJudged
     requires { ⌜ (27 * rows ≤ length (now numbers)) × (8 * rows ≤ length (now words)) × (10 * bodies ≤ length (now masses)) × (rows ≤ length (now multipliers)) × (3 * length (now «rule_tolerances») ≤ length (now «rule_words»)) ⌝ }
-    ensures { λ r. ⌜ judge (tableTests (closingOf (tableOf rows bodies (now (numbers .entry)) (now (words .entry)) (now (masses .entry))) (coefficients (now (multipliers .entry))) (rulesIn (now («rule_words» .entry)) (now («rule_tolerances» .entry))))) ≡ judgedOut r ⌝ }
+    ensures { λ r. ⌜ judge (tableTests (closingOf (tableOf rows bodies (now (numbers .entry)) (now (words .entry)) (now (masses .entry))) (coefficients (now (multipliers .entry))) (rulesIn (now («rule_words» .entry)) (now («rule_tolerances» .entry))) placed)) ≡ judgedOut r ⌝ }
 {
     let n = rows as usize;
     let b = bodies as usize;
@@ -44,7 +46,7 @@ pub fn judge_table(
     if !rows_ruled(words, rule_words, rule_tolerances, n) {
         return TableJudged::Refused(28);
     }
-    if !masses_finite(masses, b) {
+    if !(masses_finite(masses, b) & placed) {
         return TableJudged::Refused(6);
     }
     if !rows_valid(numbers, words, n, bodies) {

@@ -1,5 +1,6 @@
 -- The numbers of the lent lists are doubles. Assumes nothing.
 use Prim.Native.Nat.{ℕ, _+_, _*_}
+use mathlib.Core.Bool.{Bool}
 use mathlib.Core.List.{List}
 use lib.Dec.{T}
 use lib.ListN.{getD}
@@ -15,13 +16,13 @@ use Rattle.mass_operator.specs.Flat.{coefficients}
 use Rattle.check_range.specs.Closing.{closingOf}
 use Rattle.check_answer.proofs.Meaning.{HeldVec, Held}
 
-module _ (rows bodies : ℕ) (numbers : List Float) (words : List ℕ) (masses multipliers : List Float) (ruleWords : List ℕ) (ruleTolerances : List Float) where
+module _ (rows bodies : ℕ) (numbers : List Float) (words : List ℕ) (masses multipliers : List Float) (ruleWords : List ℕ) (ruleTolerances : List Float) (placed : Bool) where
   held-vec : (l : List Float) → ((k : ℕ) → T (fits binary64 (getD l k nan))) → (at : ℕ) → HeldVec (vecOf l at)
   unfolding vecOf
   held-vec l h at = record { x = h at; y = h (at + 1); z = h (at + 2) }
 
   pub held-of : ((k : ℕ) → T (fits binary64 (getD numbers k nan))) → ((k : ℕ) → T (fits binary64 (getD masses k nan))) → ((k : ℕ) → T (fits binary64 (getD multipliers k nan)))
-      → ((k : ℕ) → T (fits binary64 (getD ruleTolerances k nan))) → Held (closingOf (tableOf rows bodies numbers words masses) (coefficients multipliers) (rulesIn ruleWords ruleTolerances))
+      → ((k : ℕ) → T (fits binary64 (getD ruleTolerances k nan))) → Held (closingOf (tableOf rows bodies numbers words masses) (coefficients multipliers) (rulesIn ruleWords ruleTolerances) placed)
   unfolding rowOf jacobianOf scalarsOf massOf
   held-of n m x r = record {
     row = λ i. record { linearA = held-vec numbers n (27 * i); angularA = held-vec numbers n (27 * i + 3); linearB = held-vec numbers n (27 * i + 9); angularB = held-vec numbers n (27 * i + 12) };

@@ -1,7 +1,7 @@
 -- The judgements after refusal 3: a check that they refuse, and what one that passed has. Assumes nothing.
 use Prim.Native.Nat.{ℕ}
 use mathlib.Core.Path.{_≡_, refl, ap, _∙_}
-use mathlib.Core.Bool.{true}
+use mathlib.Core.Bool.{Bool, true}
 use mathlib.Core.List.{List}
 use lib.Ieee.{Float}
 use Rattle.loops.specs.Run.{ended, on}
@@ -47,14 +47,14 @@ valid-of rows bodies numbers words masses h = record {
 }
 
 -- what a table that passed them has
-module _ (rows bodies : ℕ) (numbers : List Float) (words : List ℕ) (masses : List Float) (listed : ℕ → Float) (s : Rules) {j : TableJudged}
-    (e : judge (tableTests (closingOf (tableOf rows bodies numbers words masses) listed s)) ≡ judgedOut j) where
+module _ (rows bodies : ℕ) (numbers : List Float) (words : List ℕ) (masses : List Float) (listed : ℕ → Float) (s : Rules) (placed : Bool) {j : TableJudged}
+    (e : judge (tableTests (closingOf (tableOf rows bodies numbers words masses) listed s placed)) ≡ judgedOut j) where
   pub valid-judged : j ≡ judged.Passed → Valid rows bodies numbers words
-  valid-judged h = let c = closingOf (tableOf rows bodies numbers words masses) listed s in valid-of rows bodies numbers words masses (passed-7 c (all-judged c e h))
+  valid-judged h = let c = closingOf (tableOf rows bodies numbers words masses) listed s placed in valid-of rows bodies numbers words masses (passed-7 c (all-judged c e h))
 
   pub ruled-judged : j ≡ judged.Passed → rowsRuled s words rows ≡ true
   unfolding AllPass
-  ruled-judged h = let c = closingOf (tableOf rows bodies numbers words masses) listed s in lent-28 s rows bodies numbers words masses ∙ passed-tolerances c (all-judged c e h) .1 .0
+  ruled-judged h = let c = closingOf (tableOf rows bodies numbers words masses) listed s placed in lent-28 s rows bodies numbers words masses ∙ passed-tolerances c (all-judged c e h) .1 .0
 
 pub valid-same : {n m b : ℕ} {numbers : List Float} {words : List ℕ} → m ≡ n → Valid n b numbers words → Valid m b numbers words
 valid-same e v = rw e v

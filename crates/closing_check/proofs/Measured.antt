@@ -31,10 +31,10 @@ use Rattle.check_answer.specs.declared.CheckAnswer.{CheckAnswer}
 use Rattle.check_answer.specs.declared.CheckAnswer.the-variants.{Closed, Open}
 use Rattle.closing_check.specs.Checked.{verdictIn}
 
-module _ (s : Rules) {rows bodies : ℕ} {numbers : List Float} {words : List ℕ} {masses multipliers : List Float} {before after : CheckMemory}
+module _ (s : Rules) (placed : Bool) {rows bodies : ℕ} {numbers : List Float} {words : List ℕ} {masses multipliers : List Float} {before after : CheckMemory}
     (m : Measured bodies numbers words masses multipliers before after) (e : length multipliers ≡ rows) where
   abbrev c : Closing
-  c = closingOf (tableOf rows bodies numbers words masses) (coefficients multipliers) s
+  c = closingOf (tableOf rows bodies numbers words masses) (coefficients multipliers) s placed
 
   values-is : after .values ≡ tabulate (valueOf c) rows
   unfolding productOf valueOf
@@ -82,9 +82,9 @@ module _ (words : List ℕ) (reaches : List Float) (s : Rules) (rows : ℕ) {r :
   one-misses h = rw (← p, h, ← g)
 
 -- ---- the rule of each row
-module _ (s : Rules) (rows bodies : ℕ) (numbers : List Float) (words : List ℕ) (masses : List Float) (listed : ℕ → Float) where
+module _ (s : Rules) (rows bodies : ℕ) (numbers : List Float) (words : List ℕ) (masses : List Float) (listed : ℕ → Float) (placed : Bool) where
   abbrev judged : Closing
-  judged = closingOf (tableOf rows bodies numbers words masses) listed s
+  judged = closingOf (tableOf rows bodies numbers words masses) listed s placed
 
   rules-are : tabulate (ruleIn s words) rows ≡ tabulate (judged .rule) rows
   unfolding rowOf wordsOf

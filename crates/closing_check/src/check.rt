@@ -4,6 +4,8 @@ ghost use Prim.Native.Nat.{_*_, _≤_};
 ghost use lib.ListN.{length};
 ghost use mathlib.Core.Bool.{true};
 ghost use Rattle.kapitsa_joint.specs.Table.{tableOf};
+ghost use Rattle.kapitsa_joint.specs.Centre.{centresIn};
+ghost use Rattle.joint_refusals.specs.Refusals.{centresFinite};
 ghost use Rattle.mass_operator.specs.Flat.{coefficients};
 ghost use Rattle.rules.specs.Rows.{rulesIn, rowsRuled};
 ghost use Rattle.check_range.specs.Closing.{closingOf};
@@ -22,6 +24,7 @@ use check_refusals::fits;
 use check_refusals::judge_table;
 use check_work::clear_work;
 use check_work::measure_rows;
+use joint_refusals::centres_finite;
 use rules::name_rules;
 
 // From each row's reach: closed where every one is within its tolerance, with the largest of each dimension.
@@ -53,6 +56,7 @@ fn judged_check(
     multipliers: &[f64],
     rule_words: &[u32],
     rule_tolerances: &[f64],
+    placed: bool,
     rule_numbers: &mut [u32],
     jacobians: &mut [f64],
     links: &mut [u32],
@@ -65,8 +69,8 @@ fn judged_check(
     requires { ⌜ Room rows bodies (now numbers) (now words) (now masses) (now multipliers) (memoryOf (now jacobians) (now links) (now «mass_sizes») (now «multiplier_sizes») (now impulses) (now values) (now sizes)) ⌝ }
     requires { ⌜ (length (now «rule_words») ≡ 3 * length (now «rule_tolerances»)) × (length (now «rule_tolerances») ≤ 64) × (length (now «rule_numbers») ≡ rows) ⌝ }
     requires { ⌜ rows ≤ 512 ⌝ }
-    ensures { λ r. ⌜ r ≡ checkOf true (closingOf (tableOf rows bodies (now (numbers .entry)) (now (words .entry)) (now (masses .entry))) (coefficients (now (multipliers .entry))) (rulesIn (now («rule_words» .entry)) (now («rule_tolerances» .entry)))) ⌝ }
-    ensures { λ r. ⌜ now («rule_numbers» .exit) ≡ namedBy r (closingOf (tableOf rows bodies (now (numbers .entry)) (now (words .entry)) (now (masses .entry))) (coefficients (now (multipliers .entry))) (rulesIn (now («rule_words» .entry)) (now («rule_tolerances» .entry)))) (now («rule_numbers» .entry)) ⌝ }
+    ensures { λ r. ⌜ r ≡ checkOf true (closingOf (tableOf rows bodies (now (numbers .entry)) (now (words .entry)) (now (masses .entry))) (coefficients (now (multipliers .entry))) (rulesIn (now («rule_words» .entry)) (now («rule_tolerances» .entry))) placed) ⌝ }
+    ensures { λ r. ⌜ now («rule_numbers» .exit) ≡ namedBy r (closingOf (tableOf rows bodies (now (numbers .entry)) (now (words .entry)) (now (masses .entry))) (coefficients (now (multipliers .entry))) (rulesIn (now («rule_words» .entry)) (now («rule_tolerances» .entry))) placed) (now («rule_numbers» .entry)) ⌝ }
 {
     let judged = judge_table(
         rows,
@@ -77,6 +81,7 @@ fn judged_check(
         multipliers,
         rule_words,
         rule_tolerances,
+        placed,
     );
     match judged {
         TableJudged::Refused(number) => {
@@ -111,6 +116,7 @@ pub fn closing_check(
     numbers: &[f64],
     words: &[u32],
     masses: &[f64],
+    centres: &[f64],
     multipliers: &[f64],
     rule_words: &[u32],
     rule_tolerances: &[f64],
@@ -123,9 +129,9 @@ pub fn closing_check(
     values: &mut [f64],
     sizes: &mut [f64],
 ) -> CheckAnswer
-    ensures { λ r. ⌜ Checked (passes3 rows bodies (tableLengths (now (numbers .entry)) (now (words .entry)) (now (masses .entry)) (now (multipliers .entry)) (now («rule_words» .entry)) (now («rule_tolerances» .entry)) (now («rule_numbers» .entry))) (workLengths (memoryOf (now (jacobians .entry)) (now (links .entry)) (now («mass_sizes» .entry)) (now («multiplier_sizes» .entry)) (now (impulses .entry)) (now (values .entry)) (now (sizes .entry)))))
+    ensures { λ r. ⌜ Checked (passes3 rows bodies (tableLengths (now (numbers .entry)) (now (words .entry)) (now (masses .entry)) (now (centres .entry)) (now (multipliers .entry)) (now («rule_words» .entry)) (now («rule_tolerances» .entry)) (now («rule_numbers» .entry))) (workLengths (memoryOf (now (jacobians .entry)) (now (links .entry)) (now («mass_sizes» .entry)) (now («multiplier_sizes» .entry)) (now (impulses .entry)) (now (values .entry)) (now (sizes .entry)))))
         (rulesIn (now («rule_words» .entry)) (now («rule_tolerances» .entry)))
-        (closingOf (tableOf rows bodies (now (numbers .entry)) (now (words .entry)) (now (masses .entry))) (coefficients (now (multipliers .entry))) (rulesIn (now («rule_words» .entry)) (now («rule_tolerances» .entry)))) r (now («rule_numbers» .entry)) (now («rule_numbers» .exit))
+        (closingOf (tableOf rows bodies (now (numbers .entry)) (now (words .entry)) (now (masses .entry))) (coefficients (now (multipliers .entry))) (rulesIn (now («rule_words» .entry)) (now («rule_tolerances» .entry))) (centresFinite (centresIn bodies (now (centres .entry))))) r (now («rule_numbers» .entry)) (now («rule_numbers» .exit))
         (memoryOf (now (jacobians .entry)) (now (links .entry)) (now («mass_sizes» .entry)) (now («multiplier_sizes» .entry)) (now (impulses .entry)) (now (values .entry)) (now (sizes .entry)))
         (memoryOf (now (jacobians .exit)) (now (links .exit)) (now («mass_sizes» .exit)) (now («multiplier_sizes» .exit)) (now (impulses .exit)) (now (values .exit)) (now (sizes .exit))) ⌝ }
 {
@@ -133,6 +139,7 @@ pub fn closing_check(
         numbers: numbers.len(),
         words: words.len(),
         masses: masses.len(),
+        centres: centres.len(),
         multipliers: multipliers.len(),
         rule_words: rule_words.len(),
         rule_tolerances: rule_tolerances.len(),
@@ -150,6 +157,7 @@ pub fn closing_check(
     if !fits(rows, bodies, table, work) {
         return CheckAnswer::Refused(3);
     }
+    let placed = centres_finite(centres, bodies as usize);
     let answer = judged_check(
         rows,
         bodies,
@@ -159,6 +167,7 @@ pub fn closing_check(
         multipliers,
         rule_words,
         rule_tolerances,
+        placed,
         rule_numbers,
         jacobians,
         links,

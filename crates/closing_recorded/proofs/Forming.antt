@@ -27,7 +27,7 @@ module _ (case : List ℕ) where
     unfolding wellFormed check
     many-bodies l m = rw (le-leb 64 (length case) h, ← p, le-leb n 513 l, ← q, lt-leb b 257 m)
 
-    pub whole-case : n ≤ 513 → b ≤ 257 → eqb (length case) (64 + 288 * n + 80 * b) ≡ wellFormed case
+    pub whole-case : n ≤ 513 → b ≤ 257 → eqb (length case) (64 + 288 * n + 104 * b) ≡ wellFormed case
     unfolding wellFormed check
     whole-case l m = rw (le-leb 64 (length case) h, ← p, le-leb n 513 l, ← q, le-leb b 257 m)
 
@@ -42,11 +42,11 @@ both false b h = absurd (true≢false (sym h))
 pub formed-of : (case : List ℕ) {r : Bool} {n b : ℕ} → r ≡ wellFormed case → not r ≡ false → n ≡ wordAt case 8 → b ≡ wordAt case 16 → Formed case n b
 unfolding wellFormed
 formed-of case {r} {n} {b} e t p q =
-    let long = eqb (length case) (64 + 288 * wordAt case 8 + 80 * wordAt case 16) in
+    let long = eqb (length case) (64 + 288 * wordAt case 8 + 104 * wordAt case 16) in
     let (_, x) = both (leb 64 (length case)) (check (leb (wordAt case 8) 513) (check (leb (wordAt case 16) 257) long false) false) (sym e ∙ not-false r t) in
     let (y, z) = both (leb (wordAt case 8) 513) (check (leb (wordAt case 16) 257) long false) x in
     let (u, v) = both (leb (wordAt case 16) 257) long z in
-    rw (p, q) (record { rows = leb-true (wordAt case 8) 513 y; bodies = leb-true (wordAt case 16) 257 u; long = eqb-true (length case) (64 + 288 * wordAt case 8 + 80 * wordAt case 16) v })
+    rw (p, q) (record { rows = leb-true (wordAt case 8) 513 y; bodies = leb-true (wordAt case 16) 257 u; long = eqb-true (length case) (64 + 288 * wordAt case 8 + 104 * wordAt case 16) v })
 
 -- at least its first eight words
 pub formed-head : (case : List ℕ) {r : Bool} → r ≡ wellFormed case → not r ≡ false → 64 ≤ length case

@@ -12,7 +12,7 @@ fn line(n: u32, text: &[u8]) {
 }
 
 fn main() {
-    let mut space: [u8; 168368] = [0; 168368];
+    let mut space: [u8; 174536] = [0; 174536];
     let tally = input::tallied(&mut space);
     line(tally.closed, b" closed\n");
     line(tally.open, b" open\n");

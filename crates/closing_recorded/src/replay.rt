@@ -27,7 +27,7 @@ fn well_formed(case: &[u8]) -> bool
     if 257 < b {
         return false;
     }
-    case.len() as u64 == 64 + 288 * n + 80 * b
+    case.len() as u64 == 64 + 288 * n + 104 * b
 }
 
 // Bit for bit.
@@ -56,13 +56,15 @@ fn read_in(
     numbers: &mut [f64],
     words: &mut [u32],
     masses: &mut [f64],
+    centres: &mut [f64],
     multipliers: &mut [f64],
 ) -> Seen
     requires { ⌜ Formed (now case) n b ⌝ }
-    requires { ⌜ (length (now numbers) ≡ 27 * n) × (length (now words) ≡ 8 * n) × (length (now masses) ≡ 10 * b) × (length (now multipliers) ≡ n) ⌝ }
+    requires { ⌜ (length (now numbers) ≡ 27 * n) × (length (now words) ≡ 8 * n) × (length (now masses) ≡ 10 * b) × (length (now centres) ≡ 3 * b) × (length (now multipliers) ≡ n) ⌝ }
     ensures { λ r. ⌜ r ≡ seenIn (now (case .entry)) n b ⌝ }
 {
     let rows = n as usize;
+    let bodies = b as usize;
     let at = 64 + 280 * rows;
     let rule_tolerances = [double(case, 24), double(case, 32)];
     let mut rule_numbers: [u32; 513] = [0; 513];
@@ -72,13 +74,15 @@ fn read_in(
     read_doubles(case, 64, numbers);
     read_halves(case, 64 + 216 * rows, words);
     read_doubles(case, at, masses);
-    read_doubles(case, at + 80 * b as usize, multipliers);
+    read_doubles(case, at + 80 * bodies, centres);
+    read_doubles(case, at + 104 * bodies, multipliers);
     let answer = checked(
         n,
         b,
         numbers,
         words,
         masses,
+        centres,
         multipliers,
         &[0, 0, 255, 1, 0, 255],
         &rule_tolerances,
@@ -94,11 +98,14 @@ fn read(case: &[u8], n: u32, b: u32) -> Seen
     let mut numbers: [f64; 13851] = [0.0; 13851];
     let mut words: [u32; 4104] = [0; 4104];
     let mut masses: [f64; 2570] = [0.0; 2570];
+    let mut centres: [f64; 771] = [0.0; 771];
     let mut multipliers: [f64; 513] = [0.0; 513];
     let rows = n as usize;
+    let bodies = b as usize;
     let row_numbers = 27 * rows;
     let row_words = 8 * rows;
-    let mass_numbers = 10 * b as usize;
+    let mass_numbers = 10 * bodies;
+    let centre_numbers = 3 * bodies;
     read_in(
         case,
         n,
@@ -106,6 +113,7 @@ fn read(case: &[u8], n: u32, b: u32) -> Seen
         &mut numbers[..row_numbers],
         &mut words[..row_words],
         &mut masses[..mass_numbers],
+        &mut centres[..centre_numbers],
         &mut multipliers[..rows],
     )
 }

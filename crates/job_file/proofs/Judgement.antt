@@ -4,7 +4,7 @@ use mathlib.Core.Path.{_≡_, refl, sym, ap, _∙_}
 use mathlib.Core.Bool.{Bool, true, false, not, _&&_}
 use mathlib.Core.List.{List, [], _∷_}
 use native.Mathlib.Omega.{arith}
-use lib.Dec.{leb}
+use lib.Dec.{leb, eqb}
 use lib.ListN.{length}
 use borrow.Author.Tests.{not-true, not-false, le-leb, lt-leb, leb-true}
 use Rattle.loops.proofs.Both.{both}
@@ -19,6 +19,14 @@ use Rattle.job_file.specs.declared.judge.FileJudged.{FileJudged}
 use Rattle.job_file.specs.declared.judge.FileJudged.the-variants.{Passed, Refused}
 
 -- ---- 1 to 3
+
+-- 1 passes no spare over 1
+spare-fits : (t : Trailer) (n : ℕ) → sizeFits t n ≡ true → t .spare ≤ 1
+unfolding sizeFits
+spare-fits t n h = let (_, s) = both (leb n 65536 && eqb (t .«file_length») n) (leb (t .spare) 1) h in leb-true _ _ s
+
+pub spare-known : (t : Trailer) (n : ℕ) {p : Bool} → p ≡ sizeFits t n → not p ≡ false → t .spare ≤ 1
+spare-known t n {p} one h = spare-fits t n (sym one ∙ not-false p h)
 
 module _ (file : List ℕ) where
   pub opened-short : length file < 48 → Refused 1 ≡ openedOf file
@@ -90,11 +98,15 @@ module _ (file : List ℕ) {r : FileJudged} (o : r ≡ openedOf file) where
     unfolding openedOf
     passed = three-passed _ _ _ _ _ (sym o ∙ e)
 
+    pub spare-passed : t .spare ≤ 1
+    unfolding passes1
+    spare-passed = rw (passed .same) (let (_, h) = both (leb 48 (length file)) (sizeFits (trailerOf file) (length file)) (passed .one) in spare-fits (trailerOf file) (length file) h)
+
     ends : endsFit (trailerOf file) (length file - 48) ≡ true
     unfolding passes2 sectionsFit
     ends = let (_, h) = both (limitsFit (trailerOf file) && apart (trailerOf file)) (endsFit (trailerOf file) (length file - 48)) (passed .two) in h
 
-    ends-both : (leb (rowsEnd (trailerOf file .«row_offset») (trailerOf file .rows)) (length file - 48) ≡ true) × (leb (massesEnd (trailerOf file .«mass_offset») (trailerOf file .bodies)) (length file - 48) ≡ true)
+    ends-both : (leb (rowsEnd (trailerOf file .«row_offset») (trailerOf file .rows)) (length file - 48) ≡ true) × (leb (massesEnd (trailerOf file .«mass_offset») (trailerOf file .spare) (trailerOf file .bodies)) (length file - 48) ≡ true)
     unfolding endsFit
     ends-both = both _ _ ends
 
@@ -102,8 +114,8 @@ module _ (file : List ℕ) {r : FileJudged} (o : r ≡ openedOf file) where
     pub rows-inside : t .«row_offset» + 248 * t .rows ≤ length file
     rows-inside = rw (passed .same) (let h : rowsEnd (trailerOf file .«row_offset») (trailerOf file .rows) ≤ length file - 48 = leb-true _ _ (ends-both .0) in omega arith)
 
-    pub masses-inside : t .«mass_offset» + 80 * t .bodies ≤ length file
-    masses-inside = rw (passed .same) (let h : massesEnd (trailerOf file .«mass_offset») (trailerOf file .bodies) ≤ length file - 48 = leb-true _ _ (ends-both .1) in omega arith)
+    pub masses-inside : massesEnd (t .«mass_offset») (t .spare) (t .bodies) ≤ length file
+    masses-inside = rw (passed .same) (let h : massesEnd (trailerOf file .«mass_offset») (trailerOf file .spare) (trailerOf file .bodies) ≤ length file - 48 = leb-true _ _ (ends-both .1) in omega arith)
 
     module _ {p : Bool} (four : p ≡ keysFit file (t .«row_offset») (t .rows)) where
       pub is4 : p ≡ passes4 file

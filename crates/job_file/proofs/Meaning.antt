@@ -12,7 +12,7 @@ use Rattle.loops.proofs.Loop.{on-going, on-ended}
 use Rattle.loops.proofs.Inverse.{apart, ended-inj}
 use Rattle.loops.proofs.Judge.{judge-least}
 use Rattle.job_file.specs.File.{trailerOf}
-use Rattle.job_file.specs.Job.{Job, jobWith, fileNumbers, fileWords, fileMasses, tests, jobOf, answerOf, judgedOf, readOf, lentAfter, Reads}
+use Rattle.job_file.specs.Job.{Job, jobWith, fileNumbers, fileWords, fileMasses, fileCentres, tests, jobOf, answerOf, judgedOf, readOf, lentAfter, Reads}
 use Rattle.job_file.specs.declared.trailer.Trailer.{Trailer}
 use Rattle.job_file.specs.declared.judge.FileJudged.the-variants.{Passed, Refused}
 
@@ -36,13 +36,13 @@ answer-refused t l n = (there (judge l), λ h. on-ended _ _ _ h)
 
 -- ---- a file that passes holds the job that the definition gives
 
-job-going : (file : List ℕ) → judge (tests file) ≡ going tt → jobOf file ≡ going (jobWith (trailerOf file) (fileNumbers file) (fileWords file) (fileMasses file))
+job-going : (file : List ℕ) → judge (tests file) ≡ going tt → jobOf file ≡ going (jobWith (trailerOf file) (fileNumbers file) (fileWords file) (fileMasses file) (fileCentres file))
 unfolding jobOf
 job-going file h = on-going _ _ _ h
 
-pub passed-job : (file : List ℕ) {t : Trailer} → judgedOf file ≡ Passed t → jobOf file ≡ going (jobWith t (fileNumbers file) (fileWords file) (fileMasses file))
+pub passed-job : (file : List ℕ) {t : Trailer} → judgedOf file ≡ Passed t → jobOf file ≡ going (jobWith t (fileNumbers file) (fileWords file) (fileMasses file) (fileCentres file))
 unfolding judgedOf
-passed-job file {t} h = let (j, e) = answer-passed (trailerOf file) t (tests file) h in job-going file j ∙ ap (λ t. going (jobWith t (fileNumbers file) (fileWords file) (fileMasses file))) (sym e)
+passed-job file {t} h = let (j, e) = answer-passed (trailerOf file) t (tests file) h in job-going file j ∙ ap (λ t. going (jobWith t (fileNumbers file) (fileWords file) (fileMasses file) (fileCentres file))) (sym e)
 
 -- one that is refused holds none, and the numbers are the same
 pub refused-job : (file : List ℕ) (n : ℕ) → (judgedOf file ≡ Refused n) ↔ (jobOf file ≡ ended n)
@@ -71,8 +71,8 @@ lent-passed t true true false e d h = h
 lent-passed t true true true true d h = h
 lent-passed t true true true false d h = absurd (apart _ h refl)
 
-pub read-job : (file : List ℕ) (numbers : List Float) (words : List ℕ) (masses : List Float) (t : Trailer) (numbers′ : List Float) (words′ : List ℕ) (masses′ : List Float) → Reads file numbers words masses (Passed t) numbers′ words′ masses′ → jobOf file ≡ going (jobWith t numbers′ words′ masses′)
+pub read-job : (file : List ℕ) (numbers : List Float) (words : List ℕ) (masses centres : List Float) (t : Trailer) (numbers′ : List Float) (words′ : List ℕ) (masses′ centres′ : List Float) → Reads file numbers words masses centres (Passed t) numbers′ words′ masses′ centres′ → jobOf file ≡ going (jobWith t numbers′ words′ masses′ centres′)
 unfolding readOf lentAfter
-read-job file numbers words masses t numbers′ words′ masses′ h =
+read-job file numbers words masses centres t numbers′ words′ masses′ centres′ h =
     let (j, e) = answer-passed (trailerOf file) t _ (sym (h .answer)) in
-    rw (e, h .ofNumbers, h .ofWords, h .ofMasses) (job-going file (lent-passed t _ _ _ _ _ j))
+    rw (e, h .ofNumbers, h .ofWords, h .ofMasses, h .ofCentres) (job-going file (lent-passed t _ _ _ _ _ j))

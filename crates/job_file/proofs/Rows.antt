@@ -14,7 +14,7 @@ use Rattle.kapitsa_joint.specs.Row as row
 use Rattle.kapitsa_joint.specs.Table.{tableOf}
 use Rattle.joint_refusals.specs.Refusals.{wordsFitOf}
 use Rattle.joint_refusals.specs.Refusals as table
-use Rattle.job_file.specs.File.{trailerOf, rowNumber, rowWord, rowWords, massNumber, sectionNumbers, sectionWords, sectionMasses}
+use Rattle.job_file.specs.File.{trailerOf, rowNumber, rowWord, rowWords, massNumber, centreNumber, sectionNumbers, sectionWords, sectionMasses, sectionCentres}
 use Rattle.job_file.specs.Refusals.{keysFit, passes4}
 use Rattle.job_file.specs.Job.{fileNumbers, fileWords, fileMasses}
 
@@ -31,9 +31,13 @@ module _ (file : List ℕ) (offset : ℕ) where
   unfolding sectionWords
   word-at rows i j h g = part-at (rowWord file offset) 0 8 i j rows (omega arith) (omega arith) (omega arith)
 
-  pub mass-at : (bodies b j : ℕ) → b < bodies → j < 10 → getD (sectionMasses file offset bodies) (10 * b + j) nan ≡ massNumber file offset b j
+  pub mass-at : (spare bodies b j : ℕ) → b < bodies → j < 10 → getD (sectionMasses file offset spare bodies) (10 * b + j) nan ≡ massNumber file offset spare b j
   unfolding sectionMasses
-  mass-at bodies b j h g = part-at (massNumber file offset) nan 10 b j bodies (omega arith) (omega arith) (omega arith)
+  mass-at spare bodies b j h g = part-at (massNumber file offset spare) nan 10 b j bodies (omega arith) (omega arith) (omega arith)
+
+  pub centre-at : (spare bodies b j : ℕ) → b < bodies → j < 3 → getD (sectionCentres file offset spare bodies) (3 * b + j) nan ≡ centreNumber file offset spare b j
+  unfolding sectionCentres
+  centre-at spare bodies b j h g = part-at (centreNumber file offset spare) nan 3 b j bodies (omega arith) (omega arith) (omega arith)
 
   -- the words of row i
   pub words-at : (rows i : ℕ) → i < rows → row.wordsOf (sectionWords file offset rows) (8 * i) ≡ rowWords file offset i

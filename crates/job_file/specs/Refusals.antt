@@ -11,9 +11,9 @@ use Rattle.job_file.specs.Layout.{rowsEnd, massesEnd, trailerAt}
 use Rattle.job_file.specs.File.{trailerOf, rowWords}
 use Rattle.job_file.specs.declared.trailer.Trailer.{Trailer}
 
--- ---- 1. "The file is under 48 or over 65,536 bytes, its stored length differs, or its spare is not 0."
+-- ---- 1. "The file is under 48 or over 65,536 bytes, its stored length differs, or its spare is not 0." Document 02, d: "refusal 1 now meets a spare from 2 upward".
 unfoldable pub sizeFits : Trailer → ℕ → Bool
-sizeFits t bytes = (leb bytes 65536 && eqb (t .«file_length») bytes) && eqb (t .spare) 0
+sizeFits t bytes = (leb bytes 65536 && eqb (t .«file_length») bytes) && leb (t .spare) 1
 
 unfoldable pub passes1 : List ℕ → Bool
 passes1 file = leb 48 (length file) && sizeFits (trailerOf file) (length file)
@@ -24,10 +24,10 @@ limitsFit t = leb (t .rows) 128 && leb (t .bodies) 64
 
 unfoldable pub apart : Trailer → Bool
 apart t =
-    ((eqb (t .rows) 0 || eqb (t .bodies) 0) || leb (rowsEnd (t .«row_offset») (t .rows)) (t .«mass_offset»)) || leb (massesEnd (t .«mass_offset») (t .bodies)) (t .«row_offset»)
+    ((eqb (t .rows) 0 || eqb (t .bodies) 0) || leb (rowsEnd (t .«row_offset») (t .rows)) (t .«mass_offset»)) || leb (massesEnd (t .«mass_offset») (t .spare) (t .bodies)) (t .«row_offset»)
 
 unfoldable pub endsFit : Trailer → ℕ → Bool
-endsFit t end = leb (rowsEnd (t .«row_offset») (t .rows)) end && leb (massesEnd (t .«mass_offset») (t .bodies)) end
+endsFit t end = leb (rowsEnd (t .«row_offset») (t .rows)) end && leb (massesEnd (t .«mass_offset») (t .spare) (t .bodies)) end
 
 unfoldable pub sectionsFit : Trailer → ℕ → Bool
 sectionsFit t end = (limitsFit t && apart t) && endsFit t end
@@ -43,8 +43,8 @@ unfoldable pub passes3 : List ℕ → Bool
 passes3 file = trailerCountsFit (trailerOf file)
 
 -- "or a lent slice has not the length the counts call for", where slices are lent
-unfoldable pub lengthsFit : Trailer → ℕ → ℕ → ℕ → Bool
-lengthsFit t numbers words masses = rowsFit (t .rows) (t .bodies) numbers words masses
+unfoldable pub lengthsFit : Trailer → ℕ → ℕ → ℕ → ℕ → Bool
+lengthsFit t numbers words masses centres = rowsFit (t .rows) (t .bodies) numbers words masses && eqb centres (3 * t .bodies)
 
 -- ---- 4. "A row's key, dimension, flag or spare has another value than those above."
 unfoldable pub keysFit : List ℕ → ℕ → ℕ → Bool

@@ -6,8 +6,11 @@ pub const ROW_BYTES: usize = 248;
 // The doubles of a row, which its words follow.
 pub const ROW_DOUBLES: usize = 216;
 
-// A mass: 10 doubles.
+// A mass: 10 doubles,
 pub const MASS_BYTES: usize = 80;
+
+// and 3 more, its centre, where the trailer's spare is 1.
+pub const CENTRE_BYTES: usize = 24;
 
 pub const TRAILER_BYTES: usize = 48;
 

@@ -1,4 +1,4 @@
-// The job file of document 01: judged by refusals 1 to 4 and read into lent rows and masses.
+// The job file of document 01, with the centres of document 02: judged by refusals 1 to 4 and read into lent rows, masses and centres.
 pub mod fit; // fit.rt: refusals 1 to 4, each by itself; 4 of one row
 pub mod judge; // judge.rt: refusals 1 to 4 in their order
 pub mod layout; // layout.rt: sizes and limits
@@ -17,8 +17,10 @@ pub use reader::next_row;
 pub use reader::read_rows;
 pub use reader::reader_at;
 pub use reader::row_here;
+pub use sections::centre_number;
 pub use sections::mass_number;
 pub use sections::put_row;
+pub use sections::read_centres;
 pub use sections::read_masses;
 pub use sections::row_number;
 pub use sections::row_word;

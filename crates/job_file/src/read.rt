@@ -5,6 +5,7 @@ use crate::judge::FileJudged;
 use crate::judge::judge_trailer;
 use crate::reader::keys_fit;
 use crate::reader::read_rows;
+use crate::sections::read_centres;
 use crate::sections::read_masses;
 
 // Judges the file as `judge_file` does, refuses by 3 also where a lent slice has not the length that the counts call for,
@@ -14,14 +15,21 @@ pub fn read_job(
     numbers: &mut [f64],
     words: &mut [u32],
     masses: &mut [f64],
+    centres: &mut [f64],
 ) -> FileJudged
-    ensures { λ r. ⌜ Reads (now (file .entry)) (now (numbers .entry)) (now (words .entry)) (now (masses .entry)) r (now (numbers .exit)) (now (words .exit)) (now (masses .exit)) ⌝ }
+    ensures { λ r. ⌜ Reads (now (file .entry)) (now (numbers .entry)) (now (words .entry)) (now (masses .entry)) (now (centres .entry)) r (now (numbers .exit)) (now (words .exit)) (now (masses .exit)) (now (centres .exit)) ⌝ }
 {
     let opened = judge_trailer(file);
     let FileJudged::Passed(trailer) = opened else {
         return opened;
     };
-    if !lengths_fit(trailer, numbers.len(), words.len(), masses.len()) {
+    if !lengths_fit(
+        trailer,
+        numbers.len(),
+        words.len(),
+        masses.len(),
+        centres.len(),
+    ) {
         return FileJudged::Refused(3);
     }
     let rows = trailer.rows as usize;
@@ -32,6 +40,7 @@ pub fn read_job(
         return FileJudged::Refused(4);
     }
     read_rows(file, row_offset, rows, numbers, words);
-    read_masses(file, mass_offset, bodies, masses);
+    read_masses(file, mass_offset, trailer.spare, bodies, masses);
+    read_centres(file, mass_offset, trailer.spare, bodies, centres);
     FileJudged::Passed(trailer)
 }

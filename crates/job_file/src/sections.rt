@@ -1,9 +1,10 @@
 // The row section and the mass section: the numbers of one row or mass, by its place in the section, and into lent memory.
 ghost use mathlib.Core.Path.{_≡_};
-ghost use Prim.Native.Nat.{_+_, _*_, _≤_};
+ghost use Prim.Native.Nat.{_+_, _*_, _<_, _≤_};
 ghost use lib.ListN.{length};
 ghost use Rattle.job_file.specs.Layout.{numberPlace, wordPlace, massPlace, rowsEnd, massesEnd};
-ghost use Rattle.job_file.specs.File.{rowNumber, rowWord, rowWords, massNumber, rowNumbersOver, rowWordsOver, sectionMasses};
+ghost use Rattle.job_file.specs.File.{rowNumber, rowWord, rowWords, massNumber, centreNumber, rowNumbersOver, rowWordsOver, sectionMasses, sectionCentres};
+use crate::layout::CENTRE_BYTES;
 use crate::layout::MASS_BYTES;
 use crate::layout::ROW_BYTES;
 use crate::layout::ROW_DOUBLES;
@@ -44,12 +45,24 @@ pub fn row_words(file: &[u8], offset: usize, i: usize) -> RowWords
     }
 }
 
-// Number j of 10 of body b, where the mass section begins at `offset`.
-pub fn mass_number(file: &[u8], offset: usize, b: usize, j: usize) -> f64
-    requires { ⌜ massPlace offset b j + 8 ≤ length (now file) ⌝ }
-    ensures { λ r. ⌜ r ≡ massNumber (now (file .entry)) offset b j ⌝ }
+// Number j of 10 of body b, where the mass section begins at `offset` and the trailer has this spare.
+pub fn mass_number(file: &[u8], offset: usize, spare: u32, b: usize, j: usize) -> f64
+    requires { ⌜ massPlace offset spare b j + 8 ≤ length (now file) ⌝ }
+    ensures { λ r. ⌜ r ≡ massNumber (now (file .entry)) offset spare b j ⌝ }
 {
-    double(file, offset + MASS_BYTES * b + 8 * j)
+    let mass_bytes = MASS_BYTES + CENTRE_BYTES * (spare as usize);
+    double(file, offset + mass_bytes * b + 8 * j)
+}
+
+// Number j of 3 of the centre of body b: +0.0 where the file has no centres.
+pub fn centre_number(file: &[u8], offset: usize, spare: u32, b: usize, j: usize) -> f64
+    requires { ⌜ (j < 3) × (massesEnd offset spare (b + 1) ≤ length (now file)) ⌝ }
+    ensures { λ r. ⌜ r ≡ centreNumber (now (file .entry)) offset spare b j ⌝ }
+{
+    if spare == 1 {
+        return mass_number(file, offset, 1, b, 10 + j);
+    }
+    0.0
 }
 
 // The 27 numbers of row i, to their places in a list of all rows,
@@ -85,14 +98,26 @@ pub fn put_row(file: &[u8], offset: usize, i: usize, numbers: &mut [f64], words:
     put_words(file, offset, i, words)
 }
 
-// The 10 numbers of each body.
-pub fn read_masses(file: &[u8], offset: usize, bodies: usize, masses: &mut [f64])
-    requires { ⌜ (massesEnd offset bodies ≤ length (now file)) × (length (now masses) ≡ 10 * bodies) ⌝ }
-    ensures { λ _. ⌜ now (masses .exit) ≡ sectionMasses (now (file .entry)) offset bodies ⌝ }
+// The 10 numbers of each body,
+pub fn read_masses(file: &[u8], offset: usize, spare: u32, bodies: usize, masses: &mut [f64])
+    requires { ⌜ (massesEnd offset spare bodies ≤ length (now file)) × (length (now masses) ≡ 10 * bodies) ⌝ }
+    ensures { λ _. ⌜ now (masses .exit) ≡ sectionMasses (now (file .entry)) offset spare bodies ⌝ }
 {
     let mut k = 0;
     while k < masses.len() {
-        masses[k] = mass_number(file, offset, k / 10, k % 10);
+        masses[k] = mass_number(file, offset, spare, k / 10, k % 10);
+        k += 1;
+    }
+}
+
+// and the 3 of its centre.
+pub fn read_centres(file: &[u8], offset: usize, spare: u32, bodies: usize, centres: &mut [f64])
+    requires { ⌜ (massesEnd offset spare bodies ≤ length (now file)) × (length (now centres) ≡ 3 * bodies) ⌝ }
+    ensures { λ _. ⌜ now (centres .exit) ≡ sectionCentres (now (file .entry)) offset spare bodies ⌝ }
+{
+    let mut k = 0;
+    while k < centres.len() {
+        centres[k] = centre_number(file, offset, spare, k / 3, k % 3);
         k += 1;
     }
 }

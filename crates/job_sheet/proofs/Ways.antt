@@ -22,10 +22,12 @@ use Rattle.preconditioner.specs.Mode.{modeOf}
 use Rattle.joint_refusals.specs.Counts.{tableCountsFit, countsFit}
 use Rattle.joint_refusals.specs.Tolerances.{passes26}
 use Rattle.rules.specs.Rules.{ruleLengthsFit, twoRules}
-use Rattle.pcg.specs.Ruled.{rulesLent}
+use Rattle.pcg.specs.Ruled.{rulesLent, centresLent}
 use Rattle.work_memory.specs.Lengths as lengths
 use Rattle.position_solve.specs.Job.{jobFits, JobSolved}
 use Rattle.kapitsa_joint.specs.Table.{tableOf}
+use Rattle.kapitsa_joint.specs.Centre.{centresIn}
+use Rattle.joint_refusals.specs.Refusals.{centresFinite}
 use Rattle.mass_operator.specs.Flat.{coefficients}
 use Rattle.check_range.specs.Closing.{closingOf}
 use Rattle.check_refusals.specs.Refusals.{tableFits, givenFits, tableLengths}
@@ -33,7 +35,8 @@ use Rattle.kapitsa_joint.specs.declared.maxima.Maxima.{Maxima}
 use Rattle.check_answer.specs.Answer.{numberOf, gapOf, checkOf}
 use Rattle.check_answer.specs.declared.CheckAnswer.{CheckAnswer}
 use Rattle.job_file.specs.Refusals as refusals
-use Rattle.job_file.specs.File.{trailerOf, sectionNumbers, sectionWords, sectionMasses}
+use Rattle.job_file.specs.Layout.{massesEnd}
+use Rattle.job_file.specs.File.{trailerOf, sectionNumbers, sectionWords, sectionMasses, sectionCentres}
 use Rattle.job_file.specs.Job.{Job, jobWith, answerOf, openedOf, judgedOf}
 use Rattle.job_file.specs.declared.trailer.Trailer.{Trailer}
 use Rattle.job_file.specs.declared.judge.FileJudged.{FileJudged}
@@ -90,54 +93,56 @@ module _ (file : List ℕ) (t : Trailer) (h : judgedOf file ≡ Passed t) where
   pub rows-held : t .«row_offset» + 248 * t .rows ≤ length file
   rows-held = rows-inside file refl opened
 
-  pub masses-held : t .«mass_offset» + 80 * t .bodies ≤ length file
+  pub masses-held : massesEnd (t .«mass_offset») (t .spare) (t .bodies) ≤ length file
   masses-held = masses-inside file refl opened
 
   -- what is read is the job
-  pub sheet-read : {numbers : List Float} {words : List ℕ} {masses : List Float} → numbers ≡ sectionNumbers file (t .«row_offset») (t .rows) → words ≡ sectionWords file (t .«row_offset») (t .rows) → masses ≡ sectionMasses file (t .«mass_offset») (t .bodies)
-      → jobSheet (jobWith t numbers words masses) ≡ sheetOf file
+  pub sheet-read : {numbers : List Float} {words : List ℕ} {masses centres : List Float} → numbers ≡ sectionNumbers file (t .«row_offset») (t .rows) → words ≡ sectionWords file (t .«row_offset») (t .rows)
+      → masses ≡ sectionMasses file (t .«mass_offset») (t .spare) (t .bodies) → centres ≡ sectionCentres file (t .«mass_offset») (t .spare) (t .bodies) → jobSheet (jobWith t numbers words masses centres) ≡ sheetOf file
   unfolding sheetOf
-  sheet-read p q r =
-      rw (p ∙ ap (λ (t : Trailer). sectionNumbers file (t .«row_offset») (t .rows)) same, q ∙ ap (λ (t : Trailer). sectionWords file (t .«row_offset») (t .rows)) same, r ∙ ap (λ (t : Trailer). sectionMasses file (t .«mass_offset») (t .bodies)) same)
+  sheet-read p q r c =
+      rw (p ∙ ap (λ (t : Trailer). sectionNumbers file (t .«row_offset») (t .rows)) same, q ∙ ap (λ (t : Trailer). sectionWords file (t .«row_offset») (t .rows)) same, r ∙ ap (λ (t : Trailer). sectionMasses file (t .«mass_offset») (t .spare) (t .bodies)) same, c ∙ ap (λ (t : Trailer). sectionCentres file (t .«mass_offset») (t .spare) (t .bodies)) same)
       (sym (on-going _ _ _ (passed-job file h)))
 
 -- ---- the memory
 
-module _ {t : Trailer} {numbers words masses solution impulses : ℕ} (r : JobRoom t numbers words masses solution impulses) where
+module _ {t : Trailer} {numbers words masses centres solution impulses newCentres : ℕ} (r : JobRoom t numbers words masses centres solution impulses newCentres) where
   -- with two rules, and a number for the rule of each row
-  pub solve-fits : {k : ℕ} → k ≡ t .rows → jobFits (t .rows) (t .bodies) (t .mode) numbers words masses solution impulses 6 2 k ≡ true
-  unfolding jobFits countsFit lengths.tableFits rulesLent ruleLengthsFit
+  pub solve-fits : {k : ℕ} → k ≡ t .rows → jobFits (t .rows) (t .bodies) (t .mode) numbers words masses solution impulses centres newCentres 6 2 k ≡ true
+  unfolding jobFits countsFit lengths.tableFits rulesLent ruleLengthsFit centresLent
   solve-fits e = let n = r .few-rows in let b = r .few-bodies in
-      rw (le-leb (t .rows) 512 (omega arith), le-leb (t .bodies) 256 (omega arith), le-leb (t .mode) 2 (r .mode-known), eq-eqb _ _ (r .numbers-long), eq-eqb _ _ (r .words-long), eq-eqb _ _ (r .masses-long), eq-eqb _ _ (r .solution-long), eq-eqb _ _ (r .impulses-long), eq-eqb _ _ e)
+      rw (le-leb (t .rows) 512 (omega arith), le-leb (t .bodies) 256 (omega arith), le-leb (t .mode) 2 (r .mode-known), eq-eqb _ _ (r .numbers-long), eq-eqb _ _ (r .words-long), eq-eqb _ _ (r .masses-long), eq-eqb _ _ (r .solution-long), eq-eqb _ _ (r .impulses-long), eq-eqb _ _ (r .centres-long), eq-eqb _ _ (r .new-centres-long), eq-eqb _ _ e)
 
-  check-fits : {k : ℕ} → k ≡ t .rows → givenFits (t .rows) (t .bodies) (record { numbers = numbers; words = words; masses = masses; multipliers = solution; «rule_words» = 6; «rule_tolerances» = 2; «rule_numbers» = k }) ≡ true
+  check-fits : {k : ℕ} → k ≡ t .rows → givenFits (t .rows) (t .bodies) (record { numbers = numbers; words = words; masses = masses; centres = centres; multipliers = solution; «rule_words» = 6; «rule_tolerances» = 2; «rule_numbers» = k }) ≡ true
   unfolding givenFits tableFits ruleLengthsFit
   check-fits e = let n = r .few-rows in let b = r .few-bodies in
-      rw (le-leb (t .rows) 512 (omega arith), le-leb (t .bodies) 256 (omega arith), eq-eqb _ _ (r .numbers-long), eq-eqb _ _ (r .words-long), eq-eqb _ _ (r .masses-long), eq-eqb _ _ (r .solution-long), eq-eqb _ _ e)
+      rw (le-leb (t .rows) 512 (omega arith), le-leb (t .bodies) 256 (omega arith), eq-eqb _ _ (r .numbers-long), eq-eqb _ _ (r .words-long), eq-eqb _ _ (r .masses-long), eq-eqb _ _ (r .centres-long), eq-eqb _ _ (r .solution-long), eq-eqb _ _ e)
 
 -- the lent slices keep their lengths
-pub room-after : {t : Trailer} {numbers words masses solution impulses numbers′ words′ masses′ solution′ impulses′ : ℕ} → JobRoom t numbers words masses solution impulses
-    → numbers′ ≡ numbers → words′ ≡ words → masses′ ≡ masses → solution′ ≡ solution → impulses′ ≡ impulses → JobRoom t numbers′ words′ masses′ solution′ impulses′
-room-after r a b c d e = rw (a, b, c, d, e) r
+pub room-after : {t : Trailer} {numbers words masses centres solution impulses newCentres numbers′ words′ masses′ centres′ solution′ impulses′ newCentres′ : ℕ} → JobRoom t numbers words masses centres solution impulses newCentres
+    → numbers′ ≡ numbers → words′ ≡ words → masses′ ≡ masses → centres′ ≡ centres → solution′ ≡ solution → impulses′ ≡ impulses → newCentres′ ≡ newCentres → JobRoom t numbers′ words′ masses′ centres′ solution′ impulses′ newCentres′
+room-after r a b c d e f g = rw (a, b, c, d, e, f, g) r
 
 -- ---- the check
 
 -- by the two rules
-abbrev checkedBy : Trailer → List Float → List ℕ → List Float → List Float → List ℕ → CheckAnswer
-checkedBy t numbers words masses solution ruleNumbers =
+abbrev checkedBy : Trailer → List Float → List ℕ → List Float → List Float → List Float → List ℕ → CheckAnswer
+checkedBy t numbers words masses centres solution ruleNumbers =
     let rules = twoRules (t .tolerance) in
-    checkOf (givenFits (t .rows) (t .bodies) (tableLengths numbers words masses solution (rules .words) (rules .tolerances) ruleNumbers)) (closingOf (tableOf (t .rows) (t .bodies) numbers words masses) (coefficients solution) rules)
+    checkOf (givenFits (t .rows) (t .bodies) (tableLengths numbers words masses centres solution (rules .words) (rules .tolerances) ruleNumbers))
+    (closingOf (tableOf (t .rows) (t .bodies) numbers words masses) (coefficients solution) rules (centresFinite (centresIn (t .bodies) centres)))
 
-module _ (t : Trailer) (numbers : List Float) (words : List ℕ) (masses solution impulses : List Float) (ruleNumbers : List ℕ) (room : JobRoom t (length numbers) (length words) (length masses) (length solution) (length impulses)) (l : length ruleNumbers ≡ t .rows)
-    {answer : CheckAnswer} (e : answer ≡ checkedBy t numbers words masses solution ruleNumbers) where
-  closing-is : answer ≡ checkIn (jobWith t numbers words masses) numbers solution
+module _ (t : Trailer) (numbers : List Float) (words : List ℕ) (masses centres solution impulses newCentres : List Float) (ruleNumbers : List ℕ)
+    (room : JobRoom t (length numbers) (length words) (length masses) (length centres) (length solution) (length impulses) (length newCentres)) (l : length ruleNumbers ≡ t .rows)
+    {answer : CheckAnswer} (e : answer ≡ checkedBy t numbers words masses centres solution ruleNumbers) where
+  closing-is : answer ≡ checkIn (jobWith t numbers words masses centres) numbers solution
   unfolding checkIn
   closing-is = rw (e, check-fits room l)
 
   pub printed-is : (r : PositionPcgResult) {gap : Maxima} {number : ℕ} → gap ≡ gapOf answer → number ≡ numberOf answer
-      → listingOf (r .iterations) (r .converged) gap (carriedBy r) number (t .rows) (t .bodies) numbers impulses ≡ printedOf (jobWith t numbers words masses) r numbers solution impulses
+      → listingOf (r .iterations) (r .converged) gap (carriedBy r) number (t .rows) (t .bodies) numbers impulses (t .spare) newCentres ≡ printedOf (jobWith t numbers words masses centres) r numbers solution impulses newCentres
   unfolding printedOf
-  printed-is r g n = rw (g, n) (ap (λ (a : CheckAnswer). listingOf (r .iterations) (r .converged) (gapOf a) (carriedBy r) (numberOf a) (t .rows) (t .bodies) numbers impulses) closing-is)
+  printed-is r g n = rw (g, n) (ap (λ (a : CheckAnswer). listingOf (r .iterations) (r .converged) (gapOf a) (carriedBy r) (numberOf a) (t .rows) (t .bodies) numbers impulses (t .spare) newCentres) closing-is)
 
 -- ---- the solve
 
@@ -151,11 +156,11 @@ refused-same e = cc
 never : {X : Type 0} {r : PositionPcgResult} {n : ℕ} → answers.Accepted r ≡ answers.Refused n → X
 never e = absurd (let z : _≡_ {A = ℕ} 0 1 = cc in omega arith)
 
-module _ (j : Job) (solution impulses : List Float) where
+module _ (j : Job) (solution impulses newCentres : List Float) where
   abbrev before : Lent
-  before = record { numbers = j .numbers; solution = solution; impulses = impulses }
+  before = record { numbers = j .numbers; solution = solution; impulses = impulses; centres = newCentres }
 
-  accepted-in : (a : Answer) {r : PositionPcgResult} {after : Lent} → outcomeOf (j .rows) before a ≡ record { answer = answers.Accepted r; lent = after } → printedOf j r (after .numbers) (after .solution) (after .impulses) ≡ answerSheet j a
+  accepted-in : (a : Answer) {r : PositionPcgResult} {after : Lent} → outcomeOf (j .rows) before a ≡ record { answer = answers.Accepted r; lent = after } → printedOf j r (after .numbers) (after .solution) (after .impulses) (after .centres) ≡ answerSheet j a
   unfolding proposalOf committedOf answerSheet
   accepted-in (going ((flag, count, v), f)) e = let p = accepted-same (ap (λ (o : Outcome). o .answer) e) in let q = ap (λ (o : Outcome). o .lent) e in rw (p, ← q)
   accepted-in (ended n) e = never (sym (ap (λ (o : Outcome). o .answer) e))
@@ -166,22 +171,22 @@ module _ (j : Job) (solution impulses : List Float) where
   refused-in (ended n) e = ap refusedListing (refused-same (ap (λ (o : Outcome). o .answer) e))
 
 -- 26, which the program judges
-module _ (t : Trailer) (numbers : List Float) (words : List ℕ) (masses : List Float) {fit : Bool} (p : fit ≡ passes26 (t .tolerance)) where
-  pub job-odd : not fit ≡ true → refusedListing 26 ≡ jobSheet (jobWith t numbers words masses)
+module _ (t : Trailer) (numbers : List Float) (words : List ℕ) (masses centres : List Float) {fit : Bool} (p : fit ≡ passes26 (t .tolerance)) where
+  pub job-odd : not fit ≡ true → refusedListing 26 ≡ jobSheet (jobWith t numbers words masses centres)
   unfolding jobSheet answerTo answerSheet test check on
   job-odd n = rw (← p, not-true fit n)
 
-  module _ (n : not fit ≡ false) (solution impulses : List Float) {fits : Bool} (f : fits ≡ true) {answer : PositionPcg} {after : Lent} {ruleNumbers ruleNumbers′ : List ℕ}
-      (s : JobSolved fits (twoRules (t .tolerance)) (positionOf (t .rows) (t .bodies) numbers words masses (twoRules (t .tolerance)) plusZero) (modeOf (t .mode) plusZero) (t .limit) (t .rows) (record { numbers = numbers; solution = solution; impulses = impulses }) after ruleNumbers ruleNumbers′ answer) where
-    solved : outcomeOf (t .rows) (record { numbers = numbers; solution = solution; impulses = impulses }) (answerTo (jobWith t numbers words masses)) ≡ record { answer = answer; lent = after }
+  module _ (n : not fit ≡ false) (solution impulses newCentres : List Float) {fits : Bool} (f : fits ≡ true) {answer : PositionPcg} {after : Lent} {ruleNumbers ruleNumbers′ : List ℕ}
+      (s : JobSolved fits (twoRules (t .tolerance)) (positionOf (t .rows) (t .bodies) numbers words masses centres (twoRules (t .tolerance)) plusZero) (modeOf (t .mode) plusZero) (t .limit) (t .rows) (record { numbers = numbers; solution = solution; impulses = impulses; centres = newCentres }) after ruleNumbers ruleNumbers′ answer) where
+    solved : outcomeOf (t .rows) (record { numbers = numbers; solution = solution; impulses = impulses; centres = newCentres }) (answerTo (jobWith t numbers words masses centres)) ≡ record { answer = answer; lent = after }
     unfolding answerTo test check on
     solved = rw (← p, not-false fit n, ← f) (s .answered)
 
-    pub job-refused : {n : ℕ} → answer ≡ answers.Refused n → refusedListing n ≡ jobSheet (jobWith t numbers words masses)
+    pub job-refused : {n : ℕ} → answer ≡ answers.Refused n → refusedListing n ≡ jobSheet (jobWith t numbers words masses centres)
     unfolding jobSheet
-    job-refused {n} e = refused-in (jobWith t numbers words masses) solution impulses (answerTo (jobWith t numbers words masses)) (solved ∙ ap (λ a. record { answer = a; lent = after }) e)
+    job-refused {n} e = refused-in (jobWith t numbers words masses centres) solution impulses newCentres (answerTo (jobWith t numbers words masses centres)) (solved ∙ ap (λ a. record { answer = a; lent = after }) e)
 
     -- the job's own numbers do not matter to what is printed
-    pub job-accepted : {r : PositionPcgResult} (rows : List Float) → answer ≡ answers.Accepted r → printedOf (jobWith t rows words masses) r (after .numbers) (after .solution) (after .impulses) ≡ jobSheet (jobWith t numbers words masses)
+    pub job-accepted : {r : PositionPcgResult} (rows : List Float) → answer ≡ answers.Accepted r → printedOf (jobWith t rows words masses centres) r (after .numbers) (after .solution) (after .impulses) (after .centres) ≡ jobSheet (jobWith t numbers words masses centres)
     unfolding jobSheet printedOf checkIn
-    job-accepted {r} rows e = accepted-in (jobWith t numbers words masses) solution impulses (answerTo (jobWith t numbers words masses)) (solved ∙ ap (λ a. record { answer = a; lent = after }) e)
+    job-accepted {r} rows e = accepted-in (jobWith t numbers words masses centres) solution impulses newCentres (answerTo (jobWith t numbers words masses centres)) (solved ∙ ap (λ a. record { answer = a; lent = after }) e)

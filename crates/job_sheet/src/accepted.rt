@@ -18,13 +18,15 @@ pub fn write_accepted(
     numbers: &[f64],
     words: &[u32],
     masses: &[f64],
+    centres: &[f64],
     solution: &[f64],
     impulses: &[f64],
+    new_centres: &[f64],
     out: &mut [u8],
 ) -> usize
-    requires { ⌜ JobRoom trailer (length (now numbers)) (length (now words)) (length (now masses)) (length (now solution)) (length (now impulses)) ⌝ }
+    requires { ⌜ JobRoom trailer (length (now numbers)) (length (now words)) (length (now masses)) (length (now centres)) (length (now solution)) (length (now impulses)) (length (now «new_centres»)) ⌝ }
     requires { ⌜ 16384 ≤ length (now out) ⌝ }
-    ensures { λ r. ⌜ Wrote (now (out .entry)) 0 (printedOf (jobWith trailer (now (numbers .entry)) (now (words .entry)) (now (masses .entry))) result (now (numbers .entry)) (now (solution .entry)) (now (impulses .entry))) (now (out .exit)) r ⌝ }
+    ensures { λ r. ⌜ Wrote (now (out .entry)) 0 (printedOf (jobWith trailer (now (numbers .entry)) (now (words .entry)) (now (masses .entry)) (now (centres .entry))) result (now (numbers .entry)) (now (solution .entry)) (now (impulses .entry)) (now («new_centres» .entry))) (now (out .exit)) r ⌝ }
 {
     let mut rule_numbers: [u32; 128] = [0; 128];
     let rows = trailer.rows as usize;
@@ -34,6 +36,7 @@ pub fn write_accepted(
         numbers,
         words,
         masses,
+        centres,
         solution,
         &[0, 0, 255, 1, 0, 255],
         &[trailer.tolerance.linear_m, trailer.tolerance.angular_rad],
@@ -52,6 +55,8 @@ pub fn write_accepted(
         trailer.bodies,
         numbers,
         impulses,
+        trailer.spare,
+        new_centres,
         out,
     )
 }

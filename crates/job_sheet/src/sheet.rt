@@ -11,6 +11,7 @@ use crate::accepted::write_accepted;
 use job_file::FileJudged;
 use job_file::Trailer;
 use job_file::judge_file;
+use job_file::read_centres;
 use job_file::read_masses;
 use job_file::read_rows;
 use joint_refusals::tolerances_fit;
@@ -24,13 +25,15 @@ fn write_job(
     numbers: &mut [f64],
     words: &[u32],
     masses: &[f64],
+    centres: &[f64],
     solution: &mut [f64],
     impulses: &mut [f64],
+    new_centres: &mut [f64],
     out: &mut [u8],
 ) -> usize
-    requires { ⌜ JobRoom trailer (length (now numbers)) (length (now words)) (length (now masses)) (length (now solution)) (length (now impulses)) ⌝ }
+    requires { ⌜ JobRoom trailer (length (now numbers)) (length (now words)) (length (now masses)) (length (now centres)) (length (now solution)) (length (now impulses)) (length (now «new_centres»)) ⌝ }
     requires { ⌜ 16384 ≤ length (now out) ⌝ }
-    ensures { λ r. ⌜ Wrote (now (out .entry)) 0 (jobSheet (jobWith trailer (now (numbers .entry)) (now (words .entry)) (now (masses .entry)))) (now (out .exit)) r ⌝ }
+    ensures { λ r. ⌜ Wrote (now (out .entry)) 0 (jobSheet (jobWith trailer (now (numbers .entry)) (now (words .entry)) (now (masses .entry)) (now (centres .entry)))) (now (out .exit)) r ⌝ }
 {
     if !tolerances_fit(trailer.tolerance) {
         return write_refusal(26, out);
@@ -41,6 +44,7 @@ fn write_job(
         numbers,
         words,
         masses,
+        centres,
         trailer.rows,
         trailer.bodies,
         &[0, 0, 255, 1, 0, 255],
@@ -50,6 +54,7 @@ fn write_job(
         0.0,
         solution,
         impulses,
+        new_centres,
         &mut rule_numbers[..rows],
     );
     match answer {
@@ -60,8 +65,10 @@ fn write_job(
             numbers,
             words,
             masses,
+            centres,
             solution,
             impulses,
+            new_centres,
             out,
         ),
     }
@@ -74,12 +81,14 @@ fn write_file(
     numbers: &mut [f64],
     words: &mut [u32],
     masses: &mut [f64],
+    centres: &mut [f64],
     solution: &mut [f64],
     impulses: &mut [f64],
+    new_centres: &mut [f64],
     out: &mut [u8],
 ) -> usize
     requires { ⌜ judgedOf (now file) ≡ Passed trailer ⌝ }
-    requires { ⌜ JobRoom trailer (length (now numbers)) (length (now words)) (length (now masses)) (length (now solution)) (length (now impulses)) ⌝ }
+    requires { ⌜ JobRoom trailer (length (now numbers)) (length (now words)) (length (now masses)) (length (now centres)) (length (now solution)) (length (now impulses)) (length (now «new_centres»)) ⌝ }
     requires { ⌜ 16384 ≤ length (now out) ⌝ }
     ensures { λ r. ⌜ Wrote (now (out .entry)) 0 (sheetOf (now (file .entry))) (now (out .exit)) r ⌝ }
 {
@@ -88,8 +97,19 @@ fn write_file(
     let row_offset = trailer.row_offset as usize;
     let mass_offset = trailer.mass_offset as usize;
     read_rows(file, row_offset, rows, numbers, words);
-    read_masses(file, mass_offset, bodies, masses);
-    write_job(trailer, numbers, words, masses, solution, impulses, out)
+    read_masses(file, mass_offset, trailer.spare, bodies, masses);
+    read_centres(file, mass_offset, trailer.spare, bodies, centres);
+    write_job(
+        trailer,
+        numbers,
+        words,
+        masses,
+        centres,
+        solution,
+        impulses,
+        new_centres,
+        out,
+    )
 }
 
 // Memory for what the program takes: 128 rows and 64 bodies.
@@ -101,22 +121,27 @@ fn write_passed(file: &[u8], trailer: Trailer, out: &mut [u8]) -> usize
     let mut numbers: [f64; 3456] = [0.0; 3456];
     let mut words: [u32; 1024] = [0; 1024];
     let mut masses: [f64; 640] = [0.0; 640];
+    let mut centres: [f64; 192] = [0.0; 192];
     let mut solution: [f64; 128] = [0.0; 128];
     let mut impulses: [f64; 384] = [0.0; 384];
+    let mut new_centres: [f64; 192] = [0.0; 192];
     let rows = trailer.rows as usize;
     let bodies = trailer.bodies as usize;
     let row_numbers = 27 * rows;
     let row_words = 8 * rows;
     let mass_numbers = 10 * bodies;
     let body_numbers = 6 * bodies;
+    let centre_numbers = 3 * bodies;
     write_file(
         file,
         trailer,
         &mut numbers[..row_numbers],
         &mut words[..row_words],
         &mut masses[..mass_numbers],
+        &mut centres[..centre_numbers],
         &mut solution[..rows],
         &mut impulses[..body_numbers],
+        &mut new_centres[..centre_numbers],
         out,
     )
 }

@@ -16,8 +16,10 @@ fn solved(
     numbers: &mut [f64],
     words: &[u32],
     masses: &[f64],
+    centres: &[f64],
     solution: &mut [f64],
     impulses: &mut [f64],
+    new_centres: &mut [f64],
     counts: &mut [u32],
     maxima: &mut [f64],
 ) -> u32 {
@@ -38,6 +40,7 @@ fn solved(
         numbers,
         words,
         masses,
+        centres,
         &[0, 0, 255, 1, 0, 255],
         &[trailer.tolerance.linear_m, trailer.tolerance.angular_rad],
         trailer.rows,
@@ -47,6 +50,7 @@ fn solved(
         0.0,
         solution,
         impulses,
+        new_centres,
         &mut rule_numbers,
         counts,
         maxima,
@@ -71,6 +75,7 @@ fn verdict(
     numbers: &[f64],
     words: &[u32],
     masses: &[f64],
+    centres: &[f64],
     multipliers: &[f64],
     gap: &mut [f64],
 ) -> u32 {
@@ -87,6 +92,7 @@ fn verdict(
         numbers,
         words,
         masses,
+        centres,
         &[0, 0, 255, 1, 0, 255],
         &[trailer.tolerance.linear_m, trailer.tolerance.angular_rad],
         trailer.rows,
@@ -118,9 +124,11 @@ fn write_accepted(
     closes: u32,
     numbers: &[f64],
     impulses: &[f64],
+    spare: u32,
+    new_centres: &[f64],
     out: &mut [u8],
 ) -> usize
-    requires { ⌜ (216 ≤ length (now numbers)) × (24 ≤ length (now impulses)) × (16384 ≤ length (now out)) ⌝ }
+    requires { ⌜ (216 ≤ length (now numbers)) × (24 ≤ length (now impulses)) × (12 ≤ length (now «new_centres»)) × (16384 ≤ length (now out)) ⌝ }
     ensures { λ r. ⌜ r ≤ length (now (out .entry)) ⌝ }
 {
     write_listing(
@@ -133,6 +141,8 @@ fn write_accepted(
         4,
         numbers,
         impulses,
+        spare,
+        new_centres,
         out,
     )
 }
@@ -143,6 +153,7 @@ fn write_told(
     numbers: &mut [f64],
     words: &[u32],
     masses: &[f64],
+    centres: &[f64],
     out: &mut [u8],
 ) -> usize
     requires { ⌜ (216 ≤ length (now numbers)) × (16384 ≤ length (now out)) ⌝ }
@@ -150,6 +161,7 @@ fn write_told(
 {
     let mut solution: [f64; 8] = [0.0; 8];
     let mut impulses: [f64; 24] = [0.0; 24];
+    let mut new_centres: [f64; 12] = [0.0; 12];
     let mut counts: [u32; 2] = [0; 2];
     let mut maxima: [f64; 2] = [0.0; 2];
     let refusal = solved(
@@ -157,8 +169,10 @@ fn write_told(
         numbers,
         words,
         masses,
+        centres,
         &mut solution,
         &mut impulses,
+        &mut new_centres,
         &mut counts,
         &mut maxima,
     );
@@ -166,7 +180,15 @@ fn write_told(
         return write_refusal(refusal, out);
     }
     let mut gap: [f64; 2] = [0.0; 2];
-    let closes = verdict(trailer, numbers, words, masses, &solution, &mut gap);
+    let closes = verdict(
+        trailer,
+        numbers,
+        words,
+        masses,
+        centres,
+        &solution,
+        &mut gap,
+    );
     write_accepted(
         counts[0],
         counts[1],
@@ -181,6 +203,8 @@ fn write_told(
         closes,
         numbers,
         &impulses,
+        trailer.spare,
+        &new_centres,
         out,
     )
 }
@@ -191,10 +215,11 @@ pub fn print_lent(file: &[u8], text: &mut [u8])
     let mut numbers: [f64; 216] = [0.0; 216];
     let mut words: [u32; 64] = [0; 64];
     let mut masses: [f64; 40] = [0.0; 40];
-    let opened = read_job(file, &mut numbers, &mut words, &mut masses);
+    let mut centres: [f64; 12] = [0.0; 12];
+    let opened = read_job(file, &mut numbers, &mut words, &mut masses, &mut centres);
     let FileJudged::Passed(trailer) = opened else {
         return;
     };
-    let end = write_told(trailer, &mut numbers, &words, &masses, text);
+    let end = write_told(trailer, &mut numbers, &words, &masses, &centres, text);
     io::write_all(STDOUT_FILENO, &text[..end]);
 }

@@ -10,6 +10,7 @@ use Rattle.binary64.specs.Order.{infinity}
 use Rattle.kapitsa_math.specs.Vector.{isFiniteOf}
 use Rattle.kapitsa_math.specs.Matrix.{finiteColumnsOf}
 use Rattle.kapitsa_joint.specs.Table.{Table}
+use Rattle.kapitsa_joint.specs.Centre.{Centres}
 use Rattle.kapitsa_joint.specs.declared.row.RowScalars.{RowScalars}
 use Rattle.kapitsa_joint.specs.declared.row.RowWords.{RowWords}
 use Rattle.kapitsa_joint.specs.declared.row.ConstraintRow.{ConstraintRow}
@@ -33,6 +34,10 @@ massFiniteOf m = finite (m .«inverse_mass») && finiteColumnsOf (m .«inverse_i
 
 unfoldable pub passes6 : Table → Bool
 passes6 t = every (λ b. massFiniteOf (t .mass b)) (t .bodies)
+
+-- document 02, d: "A centre that comes in not finite is refusal 6"
+unfoldable pub centresFinite : Centres → Bool
+centresFinite c = every (λ b. isFiniteOf (c .at b)) (c .bodies)
 
 -- ---- 7. "A row fails ConstraintRow::is_valid, or a body number of it is not below the body count." (row.rs; a NaN fails every comparison)
 unfoldable pub bodiesBelowOf : ℕ → RowWords → Bool

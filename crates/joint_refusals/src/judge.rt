@@ -8,7 +8,8 @@ ghost use Rattle.kapitsa_math.specs.Lent.{vecOf};
 ghost use Rattle.kapitsa_math.specs.Vector.{isFiniteOf};
 ghost use Rattle.kapitsa_joint.specs.Row.{wordsOf, scalarsOf, rowOf};
 ghost use Rattle.kapitsa_joint.specs.Mass.{massOf};
-ghost use Rattle.joint_refusals.specs.Refusals.{wordsFitOf, opensOf, massFiniteOf, bodiesBelowOf, jacobiansFiniteOf, scalarsFiniteOf, scalarsInRangeOf, isValidOf};
+ghost use Rattle.kapitsa_joint.specs.Centre.{centresIn};
+ghost use Rattle.joint_refusals.specs.Refusals.{wordsFitOf, opensOf, massFiniteOf, centresFinite, bodiesBelowOf, jacobiansFiniteOf, scalarsFiniteOf, scalarsInRangeOf, isValidOf};
 use kapitsa_joint::RowScalars;
 use kapitsa_joint::RowWords;
 use kapitsa_joint::SolverMass;
@@ -83,7 +84,7 @@ pub fn rows_open(numbers: &[f64], words: &[u32], rows: usize) -> bool
     true
 }
 
-// Refusal 6: every mass number is finite.
+// Refusal 6: every mass number is finite,
 pub fn mass_finite(mass: SolverMass) -> bool
     ensures { λ r. ⌜ r ≡ massFiniteOf mass ⌝ }
 {
@@ -112,19 +113,34 @@ pub fn masses_finite(masses: &[f64], bodies: usize) -> bool
     true
 }
 
-// Refusal 7: ConstraintRow::is_valid of row.rs, in four groups.
-fn bodies_below(w: RowWords, bodies: u32) -> bool
-    ensures { λ r. ⌜ r ≡ bodiesBelowOf bodies w ⌝ }
-{
-    (w.body_a != w.body_b) & (w.body_a < bodies) & (w.body_b < bodies)
-}
-
 fn vec_finite_at(numbers: &[f64], at: usize) -> bool
     requires { ⌜ at + 3 ≤ length (now numbers) ⌝ }
     ensures { λ r. ⌜ r ≡ isFiniteOf (vecOf (now (numbers .entry)) at) ⌝ }
 {
     let v = vec_at(numbers, at);
     v.is_finite()
+}
+
+// and every centre's number.
+pub fn centres_finite(centres: &[f64], bodies: usize) -> bool
+    requires { ⌜ 3 * bodies ≤ length (now centres) ⌝ }
+    ensures { λ r. ⌜ r ≡ centresFinite (centresIn bodies (now (centres .entry))) ⌝ }
+{
+    let mut b = 0;
+    while b < bodies {
+        if !vec_finite_at(centres, 3 * b) {
+            return false;
+        }
+        b += 1;
+    }
+    true
+}
+
+// Refusal 7: ConstraintRow::is_valid of row.rs, in four groups.
+fn bodies_below(w: RowWords, bodies: u32) -> bool
+    ensures { λ r. ⌜ r ≡ bodiesBelowOf bodies w ⌝ }
+{
+    (w.body_a != w.body_b) & (w.body_a < bodies) & (w.body_b < bodies)
 }
 
 // The five vectors of row i, whatever its words are.

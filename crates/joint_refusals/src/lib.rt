@@ -5,6 +5,7 @@ pub mod tolerances; // tolerances.rt: of the two tolerances
 
 pub use counts::counts_fit;
 pub use counts::table_counts_fit;
+pub use judge::centres_finite;
 pub use judge::is_valid_at;
 pub use judge::masses_finite;
 pub use judge::rows_open;

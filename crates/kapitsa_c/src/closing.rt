@@ -3,6 +3,8 @@ ghost use mathlib.Core.Path.{_≡_};
 ghost use mathlib.Core.Bool.{_&&_};
 ghost use lib.ListN.{length};
 ghost use Rattle.kapitsa_joint.specs.Table.{tableOf};
+ghost use Rattle.kapitsa_joint.specs.Centre.{centresIn};
+ghost use Rattle.joint_refusals.specs.Refusals.{centresFinite};
 ghost use Rattle.mass_operator.specs.Flat.{coefficients};
 ghost use Rattle.rules.specs.Rows.{rulesIn};
 ghost use Rattle.check_range.specs.Closing.{closingOf};
@@ -48,7 +50,7 @@ fn tell_verdict(answer: CheckAnswer, verdict: &mut [u32], gap: &mut [f64]) -> u3
     }
 }
 
-// For n rows, b bodies and t rules, at most 64: numbers 27n, words 8n, masses 10b, rule_words 3t (dimension, first key, last key), rule_tolerances t, multipliers n;
+// For n rows, b bodies and t rules, at most 64: numbers 27n, words 8n, masses 10b, centres 3b, rule_words 3t (dimension, first key, last key), rule_tolerances t, multipliers n;
 // rule_numbers n (the rule of each row), verdict 1 (1 closed, 0 open) and gap 2 (the largest reach of linear and of angular rows), written where 0 is returned and nowhere else;
 // jacobians 12n, links 2n, mass_sizes 10b, multiplier_sizes n, impulses 6b, values n, sizes n: this work memory is 0 afterwards, except after 3, which writes nothing.
 #[no_mangle]
@@ -56,6 +58,7 @@ pub extern "C" fn kapitsa_closing_check(
     numbers: &[f64],
     words: &[u32],
     masses: &[f64],
+    centres: &[f64],
     rule_words: &[u32],
     rule_tolerances: &[f64],
     rows: u32,
@@ -72,9 +75,9 @@ pub extern "C" fn kapitsa_closing_check(
     values: &mut [f64],
     sizes: &mut [f64],
 ) -> u32
-    ensures { λ r. ⌜ CheckTold (verdictFits (now (verdict .entry)) (now (gap .entry)) && passes3 rows bodies (tableLengths (now (numbers .entry)) (now (words .entry)) (now (masses .entry)) (now (multipliers .entry)) (now («rule_words» .entry)) (now («rule_tolerances» .entry)) (now («rule_numbers» .entry))) (workLengths (memoryOf (now (jacobians .entry)) (now (links .entry)) (now («mass_sizes» .entry)) (now («multiplier_sizes» .entry)) (now (impulses .entry)) (now (values .entry)) (now (sizes .entry)))))
+    ensures { λ r. ⌜ CheckTold (verdictFits (now (verdict .entry)) (now (gap .entry)) && passes3 rows bodies (tableLengths (now (numbers .entry)) (now (words .entry)) (now (masses .entry)) (now (centres .entry)) (now (multipliers .entry)) (now («rule_words» .entry)) (now («rule_tolerances» .entry)) (now («rule_numbers» .entry))) (workLengths (memoryOf (now (jacobians .entry)) (now (links .entry)) (now («mass_sizes» .entry)) (now («multiplier_sizes» .entry)) (now (impulses .entry)) (now (values .entry)) (now (sizes .entry)))))
         (rulesIn (now («rule_words» .entry)) (now («rule_tolerances» .entry)))
-        (closingOf (tableOf rows bodies (now (numbers .entry)) (now (words .entry)) (now (masses .entry))) (coefficients (now (multipliers .entry))) (rulesIn (now («rule_words» .entry)) (now («rule_tolerances» .entry))))
+        (closingOf (tableOf rows bodies (now (numbers .entry)) (now (words .entry)) (now (masses .entry))) (coefficients (now (multipliers .entry))) (rulesIn (now («rule_words» .entry)) (now («rule_tolerances» .entry))) (centresFinite (centresIn bodies (now (centres .entry)))))
         (now (verdict .entry)) (now (gap .entry)) record { number = r; verdict = now (verdict .exit); gap = now (gap .exit) } (now («rule_numbers» .entry)) (now («rule_numbers» .exit))
         (memoryOf (now (jacobians .entry)) (now (links .entry)) (now («mass_sizes» .entry)) (now («multiplier_sizes» .entry)) (now (impulses .entry)) (now (values .entry)) (now (sizes .entry)))
         (memoryOf (now (jacobians .exit)) (now (links .exit)) (now («mass_sizes» .exit)) (now («multiplier_sizes» .exit)) (now (impulses .exit)) (now (values .exit)) (now (sizes .exit))) ⌝ }
@@ -88,6 +91,7 @@ pub extern "C" fn kapitsa_closing_check(
         numbers,
         words,
         masses,
+        centres,
         multipliers,
         rule_words,
         rule_tolerances,

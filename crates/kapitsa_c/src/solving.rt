@@ -7,7 +7,7 @@ ghost use Rattle.preconditioner.specs.Mode.{modeOf};
 ghost use Rattle.position_iteration.specs.Position.{positionOf};
 ghost use Rattle.work_memory.specs.Work.{workMemory};
 ghost use Rattle.work_memory.specs.Lengths.{passes3};
-ghost use Rattle.pcg.specs.Ruled.{rulesLent};
+ghost use Rattle.pcg.specs.Ruled.{rulesLent, centresLent};
 ghost use Rattle.kapitsa_c.specs.Solving.{toldOf, toldFits, SolveTold};
 use pcg::solve_position_pcg_prepared;
 use position_delivery::PositionPcg;
@@ -36,7 +36,7 @@ fn tell(answer: PositionPcg, counts: &mut [u32], maxima: &mut [f64]) -> u32
     }
 }
 
-// For n rows, b bodies and p = min(n(n - 1)/2, 16384): numbers 27n, words 8n, masses 10b, solution n, impulses 6b; for r rules rule_words 3r (dimension, first key, last key), rule_tolerances r; rule_numbers n, each row's rule; counts 2 (count, flag), maxima 2 (linear, angular);
+// For n rows, b bodies and p = min(n(n - 1)/2, 16384): numbers 27n, words 8n, masses 10b, centres 3b, solution n, impulses 6b, new_centres 3b (where each link ends up); for r rules rule_words 3r (dimension, first key, last key), rule_tolerances r; rule_numbers n, each row's rule; counts 2 (count, flag), maxima 2 (linear, angular);
 // jacobians 12n, links 2n, tolerances n, diagonal n, residual n, pending n, direction n, product n, body_impulses 6b, and by mode
 // pattern 0, n + 1 + p or n, order 0, n + 2p or 0, values 0, p or 36n. The work memory, from jacobians on, is 0 afterwards.
 // After a refusal nothing else is written; 3 leaves the work memory too as it was.
@@ -45,6 +45,7 @@ pub extern "C" fn kapitsa_solve_position(
     numbers: &mut [f64],
     words: &[u32],
     masses: &[f64],
+    centres: &[f64],
     rule_words: &[u32],
     rule_tolerances: &[f64],
     rows: u32,
@@ -54,6 +55,7 @@ pub extern "C" fn kapitsa_solve_position(
     shift: f64,
     solution: &mut [f64],
     impulses: &mut [f64],
+    new_centres: &mut [f64],
     rule_numbers: &mut [u32],
     counts: &mut [u32],
     maxima: &mut [f64],
@@ -70,10 +72,10 @@ pub extern "C" fn kapitsa_solve_position(
     order: &mut [u32],
     values: &mut [f64],
 ) -> u32
-    ensures { λ r. ⌜ SolveTold (toldFits (now (counts .entry)) (now (maxima .entry)) && (rulesLent rows (length (now («rule_words» .entry))) (length (now («rule_tolerances» .entry))) (length (now («rule_numbers» .entry))) && passes3 rows bodies mode (now (numbers .entry)) (now (words .entry)) (now (masses .entry)) (now (solution .entry)) (now (impulses .entry)) (workMemory (now (jacobians .entry)) (now (links .entry)) (now (tolerances .entry)) (now (diagonal .entry)) (now (residual .entry)) (now (pending .entry)) (now (direction .entry)) (now (product .entry)) (now («body_impulses» .entry)) (now (pattern .entry)) (now (order .entry)) (now (values .entry)))))
+    ensures { λ r. ⌜ SolveTold (toldFits (now (counts .entry)) (now (maxima .entry)) && ((rulesLent rows (length (now («rule_words» .entry))) (length (now («rule_tolerances» .entry))) (length (now («rule_numbers» .entry))) && centresLent bodies (length (now (centres .entry))) (length (now («new_centres» .entry)))) && passes3 rows bodies mode (now (numbers .entry)) (now (words .entry)) (now (masses .entry)) (now (solution .entry)) (now (impulses .entry)) (workMemory (now (jacobians .entry)) (now (links .entry)) (now (tolerances .entry)) (now (diagonal .entry)) (now (residual .entry)) (now (pending .entry)) (now (direction .entry)) (now (product .entry)) (now («body_impulses» .entry)) (now (pattern .entry)) (now (order .entry)) (now (values .entry)))))
         (rulesIn (now («rule_words» .entry)) (now («rule_tolerances» .entry)))
-        (positionOf rows bodies (now (numbers .entry)) (now (words .entry)) (now (masses .entry)) (rulesIn (now («rule_words» .entry)) (now («rule_tolerances» .entry))) shift) (modeOf mode shift) limit rows
-        record { numbers = now (numbers .entry); solution = now (solution .entry); impulses = now (impulses .entry) } record { numbers = now (numbers .exit); solution = now (solution .exit); impulses = now (impulses .exit) }
+        (positionOf rows bodies (now (numbers .entry)) (now (words .entry)) (now (masses .entry)) (now (centres .entry)) (rulesIn (now («rule_words» .entry)) (now («rule_tolerances» .entry))) shift) (modeOf mode shift) limit rows
+        record { numbers = now (numbers .entry); solution = now (solution .entry); impulses = now (impulses .entry); centres = now («new_centres» .entry) } record { numbers = now (numbers .exit); solution = now (solution .exit); impulses = now (impulses .exit); centres = now («new_centres» .exit) }
         (now («rule_numbers» .entry)) (now («rule_numbers» .exit)) (now (counts .entry)) (now (maxima .entry)) record { number = r; counts = now (counts .exit); maxima = now (maxima .exit) }
         (workMemory (now (jacobians .entry)) (now (links .entry)) (now (tolerances .entry)) (now (diagonal .entry)) (now (residual .entry)) (now (pending .entry)) (now (direction .entry)) (now (product .entry)) (now («body_impulses» .entry)) (now (pattern .entry)) (now (order .entry)) (now (values .entry)))
         (workMemory (now (jacobians .exit)) (now (links .exit)) (now (tolerances .exit)) (now (diagonal .exit)) (now (residual .exit)) (now (pending .exit)) (now (direction .exit)) (now (product .exit)) (now («body_impulses» .exit)) (now (pattern .exit)) (now (order .exit)) (now (values .exit))) ⌝ }
@@ -85,6 +87,7 @@ pub extern "C" fn kapitsa_solve_position(
         numbers,
         words,
         masses,
+        centres,
         rows,
         bodies,
         rule_words,
@@ -94,6 +97,7 @@ pub extern "C" fn kapitsa_solve_position(
         shift,
         solution,
         impulses,
+        new_centres,
         rule_numbers,
         jacobians,
         links,

@@ -1,6 +1,7 @@
--- Laws of rows, masses, impulses and tolerances in the lent tables.
+-- Laws of rows, masses, impulses, tolerances and centres in the lent tables.
 pub mod Kind
 pub mod Cross
 pub mod Stored
 pub mod Largest
 pub mod Above
+pub mod Centres

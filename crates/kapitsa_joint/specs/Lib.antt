@@ -4,3 +4,4 @@ pub mod Impulse
 pub mod Tolerance
 pub mod Table
 pub mod Maxima
+pub mod Centre

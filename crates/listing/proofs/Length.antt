@@ -6,15 +6,16 @@ use mathlib.Core.List.{List, [], _∷_, _++_}
 use native.Mathlib.Nat.{pow-succ'}
 use native.Mathlib.Omega.{arith}
 use lib.Dec.{leb, ltb}
-use lib.ListN.{length, length-append}
-use lib.Ieee.{Float}
+use lib.ListN.{length, getD, length-append}
+use lib.Ieee.{Float, nan}
 use borrow.Author.Tests.{ltb-true, ltb-false}
 use Rattle.kapitsa_joint.specs.declared.maxima.Maxima.{Maxima}
 use Rattle.listing.specs.Written.{Room, pieces}
-use Rattle.listing.specs.Digits.{decimalDigit, decimal, hexadecimal, number, double}
-use Rattle.listing.specs.Lines.{newline, solveName, gapName, noneName, carriedName, closeName, rowName, bodyName, solveLine, maximaWords, gapLine, noGapLine, carriedLine, closeLine, rowLine, bodyLine}
+use Rattle.listing.specs.Digits.{decimalDigit, decimal, hexadecimal, number, double, doubles}
+use Rattle.listing.specs.Lines.{newline, solveName, gapName, noneName, carriedName, closeName, rowName, bodyName, solveLine, maximaWords, gapLine, noGapLine, carriedLine, closeLine, rowLine, centreCount, bodyLine}
 use Rattle.listing.specs.Listing.{flagOf, measuredLine, rowLines, bodyLines, listingOf, refusedListing}
 use Rattle.listing.proofs.Decimal.{decimal-small, decimal-more}
+use Rattle.listing.proofs.Names.{centre-most}
 
 -- ---- numbers
 
@@ -40,6 +41,10 @@ pub double-long : (x : Float) → length (double x) ≡ 17
 unfolding double hexadecimal pieces
 double-long x = refl
 
+doubles-short : (l : List Float) (first n : ℕ) → length (doubles l first n) ≤ n * 17
+unfolding doubles
+doubles-short l first n = pieces-short (λ k. double (getD l (first + k) nan)) 17 n (λ k _. let e = double-long (getD l (first + k) nan) in omega arith)
+
 -- ---- lines
 
 row-short : (i : ℕ) (x : Float) → i < 4294967296 → length (rowLine i x) ≤ 32
@@ -52,14 +57,19 @@ row-short i x h =
     let e = length-append (rowName ++ number i ++ double x) newline in
     omega arith
 
-body-short : (b : ℕ) (x : ℕ → Float) → b < 4294967296 → length (bodyLine b x) ≤ 118
+body-short : (b : ℕ) (impulses : List Float) (spare : ℕ) (centres : List Float) → b < 4294967296 → length (bodyLine b impulses spare centres) ≤ 169
 unfolding bodyLine bodyName
-body-short b x h =
+body-short b impulses spare centres h =
+    let six = doubles impulses (6 * b) 6 in
+    let three = doubles centres (3 * b) (centreCount spare) in
     let a = number-short b h in
-    let six = pieces-short (λ k. double (x k)) 17 6 (λ k _. let l = double-long (x k) in omega arith) in
+    let i = doubles-short impulses (6 * b) 6 in
+    let j = doubles-short centres (3 * b) (centreCount spare) in
+    let m = centre-most spare in
     let c = length-append bodyName (number b) in
-    let d = length-append (bodyName ++ number b) (pieces (λ k. double (x k)) 6) in
-    let e = length-append (bodyName ++ number b ++ pieces (λ k. double (x k)) 6) newline in
+    let d = length-append (bodyName ++ number b) six in
+    let e = length-append (bodyName ++ number b ++ six) three in
+    let f = length-append (bodyName ++ number b ++ six ++ three) newline in
     omega arith
 
 solve-short : (refusal count flag : ℕ) → refusal < 4294967296 → count < 4294967296 → flag < 4294967296 → length (solveLine refusal count flag) ≤ 39
@@ -112,22 +122,22 @@ flag-small : (flag : Bool) → flagOf flag < 4294967296
 flag-small true = omega arith
 flag-small false = omega arith
 
-pub listing-short : (count : ℕ) (flag : Bool) (gap carried : Maxima) (verdict rows bodies : ℕ) (numbers impulses : List Float) → count < 4294967296 → verdict < 4294967296 → rows ≤ 128 → bodies ≤ 64
-    → length (listingOf count flag gap carried verdict rows bodies numbers impulses) ≤ 16384
+pub listing-short : (count : ℕ) (flag : Bool) (gap carried : Maxima) (verdict rows bodies : ℕ) (numbers impulses : List Float) (spare : ℕ) (centres : List Float) → count < 4294967296 → verdict < 4294967296 → rows ≤ 128 → bodies ≤ 64
+    → length (listingOf count flag gap carried verdict rows bodies numbers impulses spare centres) ≤ 16384
 unfolding listingOf rowLines bodyLines
-listing-short count flag x y v rows bodies numbers impulses h g r b =
+listing-short count flag x y v rows bodies numbers impulses spare centres h g r b =
     let s = solveLine 0 count (flagOf flag) in
     let p = measuredLine v x in
     let q = carriedLine y in
     let c = closeLine v in
     let t = rowLines numbers rows in
-    let u = bodyLines impulses bodies in
+    let u = bodyLines impulses spare centres bodies in
     let ls : length s ≤ 39 = solve-short 0 count (flagOf flag) (omega arith) h (flag-small flag) in
     let lp : length p ≤ 38 = measured-short v x in
     let lq : length q ≡ 42 = carried-long y in
     let lc : length c ≤ 17 = close-short v g in
     let lt : length t ≤ rows * 32 = pieces-short _ 32 rows (λ i l. row-short i _ (omega arith)) in
-    let lu : length u ≤ bodies * 118 = pieces-short _ 118 bodies (λ i l. body-short i _ (omega arith)) in
+    let lu : length u ≤ bodies * 169 = pieces-short _ 169 bodies (λ i l. body-short i impulses spare centres (omega arith)) in
     omega (arith, length-append s p, length-append (s ++ p) q, length-append (s ++ p ++ q) c, length-append (s ++ p ++ q ++ c) t, length-append (s ++ p ++ q ++ c ++ t) u)
 
 -- ---- so there is room for it
@@ -135,6 +145,6 @@ listing-short count flag x y v rows bodies numbers impulses h g r b =
 pub refused-room : (out : List ℕ) (refusal : ℕ) → refusal < 4294967296 → 39 ≤ length out → Room out 0 (refusedListing refusal)
 refused-room out r h l = let s = refused-short r h in record { fits = omega arith }
 
-pub listing-room : (out : List ℕ) (count : ℕ) (flag : Bool) (gap carried : Maxima) (verdict rows bodies : ℕ) (numbers impulses : List Float)
-    → count < 4294967296 → verdict < 4294967296 → rows ≤ 128 → bodies ≤ 64 → 16384 ≤ length out → Room out 0 (listingOf count flag gap carried verdict rows bodies numbers impulses)
-listing-room out count flag x y v rows bodies numbers impulses h g r b l = let s = listing-short count flag x y v rows bodies numbers impulses h g r b in record { fits = omega arith }
+pub listing-room : (out : List ℕ) (count : ℕ) (flag : Bool) (gap carried : Maxima) (verdict rows bodies : ℕ) (numbers impulses : List Float) (spare : ℕ) (centres : List Float)
+    → count < 4294967296 → verdict < 4294967296 → rows ≤ 128 → bodies ≤ 64 → 16384 ≤ length out → Room out 0 (listingOf count flag gap carried verdict rows bodies numbers impulses spare centres)
+listing-room out count flag x y v rows bodies numbers impulses spare centres h g r b l = let s = listing-short count flag x y v rows bodies numbers impulses spare centres h g r b in record { fits = omega arith }

@@ -1,12 +1,17 @@
--- The names of the lines, the flag and the line of the gap, as the source writes them. Assumes nothing.
+-- The names of the lines, the flag, the line of the gap and the count of centre numbers, as the source writes them. Assumes nothing.
 use Prim.Native.Nat.{ℕ, _<_, _≤_}
 use mathlib.Core.Path.{_≡_, refl}
-use mathlib.Core.Bool.{Bool, true, false}
-use mathlib.Core.List.{[], _∷_}
-use borrow.Author.Tests.{le-leb, lt-leb}
+use mathlib.Core.Bool.{Bool, true, false, cond}
+use mathlib.Core.List.{List, [], _∷_}
+use mathlib.Core.Logic.{_≢_}
+use native.Mathlib.Omega.{arith}
+use lib.Dec.{eqb}
+use lib.Ieee.{Float}
+use borrow.Author.Tests.{le-leb, lt-leb, eq-eqb, ne-eqb}
 use mir.Val.{boolByte}
 use Rattle.kapitsa_joint.specs.declared.maxima.Maxima.{Maxima}
-use Rattle.listing.specs.Lines.{solveLine, gapLine, noGapLine, solveName, gapName, noneName, carriedName, closeName, rowName, bodyName}
+use Rattle.listing.specs.Lines.{solveLine, gapLine, noGapLine, solveName, gapName, noneName, carriedName, closeName, rowName, bodyName, centreCount}
+use Rattle.listing.specs.Digits.{doubles}
 use Rattle.listing.specs.Listing.{flagOf, measuredLine}
 
 pub solve-name : 115 ∷ 111 ∷ 108 ∷ 118 ∷ 101 ∷ [] ≡ solveName
@@ -51,3 +56,25 @@ module _ {verdict : ℕ} (gap : Maxima) where
   pub measured-none : 1 < verdict → noGapLine ≡ measuredLine verdict gap
   unfolding measuredLine
   measured-none h = rw (lt-leb verdict 1 h)
+
+-- `spare == 1`
+module _ (spare : ℕ) where
+  pub centre-three : spare ≡ 1 → 3 ≡ centreCount spare
+  unfolding centreCount
+  centre-three e = rw (eq-eqb spare 1 e)
+
+  pub centre-none : spare ≢ 1 → 0 ≡ centreCount spare
+  unfolding centreCount
+  centre-none n = rw (ne-eqb spare 1 n)
+
+  pub centre-most : centreCount spare ≤ 3
+  unfolding centreCount
+  centre-most = go (eqb spare 1)
+    where
+      go : (b : Bool) → cond b 3 0 ≤ 3
+      go true = omega arith
+      go false = omega arith
+
+-- as many numbers by another name
+pub doubles-as : (l : List Float) (first : ℕ) {m n : ℕ} → m ≡ n → doubles l first m ≡ doubles l first n
+doubles-as l first e = rw e

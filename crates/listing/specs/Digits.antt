@@ -3,7 +3,8 @@ use Prim.Native.Nat.{ℕ, zero, suc, _+_, _-_, _*_, _/_, _%_, _^_}
 use mathlib.Core.Bool.{cond}
 use mathlib.Core.List.{List, [], _∷_, _++_}
 use lib.Dec.{ltb}
-use lib.Ieee.{Float, binary64, toBits}
+use lib.ListN.{getD}
+use lib.Ieee.{Float, binary64, toBits, nan}
 use Rattle.listing.specs.Written.{pieces}
 
 -- '0' is 48
@@ -32,3 +33,7 @@ number n = 32 ∷ decimal n
 
 unfoldable pub double : Float → List ℕ
 double x = 32 ∷ hexadecimal (toBits binary64 x)
+
+-- n words: the numbers of l from `first` on
+unfoldable pub doubles : List Float → ℕ → ℕ → List ℕ
+doubles l first n = pieces (λ k. double (getD l (first + k) nan)) n

@@ -1,10 +1,11 @@
 -- The lines of the listing, each ended by one newline.
-use Prim.Native.Nat.{ℕ}
+use Prim.Native.Nat.{ℕ, _*_}
+use mathlib.Core.Bool.{cond}
 use mathlib.Core.List.{List, [], _∷_, _++_}
+use lib.Dec.{eqb}
 use lib.Ieee.{Float}
 use Rattle.kapitsa_joint.specs.declared.maxima.Maxima.{Maxima}
-use Rattle.listing.specs.Written.{pieces}
-use Rattle.listing.specs.Digits.{number, double}
+use Rattle.listing.specs.Digits.{number, double, doubles}
 
 -- ---- the names, in ASCII
 
@@ -68,6 +69,10 @@ closeLine verdict = closeName ++ number verdict ++ newline
 unfoldable pub rowLine : ℕ → Float → List ℕ
 rowLine i multiplier = rowName ++ number i ++ double multiplier ++ newline
 
--- "body and six impulses"
-unfoldable pub bodyLine : ℕ → (ℕ → Float) → List ℕ
-bodyLine b impulse = bodyName ++ number b ++ pieces (λ k. double (impulse k)) 6 ++ newline
+-- document 02, d: "For a file of spare 1 the program's body lines end with the three new centre numbers"
+unfoldable pub centreCount : ℕ → ℕ
+centreCount spare = cond (eqb spare 1) 3 0
+
+-- "body and six impulses", and the centre
+unfoldable pub bodyLine : ℕ → List Float → ℕ → List Float → List ℕ
+bodyLine b impulses spare centres = bodyName ++ number b ++ doubles impulses (6 * b) 6 ++ doubles centres (3 * b) (centreCount spare) ++ newline

@@ -1,4 +1,4 @@
--- Document 01, "Sheets to try": what "the job program ... prints": "refusal, count, flag; residuals; verdict; row and multiplier; body and six impulses", with the measured gap before the residuals (document 02, h), and of a refused job "its first line only, zeros after the number".
+-- Document 01, "Sheets to try": what "the job program ... prints": "refusal, count, flag; residuals; verdict; row and multiplier; body and six impulses", with the measured gap before the residuals (document 02, h) and the new centre after the impulses (d), and of a refused job "its first line only, zeros after the number".
 use Prim.Native.Nat.{ℕ, _+_, _*_}
 use mathlib.Core.Bool.{Bool, cond}
 use mathlib.Core.List.{List, _++_}
@@ -14,8 +14,8 @@ unfoldable pub rowLines : List Float → ℕ → List ℕ
 rowLines numbers rows = pieces (λ i. rowLine i (getD numbers (27 * i + 24) nan)) rows
 
 -- a line for each body, also where there are no rows
-unfoldable pub bodyLines : List Float → ℕ → List ℕ
-bodyLines impulses bodies = pieces (λ b. bodyLine b (λ k. getD impulses (6 * b + k) nan)) bodies
+unfoldable pub bodyLines : List Float → ℕ → List Float → ℕ → List ℕ
+bodyLines impulses spare centres bodies = pieces (λ b. bodyLine b impulses spare centres) bodies
 
 -- the flag as it is printed
 abbrev pub flagOf : Bool → ℕ
@@ -25,10 +25,10 @@ flagOf flag = cond flag 1 0
 unfoldable pub measuredLine : ℕ → Maxima → List ℕ
 measuredLine verdict gap = cond (leb verdict 1) (gapLine gap) noGapLine
 
--- of an accepted job
-unfoldable pub listingOf : ℕ → Bool → Maxima → Maxima → ℕ → ℕ → ℕ → List Float → List Float → List ℕ
-listingOf count flag gap carried verdict rows bodies numbers impulses =
-    solveLine 0 count (flagOf flag) ++ measuredLine verdict gap ++ carriedLine carried ++ closeLine verdict ++ rowLines numbers rows ++ bodyLines impulses bodies
+-- of an accepted job, from a file of this spare
+unfoldable pub listingOf : ℕ → Bool → Maxima → Maxima → ℕ → ℕ → ℕ → List Float → List Float → ℕ → List Float → List ℕ
+listingOf count flag gap carried verdict rows bodies numbers impulses spare centres =
+    solveLine 0 count (flagOf flag) ++ measuredLine verdict gap ++ carriedLine carried ++ closeLine verdict ++ rowLines numbers rows ++ bodyLines impulses spare centres bodies
 
 -- of a refused one
 unfoldable pub refusedListing : ℕ → List ℕ

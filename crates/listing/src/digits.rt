@@ -1,8 +1,9 @@
 // Numbers as text.
 ghost use mathlib.Core.Path.{_≡_};
-ghost use Prim.Native.Nat.{_<_};
+ghost use Prim.Native.Nat.{_+_, _<_, _≤_};
+ghost use lib.ListN.{length};
 ghost use Rattle.listing.specs.Written.{Room, Wrote};
-ghost use Rattle.listing.specs.Digits.{decimalDigit, decimal, hexadecimalDigit, hexadecimal, number, double};
+ghost use Rattle.listing.specs.Digits.{decimalDigit, decimal, hexadecimalDigit, hexadecimal, number, double, doubles};
 use crate::text::put_byte;
 
 fn decimal_digit(d: u32) -> u8
@@ -66,4 +67,18 @@ pub fn put_double(out: &mut [u8], at: usize, x: f64) -> usize
 {
     let next = put_byte(out, at, b' ');
     put_hexadecimal(out, next, binary64::to_bits(x))
+}
+
+// n doubles, from number `first` of the list on.
+pub fn put_doubles(out: &mut [u8], at: usize, list: &[f64], first: usize, n: usize) -> usize
+    requires { ⌜ (first + n ≤ length (now list)) × Room (now out) at (doubles (now list) first n) ⌝ }
+    ensures { λ r. ⌜ Wrote (now (out .entry)) at (doubles (now (list .entry)) first n) (now (out .exit)) r ⌝ }
+{
+    let mut next = at;
+    let mut k = 0;
+    while k < n {
+        next = put_double(out, next, list[first + k]);
+        k += 1;
+    }
+    next
 }

@@ -1,12 +1,12 @@
 // The lines of the listing.
+ghost use mathlib.Core.Path.{_≡_};
 ghost use Prim.Native.Nat.{_+_, _*_, _≤_};
-ghost use lib.ListN.{length, getD};
-ghost use lib.Ieee.{nan};
-ghost use Rattle.listing.specs.Written.{Room, Wrote, pieces};
-ghost use Rattle.listing.specs.Digits.{double};
-ghost use Rattle.listing.specs.Lines.{solveLine, maximaWords, gapLine, noGapLine, carriedLine, closeLine, rowLine, bodyLine};
+ghost use lib.ListN.{length};
+ghost use Rattle.listing.specs.Written.{Room, Wrote};
+ghost use Rattle.listing.specs.Lines.{solveLine, maximaWords, gapLine, noGapLine, carriedLine, closeLine, rowLine, centreCount, bodyLine};
 ghost use Rattle.listing.specs.Listing.{measuredLine, rowLines, bodyLines};
 use crate::digits::put_double;
+use crate::digits::put_doubles;
 use crate::digits::put_number;
 use crate::text::put_byte;
 use crate::text::put_text;
@@ -87,28 +87,34 @@ pub fn row_line(out: &mut [u8], at: usize, i: u32, multiplier: f64) -> usize
     put_byte(out, c, b'\n')
 }
 
-// The six impulses of a body, from `first` on.
-fn put_six(out: &mut [u8], at: usize, impulses: &[f64], first: usize) -> usize
-    requires { ⌜ (first + 6 ≤ length (now impulses)) × Room (now out) at (pieces (λ k. double (getD (now impulses) (first + k) nan)) 6) ⌝ }
-    ensures { λ r. ⌜ Wrote (now (out .entry)) at (pieces (λ k. double (getD (now (impulses .entry)) (first + k) nan)) 6) (now (out .exit)) r ⌝ }
+// The centre numbers at the end of a body line: 3 where the file has centres.
+fn centre_count(spare: u32) -> usize
+    ensures { λ r. ⌜ r ≡ centreCount spare ⌝ }
 {
-    let mut next = at;
-    let mut k = 0;
-    while k < 6 {
-        next = put_double(out, next, impulses[first + k]);
-        k += 1;
+    if spare == 1 {
+        return 3;
     }
-    next
+    0
 }
 
-pub fn body_line(out: &mut [u8], at: usize, b: u32, impulses: &[f64]) -> usize
-    requires { ⌜ (6 * b + 6 ≤ length (now impulses)) × Room (now out) at (bodyLine b (λ k. getD (now impulses) (6 * b + k) nan)) ⌝ }
-    ensures { λ r. ⌜ Wrote (now (out .entry)) at (bodyLine b (λ k. getD (now (impulses .entry)) (6 * b + k) nan)) (now (out .exit)) r ⌝ }
+pub fn body_line(
+    out: &mut [u8],
+    at: usize,
+    b: u32,
+    impulses: &[f64],
+    spare: u32,
+    centres: &[f64],
+) -> usize
+    requires { ⌜ (6 * b + 6 ≤ length (now impulses)) × (3 * b + 3 ≤ length (now centres)) × Room (now out) at (bodyLine b (now impulses) spare (now centres)) ⌝ }
+    ensures { λ r. ⌜ Wrote (now (out .entry)) at (bodyLine b (now (impulses .entry)) spare (now (centres .entry))) (now (out .exit)) r ⌝ }
 {
+    let place = b as usize;
     let name = put_text(out, at, b"body");
     let number = put_number(out, name, b);
-    let six = put_six(out, number, impulses, 6 * (b as usize));
-    put_byte(out, six, b'\n')
+    let six = put_doubles(out, number, impulses, 6 * place, 6);
+    let count = centre_count(spare);
+    let centre = put_doubles(out, six, centres, 3 * place, count);
+    put_byte(out, centre, b'\n')
 }
 
 pub fn row_lines(out: &mut [u8], at: usize, numbers: &[f64], rows: u32) -> usize
@@ -124,14 +130,21 @@ pub fn row_lines(out: &mut [u8], at: usize, numbers: &[f64], rows: u32) -> usize
     next
 }
 
-pub fn body_lines(out: &mut [u8], at: usize, impulses: &[f64], bodies: u32) -> usize
-    requires { ⌜ (6 * bodies ≤ length (now impulses)) × Room (now out) at (bodyLines (now impulses) bodies) ⌝ }
-    ensures { λ r. ⌜ Wrote (now (out .entry)) at (bodyLines (now (impulses .entry)) bodies) (now (out .exit)) r ⌝ }
+pub fn body_lines(
+    out: &mut [u8],
+    at: usize,
+    impulses: &[f64],
+    spare: u32,
+    centres: &[f64],
+    bodies: u32,
+) -> usize
+    requires { ⌜ (6 * bodies ≤ length (now impulses)) × (3 * bodies ≤ length (now centres)) × Room (now out) at (bodyLines (now impulses) spare (now centres) bodies) ⌝ }
+    ensures { λ r. ⌜ Wrote (now (out .entry)) at (bodyLines (now (impulses .entry)) spare (now (centres .entry)) bodies) (now (out .exit)) r ⌝ }
 {
     let mut next = at;
     let mut b = 0;
     while b < bodies {
-        next = body_line(out, next, b, impulses);
+        next = body_line(out, next, b, impulses, spare, centres);
         b += 1;
     }
     next

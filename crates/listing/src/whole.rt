@@ -11,7 +11,8 @@ use crate::lines::row_lines;
 use crate::lines::solve_line;
 use kapitsa_joint::Maxima;
 
-// Count and flag, the gap that the closing check measured, the residuals that the solve carried, the verdict or refusal of the check, the rows after the solve and the impulses.
+// Count and flag, the gap that the closing check measured, the residuals that the solve carried, the verdict or refusal of the check, the rows after the solve, the impulses and,
+// where the file's spare is 1, the new centres.
 // No listing of 128 rows and 64 bodies has more than 16,384 bytes.
 pub fn write_listing(
     count: u32,
@@ -23,17 +24,19 @@ pub fn write_listing(
     bodies: u32,
     numbers: &[f64],
     impulses: &[f64],
+    spare: u32,
+    centres: &[f64],
     out: &mut [u8],
 ) -> usize
-    requires { ⌜ (27 * rows ≤ length (now numbers)) × (6 * bodies ≤ length (now impulses)) × Room (now out) 0 (listingOf count flag gap carried verdict rows bodies (now numbers) (now impulses)) ⌝ }
-    ensures { λ r. ⌜ Wrote (now (out .entry)) 0 (listingOf count flag gap carried verdict rows bodies (now (numbers .entry)) (now (impulses .entry))) (now (out .exit)) r ⌝ }
+    requires { ⌜ (27 * rows ≤ length (now numbers)) × (6 * bodies ≤ length (now impulses)) × (3 * bodies ≤ length (now centres)) × Room (now out) 0 (listingOf count flag gap carried verdict rows bodies (now numbers) (now impulses) spare (now centres)) ⌝ }
+    ensures { λ r. ⌜ Wrote (now (out .entry)) 0 (listingOf count flag gap carried verdict rows bodies (now (numbers .entry)) (now (impulses .entry)) spare (now (centres .entry))) (now (out .exit)) r ⌝ }
 {
     let solve = solve_line(out, 0, 0, count, flag as u32);
     let measured = measured_line(out, solve, verdict, gap);
     let residual = carried_line(out, measured, carried);
     let close = close_line(out, residual, verdict);
     let row = row_lines(out, close, numbers, rows);
-    body_lines(out, row, impulses, bodies)
+    body_lines(out, row, impulses, spare, centres, bodies)
 }
 
 pub fn write_refusal(refusal: u32, out: &mut [u8]) -> usize

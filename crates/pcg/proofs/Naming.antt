@@ -12,6 +12,7 @@ use Rattle.loops.specs.Judge.{AllPass}
 use Rattle.loops.specs.Tabulate.{tabulate}
 use Rattle.loops.proofs.Both.{both}
 use Rattle.loops.proofs.Judge.{judge-going}
+use Rattle.kapitsa_math.specs.declared.vector.Vec3.{Vec3}
 use Rattle.kapitsa_joint.specs.Row.{rowOf, wordsOf}
 use Rattle.kapitsa_joint.specs.Table.{Table, tableOf}
 use Rattle.rules.specs.Rules.{Rules, ruleLengthsFit, ruledBy, Ruled}
@@ -29,7 +30,7 @@ use Rattle.position_delivery.specs.declared.answer.PositionPcgResult.{PositionP
 use Rattle.steps.specs.Solve.{solve}
 use Rattle.work_memory.specs.Work.{WorkMemory}
 use Rattle.pcg.specs.SolveHeld.{SolveHeld}
-use Rattle.pcg.specs.Ruled.{rulesLent, NamingRoom, namedBy, SolveRuled}
+use Rattle.pcg.specs.Ruled.{rulesLent, centresLent, NamingRoom, namedBy, SolveRuled}
 use Rattle.pcg.proofs.Entry.{solved-three}
 
 -- ---- an accepted answer has passed what is judged before step 0
@@ -50,11 +51,22 @@ module _ (fits : Bool) (p : Problem) (mode : Mode) (limit n : ℕ) (before after
   unfolding openingOf
   accepted-tests = judge-going (openingTests fits p limit) .0 accepted-opens
 
--- ---- the lengths of the rules
-module _ (rows words tolerances numbers : ℕ) {b : Bool} (e : b ≡ rulesLent rows words tolerances numbers) (h : not b ≡ false) where
+-- ---- the lengths of the rules and of the centres; r and k are what their tests answered
+module _ (rows words tolerances numbers bodies centres newCentres : ℕ) {r k : Bool} (er : r ≡ rulesLent rows words tolerances numbers) (ek : k ≡ centresLent bodies centres newCentres) where
+  pub lent-tests : (r && k) ≡ (rulesLent rows words tolerances numbers && centresLent bodies centres newCentres)
+  lent-tests = rw (er, ek)
+
+module _ (rows words tolerances numbers bodies centres newCentres : ℕ) {b : Bool} (e : b ≡ (rulesLent rows words tolerances numbers && centresLent bodies centres newCentres)) (h : not b ≡ false) where
+  lent-both : (rulesLent rows words tolerances numbers ≡ true) × (centresLent bodies centres newCentres ≡ true)
+  lent-both = both (rulesLent rows words tolerances numbers) (centresLent bodies centres newCentres) (sym e ∙ not-false b h)
+
   lent-parts : (ruleLengthsFit words tolerances ≡ true) × (eqb numbers rows ≡ true)
   unfolding rulesLent
-  lent-parts = both (ruleLengthsFit words tolerances) (eqb numbers rows) (sym e ∙ not-false b h)
+  lent-parts = both (ruleLengthsFit words tolerances) (eqb numbers rows) (lent-both .0)
+
+  pub lent-centres : (centres ≡ 3 * bodies) × (newCentres ≡ 3 * bodies)
+  unfolding centresLent
+  lent-centres = let (p, q) = both (eqb centres (3 * bodies)) (eqb newCentres (3 * bodies)) (lent-both .1) in (eqb-true centres (3 * bodies) p, eqb-true newCentres (3 * bodies) q)
 
   pub lent-rules : (3 * tolerances ≤ words) × (tolerances ≤ 64)
   unfolding ruleLengthsFit
@@ -74,13 +86,13 @@ naming-room fits p mode limit n before after held long e = record {
   room = λ r a. let w = long (accepted-tests fits p mode limit n before after (held .answered) r a .0) in omega arith;
 }
 
--- ---- the entry; b is what the test of the rules' lengths answered
-module _ (s : Rules) (rows bodies : ℕ) (numbers : List Float) (words : List ℕ) (masses : List Float) (shift : Float) (mode : Mode) (limit : ℕ) (before : Lent) (named : List ℕ) (work : WorkMemory) (a b q : Bool) (e : b ≡ a) where
+-- ---- the entry; b is what the test of the rules' and the centres' lengths answered
+module _ (s : Rules) (rows bodies : ℕ) (numbers : List Float) (words : List ℕ) (masses : List Float) (shift : Float) (centre : ℕ → Vec3) (mode : Mode) (limit : ℕ) (before : Lent) (named : List ℕ) (work : WorkMemory) (a b q : Bool) (e : b ≡ a) where
   abbrev t : Table
   t = tableOf rows bodies numbers words masses
 
   abbrev p : Problem
-  p = shiftedProblem t (ruledBy s t) shift
+  p = shiftedProblem t (ruledBy s t) shift centre
 
   pub ruled-three : Apart p → not b ≡ true → SolveRuled (a && q) s p mode limit rows before before named named (answers.Refused 3) work work
   ruled-three apart h =

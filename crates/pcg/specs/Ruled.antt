@@ -19,6 +19,10 @@ use Rattle.pcg.specs.SolveHeld.{SolveHeld}
 unfoldable pub rulesLent : ℕ → ℕ → ℕ → ℕ → Bool
 rulesLent rows words tolerances numbers = ruleLengthsFit words tolerances && eqb numbers rows
 
+-- of the centres before and after, three doubles a body
+unfoldable pub centresLent : ℕ → ℕ → ℕ → Bool
+centresLent bodies centres newCentres = eqb centres (3 * bodies) && eqb newCentres (3 * bodies)
+
 -- document 02, k: "The answer names, for each row, the number of the rule it was judged by"; a refusal touches nothing
 abbrev pub namedBy : PositionPcg → (ℕ → ℕ) → ℕ → List ℕ → List ℕ
 namedBy (answers.Accepted r) rule n before = tabulate rule n

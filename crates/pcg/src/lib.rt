@@ -2,5 +2,6 @@
 pub mod prepared; // prepared.rt: the entry
 pub mod solve; // solve.rt: the solve by rules of the right lengths
 
+pub use prepared::centres_lent;
 pub use prepared::rules_lent;
 pub use prepared::solve_position_pcg_prepared;

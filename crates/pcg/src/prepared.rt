@@ -8,18 +8,25 @@ ghost use Rattle.preconditioner.specs.Mode.{modeOf};
 ghost use Rattle.position_iteration.specs.Position.{positionOf};
 ghost use Rattle.work_memory.specs.Work.{workMemory};
 ghost use Rattle.work_memory.specs.Lengths.{passes3};
-ghost use Rattle.pcg.specs.Ruled.{rulesLent, NamingRoom, namedBy, SolveRuled};
+ghost use Rattle.pcg.specs.Ruled.{rulesLent, centresLent, NamingRoom, namedBy, SolveRuled};
 use crate::solve::solve_by_rules;
 use loops::wide;
 use position_delivery::PositionPcg;
 use rules::name_rules;
 use rules::rule_lengths_fit;
 
-// Refusal 3, of the rules and of what takes each row's: true where it does not apply.
+// Refusal 3, of the rules and of what takes each row's: true where it does not apply;
 pub fn rules_lent(rows: u32, words: usize, tolerances: usize, numbers: usize) -> bool
     ensures { λ r. ⌜ r ≡ rulesLent rows words tolerances numbers ⌝ }
 {
     rule_lengths_fit(words, tolerances) & (numbers == wide(rows))
+}
+
+// and of the centres.
+pub fn centres_lent(bodies: u32, centres: usize, new_centres: usize) -> bool
+    ensures { λ r. ⌜ r ≡ centresLent bodies centres «new_centres» ⌝ }
+{
+    (centres == 3 * wide(bodies)) & (new_centres == 3 * wide(bodies))
 }
 
 // The rule of each row, where the answer is accepted.
@@ -42,11 +49,12 @@ fn name_accepted(
     }
 }
 
-// Solution, impulses, accumulated multipliers and each row's rule are written only where the answer is accepted; the work memory is +0.0 (integers 0) afterwards, except after refusal 3, which writes nothing.
+// Solution, impulses, centres, accumulated multipliers and each row's rule are written only where the answer is accepted; the work memory is +0.0 (integers 0) afterwards, except after refusal 3, which writes nothing.
 pub fn solve_position_pcg_prepared(
     numbers: &mut [f64],
     words: &[u32],
     masses: &[f64],
+    centres: &[f64],
     rows: u32,
     bodies: u32,
     rule_words: &[u32],
@@ -56,6 +64,7 @@ pub fn solve_position_pcg_prepared(
     shift: f64,
     solution: &mut [f64],
     impulses: &mut [f64],
+    new_centres: &mut [f64],
     rule_numbers: &mut [u32],
     jacobians: &mut [f64],
     links: &mut [u32],
@@ -70,26 +79,29 @@ pub fn solve_position_pcg_prepared(
     order: &mut [u32],
     values: &mut [f64],
 ) -> PositionPcg
-    ensures { λ r. ⌜ SolveRuled (rulesLent rows (length (now («rule_words» .entry))) (length (now («rule_tolerances» .entry))) (length (now («rule_numbers» .entry))) && passes3 rows bodies mode (now (numbers .entry)) (now (words .entry)) (now (masses .entry)) (now (solution .entry)) (now (impulses .entry)) (workMemory (now (jacobians .entry)) (now (links .entry)) (now (tolerances .entry)) (now (diagonal .entry)) (now (residual .entry)) (now (pending .entry)) (now (direction .entry)) (now (product .entry)) (now («body_impulses» .entry)) (now (pattern .entry)) (now (order .entry)) (now (values .entry))))
+    ensures { λ r. ⌜ SolveRuled ((rulesLent rows (length (now («rule_words» .entry))) (length (now («rule_tolerances» .entry))) (length (now («rule_numbers» .entry))) && centresLent bodies (length (now (centres .entry))) (length (now («new_centres» .entry)))) && passes3 rows bodies mode (now (numbers .entry)) (now (words .entry)) (now (masses .entry)) (now (solution .entry)) (now (impulses .entry)) (workMemory (now (jacobians .entry)) (now (links .entry)) (now (tolerances .entry)) (now (diagonal .entry)) (now (residual .entry)) (now (pending .entry)) (now (direction .entry)) (now (product .entry)) (now («body_impulses» .entry)) (now (pattern .entry)) (now (order .entry)) (now (values .entry))))
         (rulesIn (now («rule_words» .entry)) (now («rule_tolerances» .entry)))
-        (positionOf rows bodies (now (numbers .entry)) (now (words .entry)) (now (masses .entry)) (rulesIn (now («rule_words» .entry)) (now («rule_tolerances» .entry))) shift) (modeOf mode shift) limit rows
-        record { numbers = now (numbers .entry); solution = now (solution .entry); impulses = now (impulses .entry) } record { numbers = now (numbers .exit); solution = now (solution .exit); impulses = now (impulses .exit) }
+        (positionOf rows bodies (now (numbers .entry)) (now (words .entry)) (now (masses .entry)) (now (centres .entry)) (rulesIn (now («rule_words» .entry)) (now («rule_tolerances» .entry))) shift) (modeOf mode shift) limit rows
+        record { numbers = now (numbers .entry); solution = now (solution .entry); impulses = now (impulses .entry); centres = now («new_centres» .entry) } record { numbers = now (numbers .exit); solution = now (solution .exit); impulses = now (impulses .exit); centres = now («new_centres» .exit) }
         (now («rule_numbers» .entry)) (now («rule_numbers» .exit)) r
         (workMemory (now (jacobians .entry)) (now (links .entry)) (now (tolerances .entry)) (now (diagonal .entry)) (now (residual .entry)) (now (pending .entry)) (now (direction .entry)) (now (product .entry)) (now («body_impulses» .entry)) (now (pattern .entry)) (now (order .entry)) (now (values .entry)))
         (workMemory (now (jacobians .exit)) (now (links .exit)) (now (tolerances .exit)) (now (diagonal .exit)) (now (residual .exit)) (now (pending .exit)) (now (direction .exit)) (now (product .exit)) (now («body_impulses» .exit)) (now (pattern .exit)) (now (order .exit)) (now (values .exit))) ⌝ }
 {
-    if !rules_lent(
+    let lent = rules_lent(
         rows,
         rule_words.len(),
         rule_tolerances.len(),
         rule_numbers.len(),
-    ) {
+    )
+        & centres_lent(bodies, centres.len(), new_centres.len());
+    if !lent {
         return PositionPcg::Refused(3);
     }
     let answer = solve_by_rules(
         numbers,
         words,
         masses,
+        centres,
         rows,
         bodies,
         rule_words,
@@ -99,6 +111,7 @@ pub fn solve_position_pcg_prepared(
         shift,
         solution,
         impulses,
+        new_centres,
         jacobians,
         links,
         tolerances,

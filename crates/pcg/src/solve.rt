@@ -1,4 +1,5 @@
 // The solve by rules that are lent in the right lengths: solve_position_pcg_prepared of pcg.rs, with every refusal of documents 01 and 02 but 3 of the rules.
+ghost use mathlib.Core.Path.{_≡_};
 ghost use Prim.Native.Nat.{_*_, _≤_};
 ghost use lib.ListN.{length};
 ghost use Rattle.rules.specs.Rows.{rulesIn};
@@ -7,6 +8,7 @@ ghost use Rattle.position_iteration.specs.Position.{positionOf};
 ghost use Rattle.work_memory.specs.Work.{workMemory};
 ghost use Rattle.work_memory.specs.Lengths.{passes3};
 ghost use Rattle.pcg.specs.SolveHeld.{SolveHeld};
+use joint_refusals::centres_finite;
 use joint_refusals::counts_fit;
 use position_delivery::PositionPcg;
 use position_delivery::deliver;
@@ -16,11 +18,12 @@ use work_memory::factor_fits;
 use work_memory::table_fits;
 use work_memory::vectors_fit;
 
-// Solution, impulses and accumulated multipliers are written only where the answer is accepted; the work memory is +0.0 (integers 0) afterwards, except after refusal 3, which writes nothing.
+// Solution, impulses, centres and accumulated multipliers are written only where the answer is accepted; the work memory is +0.0 (integers 0) afterwards, except after refusal 3, which writes nothing.
 pub fn solve_by_rules(
     numbers: &mut [f64],
     words: &[u32],
     masses: &[f64],
+    centres: &[f64],
     rows: u32,
     bodies: u32,
     rule_words: &[u32],
@@ -30,6 +33,7 @@ pub fn solve_by_rules(
     shift: f64,
     solution: &mut [f64],
     impulses: &mut [f64],
+    new_centres: &mut [f64],
     jacobians: &mut [f64],
     links: &mut [u32],
     tolerances: &mut [f64],
@@ -44,9 +48,10 @@ pub fn solve_by_rules(
     values: &mut [f64],
 ) -> PositionPcg
     requires { ⌜ 3 * length (now «rule_tolerances») ≤ length (now «rule_words») ⌝ }
+    requires { ⌜ (length (now centres) ≡ 3 * bodies) × (length (now «new_centres») ≡ 3 * bodies) ⌝ }
     ensures { λ r. ⌜ SolveHeld (passes3 rows bodies mode (now (numbers .entry)) (now (words .entry)) (now (masses .entry)) (now (solution .entry)) (now (impulses .entry)) (workMemory (now (jacobians .entry)) (now (links .entry)) (now (tolerances .entry)) (now (diagonal .entry)) (now (residual .entry)) (now (pending .entry)) (now (direction .entry)) (now (product .entry)) (now («body_impulses» .entry)) (now (pattern .entry)) (now (order .entry)) (now (values .entry))))
-        (positionOf rows bodies (now (numbers .entry)) (now (words .entry)) (now (masses .entry)) (rulesIn (now («rule_words» .entry)) (now («rule_tolerances» .entry))) shift) (modeOf mode shift) limit rows
-        record { numbers = now (numbers .entry); solution = now (solution .entry); impulses = now (impulses .entry) } record { numbers = now (numbers .exit); solution = now (solution .exit); impulses = now (impulses .exit) } r
+        (positionOf rows bodies (now (numbers .entry)) (now (words .entry)) (now (masses .entry)) (now (centres .entry)) (rulesIn (now («rule_words» .entry)) (now («rule_tolerances» .entry))) shift) (modeOf mode shift) limit rows
+        record { numbers = now (numbers .entry); solution = now (solution .entry); impulses = now (impulses .entry); centres = now («new_centres» .entry) } record { numbers = now (numbers .exit); solution = now (solution .exit); impulses = now (impulses .exit); centres = now («new_centres» .exit) } r
         (workMemory (now (jacobians .entry)) (now (links .entry)) (now (tolerances .entry)) (now (diagonal .entry)) (now (residual .entry)) (now (pending .entry)) (now (direction .entry)) (now (product .entry)) (now («body_impulses» .entry)) (now (pattern .entry)) (now (order .entry)) (now (values .entry)))
         (workMemory (now (jacobians .exit)) (now (links .exit)) (now (tolerances .exit)) (now (diagonal .exit)) (now (residual .exit)) (now (pending .exit)) (now (direction .exit)) (now (product .exit)) (now («body_impulses» .exit)) (now (pattern .exit)) (now (order .exit)) (now (values .exit))) ⌝ }
 {
@@ -83,6 +88,7 @@ pub fn solve_by_rules(
     if !fits {
         return PositionPcg::Refused(3);
     }
+    let placed = centres_finite(centres, bodies as usize);
     let counted = count_steps(
         numbers,
         words,
@@ -94,6 +100,7 @@ pub fn solve_by_rules(
         limit,
         mode_of(mode, shift),
         shift,
+        placed,
         jacobians,
         links,
         tolerances,
@@ -113,6 +120,7 @@ pub fn solve_by_rules(
         numbers,
         words,
         masses,
+        centres,
         rows,
         bodies,
         jacobians,
@@ -122,5 +130,6 @@ pub fn solve_by_rules(
         body_impulses,
         solution,
         impulses,
+        new_centres,
     )
 }

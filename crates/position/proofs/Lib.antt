@@ -7,3 +7,4 @@ pub mod Gains
 pub mod Largest
 pub mod Diagonal
 pub mod Same
+pub mod Moved

@@ -7,6 +7,7 @@ use mathlib.Core.Bool.{Bool}
 use mathlib.Core.List.{List}
 use Rattle.loops.specs.Judge.{judged}
 use Rattle.kapitsa_joint.specs.Table.{Table}
+use Rattle.kapitsa_joint.specs.Centre.{Centres}
 use Rattle.joint_refusals.specs.Tolerances.{Tolerances}
 use Rattle.position.specs.Problem.{Problem, positionProblem, withTests}
 use Rattle.position.specs.Prepare.{rowJudged, validJudged, diagonalsJudged, rowsJudged}
@@ -17,11 +18,11 @@ pub position-rows : (t : Table) (tolerance : ℕ → Float) → rowsJudged (posi
 unfolding rowsJudged check
 position-rows t tolerance = refl
 
-pub tested-rows : (options : List (ℕ × Bool)) (limits : Tolerances) (t : Table) (tolerance : ℕ → Float) → let p = withTests options limits (positionProblem t tolerance) in rowsJudged p ≡ judged (rowJudged p) (t .rows)
+pub tested-rows : (options : List (ℕ × Bool)) (limits : Tolerances) (placed : Bool) (centres : Centres) (t : Table) (tolerance : ℕ → Float) → let p = withTests options limits placed centres (positionProblem t tolerance) in rowsJudged p ≡ judged (rowJudged p) (t .rows)
 unfolding rowsJudged check
-tested-rows options limits t tolerance = refl
+tested-rows options limits placed centres t tolerance = refl
 
 -- step 0 does not look at the tests before it
-pub begun-tested : (options : List (ℕ × Bool)) (limits : Tolerances) (p : Problem) (a : Begun) (diagonal residual : List Float) → BegunHeld p a diagonal residual → BegunHeld (withTests options limits p) a diagonal residual
+pub begun-tested : (options : List (ℕ × Bool)) (limits : Tolerances) (placed : Bool) (centres : Centres) (p : Problem) (a : Begun) (diagonal residual : List Float) → BegunHeld p a diagonal residual → BegunHeld (withTests options limits placed centres p) a diagonal residual
 unfolding rowsJudged validJudged diagonalsJudged rowJudged
-begun-tested options limits p a diagonal residual h = record { judgement = h .judgement; diagonal-is = h .diagonal-is; residual-is = h .residual-is }
+begun-tested options limits placed centres p a diagonal residual h = record { judgement = h .judgement; diagonal-is = h .diagonal-is; residual-is = h .residual-is }

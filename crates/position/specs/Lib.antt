@@ -1,3 +1,4 @@
+pub mod Centres
 pub mod Problem
 pub mod Prepare
 pub mod Residual

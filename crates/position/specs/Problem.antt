@@ -1,9 +1,10 @@
 -- What a solve is given, as functions of the row. Positions and velocities (document 02, a) are two values of one record.
 use Prim.Native.Nat.{ℕ}
-use mathlib.Core.Bool.{Bool, false}
+use mathlib.Core.Bool.{Bool, true, false}
 use mathlib.Core.List.{List, []}
 use lib.Ieee.{Float, neg}
 use Rattle.kapitsa_joint.specs.Table.{Table}
+use Rattle.kapitsa_joint.specs.Centre.{Centres, noCentres}
 use Rattle.joint_refusals.specs.Refusals.{opensOf}
 use Rattle.joint_refusals.specs.Tolerances.{Tolerances}
 
@@ -16,9 +17,11 @@ pub record Problem : Type 0 where
   pub options : List (ℕ × Bool)  -- what is judged right after 3, of what is chosen for the whole solve
   pub toleranceTests : List (ℕ × Bool)  -- what is judged of the tolerances, right after 4
   pub opens : ℕ → Bool  -- row i passes the opening test, refusal 5
+  pub placed : Bool  -- the centres that are lent are finite: 6 judges them with the masses
   pub lent : List (ℕ × Bool)  -- what is judged, after 6, of numbers that are lent to this kind of solve alone
   pub validFirst : Bool  -- every row passes 7 before any is judged by 8 and 9; otherwise 7 to 9 run row by row
   pub factorFirst : Bool  -- the factor stands before the count 0 test; otherwise after it
+  pub centres : Centres  -- what the impulses move
 
 -- ---- positions
 -- "Residual starts as −error."
@@ -42,14 +45,16 @@ positionProblem t tolerance = record {
   options = [];
   toleranceTests = [];
   opens = positionOpens t;
+  placed = true;
   lent = [];
   validFirst = false;
   factorFirst = false;
+  centres = noCentres;
 }
 
--- with tests right after 3, and with rules and what is judged of them right after 4
-abbrev pub withTests : List (ℕ × Bool) → Tolerances → Problem → Problem
-withTests options limits p = record {
+-- with tests right after 3, with rules and what is judged of them right after 4, and with centres, finite or not
+abbrev pub withTests : List (ℕ × Bool) → Tolerances → Bool → Centres → Problem → Problem
+withTests options limits placed centres p = record {
   table = p .table;
   tolerance = p .tolerance;
   rule = limits .rule;
@@ -58,7 +63,9 @@ withTests options limits p = record {
   options = options;
   toleranceTests = limits .tests;
   opens = p .opens;
+  placed = placed;
   lent = p .lent;
   validFirst = p .validFirst;
   factorFirst = p .factorFirst;
+  centres = centres;
 }

@@ -2,18 +2,22 @@
 use Prim.Native.Nat.{ℕ}
 use mathlib.Core.Path.{_≡_, refl, sym, ap, _∙_}
 use mathlib.Core.Bool.{Bool, true, false, not}
+use mathlib.Core.List.{List}
 use borrow.Author.Tests.{not-false}
 use Rattle.loops.specs.Run.{Run, going, ended, next, on}
 use Rattle.loops.specs.Judge.{judge}
 use Rattle.loops.proofs.Loop.{on-ended}
+use Rattle.kapitsa_joint.specs.Centre.{Centres}
+use Rattle.joint_refusals.specs.Tolerances.{Tolerances}
 use Rattle.preconditioner.specs.declared.mode.Mode.{Mode}
 use Rattle.recurrence.specs.Step.{Iterate, Carried}
 use Rattle.loops.proofs.Judge.{test-fail}
 use Rattle.steps.specs.Method.{Method}
 use Rattle.steps.specs.Solve.{counting, deliver, solve}
 use Rattle.steps.proofs.Answer.{means}
-use Rattle.position.specs.Problem.{Problem}
-use Rattle.position_iteration.specs.Method.{openingOf, methodOf, Delivered}
+use Rattle.position.specs.Problem.{Problem, withTests}
+use Rattle.position.specs.Prepare.{rowJudged, validJudged, diagonalsJudged, rowsJudged}
+use Rattle.position_iteration.specs.Method.{openingOf, beginOf, methodOf, Delivered}
 use Rattle.position_delivery.specs.Delivery.{finishedOf}
 use Rattle.position_delivery.specs.Outcome.{Lent, Outcome, Answer, proposalOf, committedOf, outcomeOf, SolveMeaning}
 use Rattle.position_iteration.specs.Counting.{countedOf}
@@ -23,8 +27,13 @@ use Rattle.position_delivery.specs.declared.answer.PositionPcg.the-varia
 abbrev outcome : PositionPcg → Lent → Outcome
 outcome r l = record { answer = r; lent = l }
 
+-- ---- up to the step counted the centres themselves are not looked at, only whether they are finite
+pub counted-centres : (options : List (ℕ × Bool)) (limits : Tolerances) (placed : Bool) (c d : Centres) (p : Problem) (mode : Mode) (limit : ℕ) → countedOf mode (withTests options limits placed c p) limit ≡ countedOf mode (withTests options limits placed d p) limit
+unfolding countedOf counting openingOf beginOf rowsJudged validJudged diagonalsJudged rowJudged
+counted-centres options limits placed c d p mode limit = refl
+
 -- ---- what is delivered of what is counted
-pub delivered-of : (p : Problem) (mode : Mode) (n limit : ℕ) (before : Lent) (x : Run (Bool × ℕ × Iterate) ℕ) (o : Outcome) → countedOf mode p limit ≡ x → outcomeOf n before (next x (finishedOf (p .table) (p .accumulated))) ≡ o → outcomeOf n before (solve (methodOf true p mode) limit) ≡ o
+pub delivered-of : (p : Problem) (mode : Mode) (n limit : ℕ) (before : Lent) (x : Run (Bool × ℕ × Iterate) ℕ) (o : Outcome) → countedOf mode p limit ≡ x → outcomeOf n before (next x (finishedOf (p .table) (p .accumulated) (p .centres))) ≡ o → outcomeOf n before (solve (methodOf true p mode) limit) ≡ o
 unfolding solve finishedOf countedOf on
 delivered-of p mode n limit before x o e h = ap (outcomeOf n before) (joined (openingOf true p limit) ∙ ap (λ (y : Run (Bool × ℕ × Iterate) ℕ). next y (deliver (methodOf true p mode))) e) ∙ h
   where

@@ -8,6 +8,7 @@ use lib.Ieee.{Float}
 use Rattle.loops.specs.Run.{going, on, next}
 use Rattle.loops.proofs.Loop.{on-going, on-ended}
 use Rattle.kapitsa_joint.specs.Table.{Table, tableOf}
+use Rattle.kapitsa_joint.specs.Centre.{Centres}
 use Rattle.recurrence.specs.Step.{Iterate}
 use Rattle.position.specs.Problem.{multipliers}
 use Rattle.position.specs.Multipliers.{gained}
@@ -15,7 +16,7 @@ use Rattle.position_iteration.specs.Standing.{iteratedOut}
 use Rattle.position_iteration.specs.declared.iteration.Iterated.{Iterated}
 use Rattle.position_iteration.specs.declared.iteration.Iterated.the-variants as iterated
 use Rattle.position_delivery.specs.Delivery.{gainedAfter, committedBy, finishedOf}
-use Rattle.position_delivery.specs.Outcome.{Proposal, proposalOf, committedOf, outcomeOf}
+use Rattle.position_delivery.specs.Outcome.{Answer, Proposal, proposalOf, committedOf, outcomeOf}
 use Rattle.position_delivery.specs.declared.answer.PositionPcg.{PositionPcg}
 use Rattle.position_delivery.specs.declared.answer.PositionPcg.the-variants as answers
 use Rattle.position_delivery.specs.declared.answer.PositionPcgResult.{PositionPcgResult}
@@ -32,13 +33,14 @@ module _ (limit : ℕ) (pending residual : List Float) (a : Iterated) (flag : Bo
   pub by-limit : a ≡ iterated.Limit → flag ≡ false → count ≡ limit → iteratedOut a limit pending residual ≡ going (flag, count, step pending residual)
   by-limit e f c = rw (e, f, c)
 
-  pub counted-step : (t : Table) (accumulated : ℕ → Float) (solution impulses : List Float) (o : Proposal) → iteratedOut a limit pending residual ≡ going (flag, count, step pending residual) → proposalOf solution impulses (finishedOf t accumulated (flag, count, step pending residual)) ≡ o
-      → proposalOf solution impulses (next (iteratedOut a limit pending residual) (finishedOf t accumulated)) ≡ o
-  counted-step t accumulated solution impulses o e h = ap (proposalOf solution impulses) (on-going _ _ _ {s = (flag, count, step pending residual)} e) ∙ h
+  pub counted-step : (t : Table) (accumulated : ℕ → Float) (c : Centres) (solution impulses new : List Float) (o : Proposal) → iteratedOut a limit pending residual ≡ going (flag, count, step pending residual) → proposalOf solution impulses new (finishedOf t accumulated c (flag, count, step pending residual)) ≡ o
+      → proposalOf solution impulses new (next (iteratedOut a limit pending residual) (finishedOf t accumulated c)) ≡ o
+  counted-step t accumulated c solution impulses new o e h = ap (proposalOf solution impulses new) (on-going _ _ _ {s = (flag, count, step pending residual)} e) ∙ h
 
-pub counted-refused : (t : Table) (accumulated : ℕ → Float) (limit : ℕ) (solution impulses pending residual : List Float) (a : Iterated) (k : ℕ) → a ≡ iterated.Refused k → proposalOf solution impulses (next (iteratedOut a limit pending residual) (finishedOf t accumulated)) ≡ record { answer = answers.Refused k; solution = solution; impulses = impulses }
+pub counted-refused : (t : Table) (accumulated : ℕ → Float) (c : Centres) (limit : ℕ) (solution impulses new pending residual : List Float) (a : Iterated) (k : ℕ) → a ≡ iterated.Refused k
+    → proposalOf solution impulses new (next (iteratedOut a limit pending residual) (finishedOf t accumulated c)) ≡ record { answer = answers.Refused k; solution = solution; impulses = impulses; centres = new }
 unfolding proposalOf
-counted-refused t accumulated limit solution impulses pending residual a k e = ap (proposalOf solution impulses) (on-ended _ _ _ {a = k} (rw e))
+counted-refused t accumulated c limit solution impulses new pending residual a k e = ap (proposalOf solution impulses new) (on-ended _ _ _ {a = k} (rw e))
 
 -- ---- `commit`
 module _ (answer : PositionPcg) (numbers solution : List Float) where
@@ -59,18 +61,19 @@ module _ (answer : PositionPcg) (numbers solution : List Float) where
   commit-refused k e = rw e
 
 -- ---- `deliver`: both halves
-module _ (numbers masses : List Float) (words : List ℕ) (rows bodies : ℕ) (limit : ℕ) (pending residual : List Float) (long : length pending ≡ rows) (solution impulses : List Float) where
+module _ (numbers masses : List Float) (words : List ℕ) (rows bodies : ℕ) (c : Centres) (limit : ℕ) (pending residual : List Float) (long : length pending ≡ rows) (solution impulses new : List Float) where
   abbrev table : Table
   table = tableOf rows bodies numbers words masses
 
-  commits-counted : (a : Iterated)
-      → committedOf rows numbers (next (iteratedOut a limit pending residual) (finishedOf table (multipliers table)))
-      ≡ committedBy (proposalOf solution impulses (next (iteratedOut a limit pending residual) (finishedOf table (multipliers table))) .answer) numbers (proposalOf solution impulses (next (iteratedOut a limit pending residual) (finishedOf table (multipliers table))) .solution)
+  abbrev answered : Iterated → Answer
+  answered a = next (iteratedOut a limit pending residual) (finishedOf table (multipliers table) c)
+
+  commits-counted : (a : Iterated) → committedOf rows numbers (answered a) ≡ committedBy (proposalOf solution impulses new (answered a) .answer) numbers (proposalOf solution impulses new (answered a) .solution)
   unfolding on proposalOf committedOf committedBy
-  commits-counted (iterated.Met k) = commits numbers masses words rows bodies true pending residual k solution impulses long
-  commits-counted iterated.Limit = commits numbers masses words rows bodies false pending residual limit solution impulses long
+  commits-counted (iterated.Met k) = commits numbers masses words rows bodies true pending residual c k solution impulses new long
+  commits-counted iterated.Limit = commits numbers masses words rows bodies false pending residual c limit solution impulses new long
   commits-counted (iterated.Refused k) = refl
 
-  pub delivered-both : (a : Iterated) (r : PositionPcg) (numbers₁ solution₁ impulses₁ : List Float) → proposalOf solution impulses (next (iteratedOut a limit pending residual) (finishedOf table (multipliers table))) ≡ record { answer = r; solution = solution₁; impulses = impulses₁ } → numbers₁ ≡ committedBy r numbers solution₁
-      → outcomeOf rows record { numbers = numbers; solution = solution; impulses = impulses } (next (iteratedOut a limit pending residual) (finishedOf table (multipliers table))) ≡ record { answer = r; lent = record { numbers = numbers₁; solution = solution₁; impulses = impulses₁ } }
-  delivered-both a r numbers₁ solution₁ impulses₁ p c = rw (commits-counted a, p, c)
+  pub delivered-both : (a : Iterated) (r : PositionPcg) (numbers₁ solution₁ impulses₁ new₁ : List Float) → proposalOf solution impulses new (answered a) ≡ record { answer = r; solution = solution₁; impulses = impulses₁; centres = new₁ } → numbers₁ ≡ committedBy r numbers solution₁
+      → outcomeOf rows record { numbers = numbers; solution = solution; impulses = impulses; centres = new } (answered a) ≡ record { answer = r; lent = record { numbers = numbers₁; solution = solution₁; impulses = impulses₁; centres = new₁ } }
+  delivered-both a r numbers₁ solution₁ impulses₁ new₁ p e = rw (commits-counted a, p, e)

@@ -18,18 +18,26 @@ use Rattle.loops.proofs.Loop.{on-going, on-ended}
 use Rattle.loops.proofs.Every.{every-same}
 use Rattle.kapitsa_joint.specs.Row.{rowOf, scalarsOf, wordsOf}
 use Rattle.kapitsa_joint.specs.Table.{Table, tableOf}
+use Rattle.kapitsa_joint.specs.Mass.{massOf}
+use Rattle.kapitsa_joint.specs.Impulse.{impulseOf}
+use Rattle.kapitsa_joint.specs.Centre.{Centres, centresIn, flatCentres}
+use Rattle.kapitsa_joint.proofs.Centres.{flat-centres-in}
+use Rattle.joint_refusals.specs.Refusals.{centresFinite}
 use Rattle.kapitsa_joint.specs.declared.row.RowJacobian.{RowJacobian}
 use Rattle.compact_table.specs.Compact.{compactOf}
 use Rattle.mass_operator.specs.System.{System, systemOf, compactSystem}
 use Rattle.mass_operator.specs.Flat.{Summed, impulsesOf, coefficients}
+use Rattle.mass_operator.proofs.Flat.{flat-holds}
 use Rattle.mass_operator.specs.Applied.{allFiniteOf, appliedOf}
 use Rattle.mass_operator.specs.declared.finite.Applied.{Applied}
 use Rattle.mass_operator.specs.declared.finite.Applied.the-variants as applied
 use Rattle.position.specs.Problem.{multipliers}
 use Rattle.position.specs.Multipliers.{gainOf, gainsFinite, gained}
-use Rattle.position_iteration.specs.Method.{gainsOf, maximaIn, finishOf, Delivered}
+use Rattle.position.specs.Centres.{movedBy}
+use Rattle.position.proofs.Moved.{moved-finite-same, moved-flat-same}
+use Rattle.position_iteration.specs.Method.{gainsOf, maximaIn, impulseBy, finishOf, Delivered}
 use Rattle.position_delivery.specs.Outcome.{withMultipliers, resultOf, proposalOf, committedOf}
-use Rattle.position_delivery.specs.Delivery.{Judged, Shown, acceptedOf, gainedAfter, committedBy, finishedOf}
+use Rattle.position_delivery.specs.Delivery.{movedIn, Judged, Shown, acceptedOf, gainedAfter, committedBy, finishedOf}
 use Rattle.loops.specs.Cleared.{zeros}
 use Rattle.position_delivery.specs.declared.answer.PositionPcg.{PositionPcg}
 use Rattle.position_delivery.specs.declared.answer.PositionPcg.the-variants as answers
@@ -63,19 +71,24 @@ module _ (j : ℕ → RowJacobian) (numbers pending : List Float) (rows bodies :
   passed true e = refl
   passed false e = absurd (let z : _≡_ {A = ℕ} 0 1 = cc in omega arith)
 
-  pub judged-overflow : a ≡ applied.Overflow → Judged false numbers (impulsesOf j (coefficients pending) rows bodies) pending l
-  judged-overflow t = record { passed = rw (failed _ (all _ refl ∙ t)); summed = summed .summed }
+  module _ (masses centres : List Float) where
+    pub judged-overflow : a ≡ applied.Overflow → Judged false bodies numbers masses centres (impulsesOf j (coefficients pending) rows bodies) pending l
+    judged-overflow t = record { passed = rw (failed _ (all _ refl ∙ t)); summed = summed .summed }
 
-  pub judged-gains : (r : Bool) → a ≡ applied.Done → r ≡ gainsFinite numbers pending (length pending) → Judged r numbers (impulsesOf j (coefficients pending) rows bodies) pending l
-  judged-gains r t e = record { passed = rw (passed _ (all _ refl ∙ t)) e; summed = summed .summed }
+    pub judged-finite : (gains moved : Bool) → a ≡ applied.Done → gains ≡ gainsFinite numbers pending (length pending) → moved ≡ centresFinite (movedIn bodies masses l centres) → Judged (gains && moved) bodies numbers masses centres (impulsesOf j (coefficients pending) rows bodies) pending l
+    judged-finite gains moved t eg em = record { passed = rw (passed _ (all _ refl ∙ t), ← summed .summed, ← eg, ← em); summed = summed .summed }
 
 -- ---- `show`
-module _ (r : Bool) (numbers impulses pending l solution₀ impulses₀ : List Float) (judged : Judged r numbers impulses pending l) where
-  pub shown-none : not r ≡ true → Shown false numbers impulses pending solution₀ impulses₀ solution₀ impulses₀
-  shown-none h = record { passed = sym (not-true r h) ∙ judged .passed; shown = λ e. absurd (let z : _≡_ {A = ℕ} 0 1 = cc in omega arith); kept = λ _. (refl, refl) }
+module _ (r : Bool) (bodies : ℕ) (numbers masses centres impulses pending l solution₀ impulses₀ centres₀ : List Float) (judged : Judged r bodies numbers masses centres impulses pending l) where
+  pub shown-none : not r ≡ true → Shown false bodies numbers masses centres impulses pending solution₀ impulses₀ centres₀ solution₀ impulses₀ centres₀
+  shown-none h = record { passed = sym (not-true r h) ∙ judged .passed; shown = λ e. absurd (let z : _≡_ {A = ℕ} 0 1 = cc in omega arith); kept = λ _. (refl, refl, refl) }
 
-  pub shown-all : (solution₁ impulses₁ : List Float) → not r ≡ false → solution₁ ≡ pending → impulses₁ ≡ l → Shown true numbers impulses pending solution₀ impulses₀ solution₁ impulses₁
-  shown-all solution₁ impulses₁ h es ei = record { passed = sym (not-false r h) ∙ judged .passed; shown = λ _. (es, ei ∙ judged .summed); kept = λ e. absurd (let z : _≡_ {A = ℕ} 0 1 = cc in omega arith) }
+  pub shown-all : (solution₁ impulses₁ centres₁ : List Float) → not r ≡ false → solution₁ ≡ pending → impulses₁ ≡ l → centres₁ ≡ flatCentres (movedIn bodies masses l centres) → Shown true bodies numbers masses centres impulses pending solution₀ impulses₀ centres₀ solution₁ impulses₁ centres₁
+  shown-all solution₁ impulses₁ centres₁ h es ei ec = record {
+    passed = sym (not-false r h) ∙ judged .passed;
+    shown = λ _. (es, ei ∙ judged .summed, ec ∙ ap (λ (i : List Float). flatCentres (movedIn bodies masses i centres)) (judged .summed));
+    kept = λ e. absurd (let z : _≡_ {A = ℕ} 0 1 = cc in omega arith);
+  }
 
 -- ---- the multipliers of an accepted answer
 with-gained : (numbers solution l : List Float) (n k : ℕ) → k ≤ n → ((i : ℕ) → i < n → getD l i nan ≡ gainOf numbers solution i) → withMultipliers numbers l k ≡ gained numbers solution k
@@ -123,26 +136,29 @@ module _ (numbers masses : List Float) (words : List ℕ) (rows bodies : ℕ) wh
   maxima-in pending residual e = ap (maximaOf (λ i. dimensionOf (getD words (8 * i + 1) 0)) residual) e
 
   module _ (flag : Bool) (count : ℕ) (pending residual : List Float) (long : length residual ≡ rows) (r : PositionPcg) (accepted : r ≡ acceptedOf flag count words residual) where
-    answer-is : (m l : List Float) → r ≡ answers.Accepted (resultOf flag count (record { accumulated = m; impulses = l; maxima = maximaIn table (record { solution = pending; residual = residual }) }))
+    answer-is : (m l k : List Float) → r ≡ answers.Accepted (resultOf flag count (record { accumulated = m; impulses = l; centres = k; maxima = maximaIn table (record { solution = pending; residual = residual }) }))
     unfolding acceptedOf
-    answer-is m l = accepted ∙ ap (λ (x : Maxima). answers.Accepted (record { converged = flag; iterations = count; «linear_residual_m» = x .linear; «angular_residual_rad» = x .angular })) (maxima-in pending residual long)
+    answer-is m l k = accepted ∙ ap (λ (x : Maxima). answers.Accepted (record { converged = flag; iterations = count; «linear_residual_m» = x .linear; «angular_residual_rad» = x .angular })) (maxima-in pending residual long)
 
-    pub proposed-none : (solution impulses solution₁ impulses₁ : List Float) → count ≡ 0 → solution₁ ≡ pending → impulses₁ ≡ zeros (6 * bodies) → proposalOf solution impulses (finishedOf table (multipliers table) (flag, count, record { solution = pending; residual = residual })) ≡ record { answer = r; solution = solution₁; impulses = impulses₁ }
+    pub proposed-none : (centres solution impulses new solution₁ impulses₁ new₁ : List Float) → count ≡ 0 → length centres ≡ 3 * bodies → solution₁ ≡ pending → impulses₁ ≡ zeros (6 * bodies) → new₁ ≡ centres
+        → proposalOf solution impulses new (finishedOf table (multipliers table) (centresIn bodies centres) (flag, count, record { solution = pending; residual = residual })) ≡ record { answer = r; solution = solution₁; impulses = impulses₁; centres = new₁ }
     unfolding finishedOf finishOf proposalOf on
-    proposed-none solution impulses solution₁ impulses₁ z es e = rw (z, es, e, answer-is (tabulate (λ i. table .row i .scalars .«accumulated_multiplier») rows) (zeros (6 * bodies)), z)
+    proposed-none centres solution impulses new solution₁ impulses₁ new₁ z lc es ei ec = rw (z, es, ei, ec, flat-centres-in bodies centres lc, answer-is (tabulate (λ i. table .row i .scalars .«accumulated_multiplier») rows) (zeros (6 * bodies)) centres, z)
 
-  -- the two tests of 17
-  both-pass : {X : Type 0} (a b : Bool) (x : X) → (a && b) ≡ true → next (test a 17) (λ _. next (test b 17) (λ _. going x)) ≡ going x
+  -- the three tests of 17
+  all-pass : {X : Type 0} (a b d : Bool) (x : X) → (a && (b && d)) ≡ true → next (test a 17) (λ _. next (test b 17) (λ _. next (test d 17) (λ _. going x))) ≡ going x
   unfolding test check on
-  both-pass true true x e = refl
-  both-pass true false x e = absurd (let z : _≡_ {A = ℕ} 0 1 = cc in omega arith)
-  both-pass false b x e = absurd (let z : _≡_ {A = ℕ} 0 1 = cc in omega arith)
+  all-pass true true true x e = refl
+  all-pass true true false x e = absurd (let z : _≡_ {A = ℕ} 0 1 = cc in omega arith)
+  all-pass true false d x e = absurd (let z : _≡_ {A = ℕ} 0 1 = cc in omega arith)
+  all-pass false b d x e = absurd (let z : _≡_ {A = ℕ} 0 1 = cc in omega arith)
 
-  one-fails : {X : Type 0} (a b : Bool) (x : X) → (a && b) ≡ false → next (test a 17) (λ _. next (test b 17) (λ _. going x)) ≡ ended 17
+  one-fails : {X : Type 0} (a b d : Bool) (x : X) → (a && (b && d)) ≡ false → next (test a 17) (λ _. next (test b 17) (λ _. next (test d 17) (λ _. going x))) ≡ ended 17
   unfolding test check on
-  one-fails true true x e = absurd (let z : _≡_ {A = ℕ} 0 1 = cc in omega arith)
-  one-fails true false x e = refl
-  one-fails false b x e = refl
+  one-fails true true true x e = absurd (let z : _≡_ {A = ℕ} 0 1 = cc in omega arith)
+  one-fails true true false x e = refl
+  one-fails true false d x e = refl
+  one-fails false b d x e = refl
 
   -- what the step counted comes to
   module _ (flag : Bool) (pending residual : List Float) where
@@ -152,46 +168,63 @@ module _ (numbers masses : List Float) (words : List ℕ) (rows bodies : ℕ) wh
     abbrev totals : List Float
     totals = impulsesOf (systemOf table .jacobian) (coefficients pending) rows bodies
 
-    abbrev passes17 : Bool
-    passes17 = allFiniteOf totals && allFiniteOf (gainsOf (multipliers table) rows pending)
+    -- the list of them holds the impulse of each body
+    totals-at : (b : ℕ) → b < bodies → impulseOf totals b ≡ impulseBy table step b
+    unfolding impulsesOf
+    totals-at b h = flat-holds (impulseBy table step) bodies .at b h
 
-    abbrev delivery : Delivered
-    delivery = record { accumulated = gainsOf (multipliers table) rows pending; impulses = totals; maxima = maximaIn table step }
+    module _ (c : Centres) where
+      abbrev moved : Centres
+      moved = movedBy (massOf masses) (impulseBy table step) c
 
-    finished : (k : ℕ) → passes17 ≡ true → finishedOf table (multipliers table) (flag, suc k, step) ≡ going ((flag, suc k, step), delivery)
-    unfolding finishedOf finishOf
-    finished k t = on-going _ _ _ {s = delivery} (both-pass (allFiniteOf totals) (allFiniteOf (gainsOf (multipliers table) rows pending)) delivery t)
+      abbrev passes : Bool
+      passes = allFiniteOf totals && (allFiniteOf (gainsOf (multipliers table) rows pending) && centresFinite moved)
 
-    refused : (k : ℕ) → passes17 ≡ false → finishedOf table (multipliers table) (flag, suc k, step) ≡ ended 17
-    unfolding finishedOf finishOf
-    refused k t = on-ended _ _ _ {a = 17} (one-fails (allFiniteOf totals) (allFiniteOf (gainsOf (multipliers table) rows pending)) delivery t)
+      abbrev delivery : Delivered
+      delivery = record { accumulated = gainsOf (multipliers table) rows pending; impulses = totals; centres = flatCentres moved; maxima = maximaIn table step }
 
-    module _ (jacobians solution impulses : List Float) (links : List ℕ) (n b : ℕ) (q : Bool) (solution₁ impulses₁ : List Float) (en : n ≡ rows) (eb : b ≡ bodies) (system : compactSystem rows bodies jacobians links masses ≡ systemOf table)
-        (shown : Shown q numbers (impulsesOf (compactOf jacobians links) (coefficients pending) n b) pending solution impulses solution₁ impulses₁) (long : length pending ≡ rows) where
+      finished : (k : ℕ) → passes ≡ true → finishedOf table (multipliers table) c (flag, suc k, step) ≡ going ((flag, suc k, step), delivery)
+      unfolding finishedOf finishOf
+      finished k t = on-going _ _ _ {s = delivery} (all-pass (allFiniteOf totals) (allFiniteOf (gainsOf (multipliers table) rows pending)) (centresFinite moved) delivery t)
+
+      refused : (k : ℕ) → passes ≡ false → finishedOf table (multipliers table) c (flag, suc k, step) ≡ ended 17
+      unfolding finishedOf finishOf
+      refused k t = on-ended _ _ _ {a = 17} (one-fails (allFiniteOf totals) (allFiniteOf (gainsOf (multipliers table) rows pending)) (centresFinite moved) delivery t)
+
+    module _ (centres jacobians solution impulses new : List Float) (links : List ℕ) (n b : ℕ) (q : Bool) (solution₁ impulses₁ new₁ : List Float) (en : n ≡ rows) (eb : b ≡ bodies) (system : compactSystem rows bodies jacobians links masses ≡ systemOf table)
+        (shown : Shown q b numbers masses centres (impulsesOf (compactOf jacobians links) (coefficients pending) n b) pending solution impulses new solution₁ impulses₁ new₁) (long : length pending ≡ rows) where
+      abbrev placed : Centres
+      placed = centresIn bodies centres
+
       impulses-are : impulsesOf (compactOf jacobians links) (coefficients pending) n b ≡ totals
       impulses-are = ap (λ (j : ℕ → RowJacobian). impulsesOf j (coefficients pending) n b) (ap (λ (s : System). s .jacobian) system) ∙ rw (en, eb)
 
-      tests : q ≡ passes17
-      tests = shown .passed ∙ rw (impulses-are, long, gains-finite pending)
+      tests : q ≡ passes placed
+      tests = shown .passed ∙ rw (impulses-are, eb, long, gains-finite pending, moved-finite-same (massOf masses) (impulseOf totals) (impulseBy table step) placed totals-at)
 
-      pub proposed-refused : (count : ℕ) → (count ≡ 0 → ⊥) → q ≡ false → proposalOf solution impulses (finishedOf table (multipliers table) (flag, count, step)) ≡ record { answer = answers.Refused 17; solution = solution₁; impulses = impulses₁ }
+      centres-are : flatCentres (movedIn b masses (impulsesOf (compactOf jacobians links) (coefficients pending) n b) centres) ≡ flatCentres (moved placed)
+      centres-are = rw (impulses-are, eb) (moved-flat-same (massOf masses) (impulseOf totals) (impulseBy table step) placed totals-at)
+
+      pub proposed-refused : (count : ℕ) → (count ≡ 0 → ⊥) → q ≡ false → proposalOf solution impulses new (finishedOf table (multipliers table) placed (flag, count, step)) ≡ record { answer = answers.Refused 17; solution = solution₁; impulses = impulses₁; centres = new₁ }
       unfolding proposalOf
       proposed-refused zero z t = absurd (z refl)
-      proposed-refused (suc k) z t = let (es, ei) = shown .kept t in ap (proposalOf solution impulses) (refused k (sym tests ∙ t)) ∙ rw (es, ei)
+      proposed-refused (suc k) z t = let (es, ei, ec) = shown .kept t in ap (proposalOf solution impulses new) (refused placed k (sym tests ∙ t)) ∙ rw (es, ei, ec)
 
-      pub proposed-all : (count : ℕ) (r : PositionPcg) → (count ≡ 0 → ⊥) → q ≡ true → length residual ≡ rows → r ≡ acceptedOf flag count words residual → proposalOf solution impulses (finishedOf table (multipliers table) (flag, count, step)) ≡ record { answer = r; solution = solution₁; impulses = impulses₁ }
+      pub proposed-all : (count : ℕ) (r : PositionPcg) → (count ≡ 0 → ⊥) → q ≡ true → length residual ≡ rows → r ≡ acceptedOf flag count words residual → proposalOf solution impulses new (finishedOf table (multipliers table) placed (flag, count, step)) ≡ record { answer = r; solution = solution₁; impulses = impulses₁; centres = new₁ }
       unfolding proposalOf
       proposed-all zero r z t lr e = absurd (z refl)
-      proposed-all (suc k) r z t lr e = let (es, ei) = shown .shown t in ap (proposalOf solution impulses) (finished k (sym tests ∙ t)) ∙ rw (answer-is flag (suc k) pending residual lr r e (gainsOf (multipliers table) rows pending) totals, es, ei ∙ impulses-are)
+      proposed-all (suc k) r z t lr e =
+          let (es, ei, ec) = shown .shown t in
+          ap (proposalOf solution impulses new) (finished placed k (sym tests ∙ t)) ∙ rw (answer-is flag (suc k) pending residual lr r e (gainsOf (multipliers table) rows pending) totals (flatCentres (moved placed)), es, ei ∙ impulses-are, ec ∙ centres-are)
 
     -- ---- the commit of what is proposed is the definition's
-    pub commits : (count : ℕ) (solution impulses : List Float) → length pending ≡ rows
-        → committedOf rows numbers (finishedOf table (multipliers table) (flag, count, step)) ≡ committedBy (proposalOf solution impulses (finishedOf table (multipliers table) (flag, count, step)) .answer) numbers (proposalOf solution impulses (finishedOf table (multipliers table) (flag, count, step)) .solution)
+    pub commits : (c : Centres) (count : ℕ) (solution impulses new : List Float) → length pending ≡ rows
+        → committedOf rows numbers (finishedOf table (multipliers table) c (flag, count, step)) ≡ committedBy (proposalOf solution impulses new (finishedOf table (multipliers table) c (flag, count, step)) .answer) numbers (proposalOf solution impulses new (finishedOf table (multipliers table) c (flag, count, step)) .solution)
     unfolding committedOf committedBy proposalOf gainedAfter finishedOf finishOf on
-    commits zero solution impulses long = kept-multipliers
-    commits (suc k) solution impulses long = by passes17 refl
+    commits c zero solution impulses new long = kept-multipliers
+    commits c (suc k) solution impulses new long = by (passes c) refl
       where
-        by : (b : Bool) → passes17 ≡ b
-            → committedOf rows numbers (finishedOf table (multipliers table) (flag, suc k, step)) ≡ committedBy (proposalOf solution impulses (finishedOf table (multipliers table) (flag, suc k, step)) .answer) numbers (proposalOf solution impulses (finishedOf table (multipliers table) (flag, suc k, step)) .solution)
-        by true t = rw (finished k t) (gained-multipliers pending ∙ ap (gained numbers pending) (sym long))
-        by false t = rw (refused k t)
+        by : (b : Bool) → passes c ≡ b
+            → committedOf rows numbers (finishedOf table (multipliers table) c (flag, suc k, step)) ≡ committedBy (proposalOf solution impulses new (finishedOf table (multipliers table) c (flag, suc k, step)) .answer) numbers (proposalOf solution impulses new (finishedOf table (multipliers table) c (flag, suc k, step)) .solution)
+        by true t = rw (finished c k t) (gained-multipliers pending ∙ ap (gained numbers pending) (sym long))
+        by false t = rw (refused c k t)

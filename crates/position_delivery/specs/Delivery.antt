@@ -8,8 +8,13 @@ use lib.Ieee.{Float}
 use Rattle.loops.specs.Run.{going, next}
 use Rattle.kapitsa_joint.specs.Table.{Table}
 use Rattle.kapitsa_joint.specs.Tolerance.{dimensionOf}
+use Rattle.kapitsa_joint.specs.Mass.{massOf}
+use Rattle.kapitsa_joint.specs.Impulse.{impulseOf}
+use Rattle.kapitsa_joint.specs.Centre.{Centres, centresIn, flatCentres}
+use Rattle.joint_refusals.specs.Refusals.{centresFinite}
 use Rattle.mass_operator.specs.Applied.{allFiniteOf}
 use Rattle.recurrence.specs.Step.{Iterate}
+use Rattle.position.specs.Centres.{movedBy}
 use Rattle.position.specs.Residual.{maximaOf}
 use Rattle.position.specs.Multipliers.{gainsFinite, gained}
 use Rattle.position_iteration.specs.Method.{finishOf}
@@ -17,16 +22,24 @@ use Rattle.position_delivery.specs.Outcome.{Answer}
 use Rattle.position_delivery.specs.declared.answer.PositionPcg.{PositionPcg}
 use Rattle.position_delivery.specs.declared.answer.PositionPcg.the-variants as answers
 
--- refusal 17, and the impulses in work memory
-pub record Judged (r : Bool) (numbers impulses pending bodyImpulses : List Float) : Type 0 where
-  pub passed : r ≡ (allFiniteOf impulses && gainsFinite numbers pending (length pending))
+-- the centres after impulses that a list holds
+abbrev pub movedIn : ℕ → List Float → List Float → List Float → Centres
+movedIn bodies masses impulses centres = movedBy (massOf masses) (impulseOf impulses) (centresIn bodies centres)
+
+-- refusal 17, of impulses, multipliers and centres
+abbrev pub passes17 : ℕ → List Float → List Float → List Float → List Float → List Float → Bool
+passes17 bodies numbers masses centres impulses pending = allFiniteOf impulses && (gainsFinite numbers pending (length pending) && centresFinite (movedIn bodies masses impulses centres))
+
+-- and the impulses in work memory
+pub record Judged (r : Bool) (bodies : ℕ) (numbers masses centres impulses pending bodyImpulses : List Float) : Type 0 where
+  pub passed : r ≡ passes17 bodies numbers masses centres impulses pending
   pub summed : bodyImpulses ≡ impulses
 
--- solution and impulses, or nothing
-pub record Shown (r : Bool) (numbers impulses pending solution₀ impulses₀ solution₁ impulses₁ : List Float) : Type 0 where
-  pub passed : r ≡ (allFiniteOf impulses && gainsFinite numbers pending (length pending))
-  pub shown : r ≡ true → (solution₁ ≡ pending) × (impulses₁ ≡ impulses)
-  pub kept : r ≡ false → (solution₁ ≡ solution₀) × (impulses₁ ≡ impulses₀)
+-- solution, impulses and centres, or nothing
+pub record Shown (r : Bool) (bodies : ℕ) (numbers masses centres impulses pending solution₀ impulses₀ centres₀ solution₁ impulses₁ centres₁ : List Float) : Type 0 where
+  pub passed : r ≡ passes17 bodies numbers masses centres impulses pending
+  pub shown : r ≡ true → (solution₁ ≡ pending) × (impulses₁ ≡ impulses) × (centres₁ ≡ flatCentres (movedIn bodies masses impulses centres))
+  pub kept : r ≡ false → (solution₁ ≡ solution₀) × (impulses₁ ≡ impulses₀) × (centres₁ ≡ centres₀)
 
 -- the answer by the rows' words and the residual
 unfoldable pub acceptedOf : Bool → ℕ → List ℕ → List Float → PositionPcg
@@ -44,5 +57,5 @@ committedBy (answers.Accepted r) numbers solution = gainedAfter (r .iterations) 
 committedBy (answers.Refused number) numbers solution = numbers
 
 -- flag, count and the step counted, with what is delivered of it
-unfoldable pub finishedOf : Table → (ℕ → Float) → Bool × ℕ × Iterate → Answer
-finishedOf t accumulated a = next (finishOf t accumulated (a .1) (a .2)) (λ f. going (a, f))
+unfoldable pub finishedOf : Table → (ℕ → Float) → Centres → Bool × ℕ × Iterate → Answer
+finishedOf t accumulated c a = next (finishOf t accumulated c (a .1) (a .2)) (λ f. going (a, f))

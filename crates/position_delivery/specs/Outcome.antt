@@ -14,11 +14,12 @@ use Rattle.position_delivery.specs.declared.answer.PositionPcg.{Position
 use Rattle.position_delivery.specs.declared.answer.PositionPcg.the-variants as answers
 use Rattle.position_delivery.specs.declared.answer.PositionPcgResult.{PositionPcgResult}
 
--- the lent numbers that an accepted answer writes: the rows, for their accumulated multipliers, solution and impulses
+-- the lent numbers that an accepted answer writes: the rows, for their accumulated multipliers, solution, impulses and the new centres
 pub record Lent : Type 0 where
   pub numbers : List Float
   pub solution : List Float
   pub impulses : List Float
+  pub centres : List Float
 
 pub record Outcome : Type 0 where
   pub answer : PositionPcg
@@ -36,15 +37,16 @@ Answer = Run ((Bool × ℕ × Iterate) × Delivered) ℕ
 abbrev pub resultOf : Bool → ℕ → Delivered → PositionPcgResult
 resultOf flag count f = record { converged = flag; iterations = count; «linear_residual_m» = f .maxima .linear; «angular_residual_rad» = f .maxima .angular }
 
--- The delivery in two halves. What is proposed, the rows left as they were: the answer, which 17 may turn back, solution and impulses.
+-- The delivery in two halves. What is proposed, the rows left as they were: the answer, which 17 may turn back, solution, impulses and centres.
 pub record Proposal : Type 0 where
   pub answer : PositionPcg
   pub solution : List Float
   pub impulses : List Float
+  pub centres : List Float
 
-unfoldable pub proposalOf : List Float → List Float → Answer → Proposal
-proposalOf solution impulses (going ((flag, count, v), f)) = record { answer = answers.Accepted (resultOf flag count f); solution = v .solution; impulses = f .impulses }
-proposalOf solution impulses (ended number) = record { answer = answers.Refused number; solution = solution; impulses = impulses }
+unfoldable pub proposalOf : List Float → List Float → List Float → Answer → Proposal
+proposalOf solution impulses centres (going ((flag, count, v), f)) = record { answer = answers.Accepted (resultOf flag count f); solution = v .solution; impulses = f .impulses; centres = f .centres }
+proposalOf solution impulses centres (ended number) = record { answer = answers.Refused number; solution = solution; impulses = impulses; centres = centres }
 
 -- What is then written into the n rows: their accumulated multipliers.
 unfoldable pub committedOf : ℕ → List Float → Answer → List Float
@@ -54,11 +56,11 @@ committedOf n numbers (ended number) = numbers
 -- The solve is both.
 abbrev pub outcomeOf : ℕ → Lent → Answer → Outcome
 outcomeOf n before a =
-    let p = proposalOf (before .solution) (before .impulses) a in
-    record { answer = p .answer; lent = record { numbers = committedOf n (before .numbers) a; solution = p .solution; impulses = p .impulses } }
+    let p = proposalOf (before .solution) (before .impulses) (before .centres) a in
+    record { answer = p .answer; lent = record { numbers = committedOf n (before .numbers) a; solution = p .solution; impulses = p .impulses; centres = p .centres } }
 
 abbrev pub lentOf : ℕ → Lent → Iterate → Delivered → Lent
-lentOf n before v f = record { numbers = withMultipliers (before .numbers) (f .accumulated) n; solution = v .solution; impulses = f .impulses }
+lentOf n before v f = record { numbers = withMultipliers (before .numbers) (f .accumulated) n; solution = v .solution; impulses = f .impulses; centres = f .centres }
 
 -- ---- what an answer means, told by document 01's steps: demand 3
 module _ (m : Method Iterate Carried Delivered) (limit n : ℕ) (before : Lent) where

@@ -3,6 +3,7 @@ ghost use mathlib.Core.Path.{_≡_};
 ghost use Prim.Native.Nat.{_*_, _≤_};
 ghost use lib.ListN.{length};
 ghost use Rattle.kapitsa_joint.specs.Table.{tableOf};
+ghost use Rattle.kapitsa_joint.specs.Centre.{centresIn};
 ghost use Rattle.compact_table.specs.Compact.{compactOf, Linked};
 ghost use Rattle.mass_operator.specs.Flat.{coefficients, impulsesOf};
 ghost use Rattle.loops.specs.Run.{next};
@@ -20,14 +21,18 @@ use loops::wide;
 use mass_operator::Applied;
 use mass_operator::global_velocity_impulse;
 use position::add_multipliers;
+use position::move_centres;
+use position::moved_finite;
 use position::multipliers_finite;
 use position::residual_maxima;
 use position_iteration::Iterated;
 use work_memory::clear_table;
 
-// 17, of impulses and multipliers: true where it does not apply.
+// 17, of impulses, multipliers and centres: true where it does not apply.
 fn deliverable(
     numbers: &[f64],
+    masses: &[f64],
+    centres: &[f64],
     jacobians: &[f64],
     links: &[u32],
     pending: &[f64],
@@ -35,19 +40,22 @@ fn deliverable(
     body_impulses: &mut [f64],
 ) -> bool
     requires { ⌜ (27 * length (now pending) ≤ length (now numbers)) × (12 * length (now pending) ≤ length (now jacobians)) × (2 * length (now pending) ≤ length (now links)) × (length (now «body_impulses») ≡ 6 * bodies) ⌝ }
+    requires { ⌜ (10 * bodies ≤ length (now masses)) × (3 * bodies ≤ length (now centres)) ⌝ }
     requires { ⌜ Linked (now links) (length (now pending)) bodies ⌝ }
-    ensures { λ r. ⌜ Judged r (now (numbers .entry)) (impulsesOf (compactOf (now (jacobians .entry)) (now (links .entry))) (coefficients (now (pending .entry))) (length (now (pending .entry))) bodies) (now (pending .entry)) (now («body_impulses» .exit)) ⌝ }
+    ensures { λ r. ⌜ Judged r bodies (now (numbers .entry)) (now (masses .entry)) (now (centres .entry)) (impulsesOf (compactOf (now (jacobians .entry)) (now (links .entry))) (coefficients (now (pending .entry))) (length (now (pending .entry))) bodies) (now (pending .entry)) (now («body_impulses» .exit)) ⌝ }
 {
     let Applied::Done = global_velocity_impulse(jacobians, links, pending, bodies, body_impulses)
     else {
         return false;
     };
-    multipliers_finite(numbers, pending)
+    multipliers_finite(numbers, pending) & moved_finite(masses, body_impulses, centres, bodies)
 }
 
-// Solution and impulses, or nothing.
+// Solution, impulses and centres, or nothing.
 fn show(
     numbers: &[f64],
+    masses: &[f64],
+    centres: &[f64],
     jacobians: &[f64],
     links: &[u32],
     pending: &[f64],
@@ -55,16 +63,28 @@ fn show(
     body_impulses: &mut [f64],
     solution: &mut [f64],
     impulses: &mut [f64],
+    new_centres: &mut [f64],
 ) -> bool
     requires { ⌜ (27 * length (now pending) ≤ length (now numbers)) × (12 * length (now pending) ≤ length (now jacobians)) × (2 * length (now pending) ≤ length (now links)) × (length (now «body_impulses») ≡ 6 * bodies) × (length (now solution) ≡ length (now pending)) × (length (now impulses) ≡ 6 * bodies) ⌝ }
+    requires { ⌜ (10 * bodies ≤ length (now masses)) × (3 * bodies ≤ length (now centres)) × (length (now «new_centres») ≡ 3 * bodies) ⌝ }
     requires { ⌜ Linked (now links) (length (now pending)) bodies ⌝ }
-    ensures { λ r. ⌜ Shown r (now (numbers .entry)) (impulsesOf (compactOf (now (jacobians .entry)) (now (links .entry))) (coefficients (now (pending .entry))) (length (now (pending .entry))) bodies) (now (pending .entry)) (now (solution .entry)) (now (impulses .entry)) (now (solution .exit)) (now (impulses .exit)) ⌝ }
+    ensures { λ r. ⌜ Shown r bodies (now (numbers .entry)) (now (masses .entry)) (now (centres .entry)) (impulsesOf (compactOf (now (jacobians .entry)) (now (links .entry))) (coefficients (now (pending .entry))) (length (now (pending .entry))) bodies) (now (pending .entry)) (now (solution .entry)) (now (impulses .entry)) (now («new_centres» .entry)) (now (solution .exit)) (now (impulses .exit)) (now («new_centres» .exit)) ⌝ }
 {
-    if !deliverable(numbers, jacobians, links, pending, bodies, body_impulses) {
+    if !deliverable(
+        numbers,
+        masses,
+        centres,
+        jacobians,
+        links,
+        pending,
+        bodies,
+        body_impulses,
+    ) {
         return false;
     }
     loops::copy(solution, pending);
     loops::copy(impulses, body_impulses);
+    move_centres(masses, body_impulses, centres, bodies, new_centres);
     true
 }
 
@@ -89,6 +109,7 @@ fn propose_step(
     numbers: &[f64],
     words: &[u32],
     masses: &[f64],
+    centres: &[f64],
     rows: u32,
     bodies: u32,
     jacobians: &[f64],
@@ -98,19 +119,24 @@ fn propose_step(
     body_impulses: &mut [f64],
     solution: &mut [f64],
     impulses: &mut [f64],
+    new_centres: &mut [f64],
 ) -> PositionPcg
     requires { ⌜ (length (now numbers) ≡ 27 * rows) × (length (now words) ≡ 8 * rows) × (10 * bodies ≤ length (now masses)) × (length (now solution) ≡ rows) × (length (now impulses) ≡ 6 * bodies) ⌝ }
+    requires { ⌜ (length (now centres) ≡ 3 * bodies) × (length (now «new_centres») ≡ 3 * bodies) ⌝ }
     requires { ⌜ (12 * rows ≤ length (now jacobians)) × (2 * rows ≤ length (now links)) × (length (now pending) ≡ rows) × (length (now residual) ≡ rows) × (length (now «body_impulses») ≡ 6 * bodies) ⌝ }
     requires { ⌜ Stands (tableOf rows bodies (now numbers) (now words) (now masses)) (now masses) (now jacobians) (now links) ⌝ }
-    ensures { λ r. ⌜ proposalOf (now (solution .entry)) (now (impulses .entry)) (finishedOf (tableOf rows bodies (now (numbers .entry)) (now (words .entry)) (now (masses .entry))) (multipliers (tableOf rows bodies (now (numbers .entry)) (now (words .entry)) (now (masses .entry)))) (flag, count, record { solution = now (pending .entry); residual = now (residual .entry) })) ≡ record { answer = r; solution = now (solution .exit); impulses = now (impulses .exit) } ⌝ }
+    ensures { λ r. ⌜ proposalOf (now (solution .entry)) (now (impulses .entry)) (now («new_centres» .entry)) (finishedOf (tableOf rows bodies (now (numbers .entry)) (now (words .entry)) (now (masses .entry))) (multipliers (tableOf rows bodies (now (numbers .entry)) (now (words .entry)) (now (masses .entry)))) (centresIn bodies (now (centres .entry))) (flag, count, record { solution = now (pending .entry); residual = now (residual .entry) })) ≡ record { answer = r; solution = now (solution .exit); impulses = now (impulses .exit); centres = now («new_centres» .exit) } ⌝ }
 {
     if count == 0 {
         loops::copy(solution, pending);
         loops::clear(impulses);
+        loops::copy(new_centres, centres);
         return accept(flag, count, words, residual);
     }
     if !show(
         numbers,
+        masses,
+        centres,
         jacobians,
         links,
         pending,
@@ -118,6 +144,7 @@ fn propose_step(
         body_impulses,
         solution,
         impulses,
+        new_centres,
     ) {
         return PositionPcg::Refused(17);
     }
@@ -131,6 +158,7 @@ pub fn propose(
     numbers: &[f64],
     words: &[u32],
     masses: &[f64],
+    centres: &[f64],
     rows: u32,
     bodies: u32,
     jacobians: &[f64],
@@ -140,11 +168,13 @@ pub fn propose(
     body_impulses: &mut [f64],
     solution: &mut [f64],
     impulses: &mut [f64],
+    new_centres: &mut [f64],
 ) -> PositionPcg
     requires { ⌜ (length (now numbers) ≡ 27 * rows) × (length (now words) ≡ 8 * rows) × (10 * bodies ≤ length (now masses)) × (length (now solution) ≡ rows) × (length (now impulses) ≡ 6 * bodies) ⌝ }
+    requires { ⌜ (length (now centres) ≡ 3 * bodies) × (length (now «new_centres») ≡ 3 * bodies) ⌝ }
     requires { ⌜ (12 * rows ≤ length (now jacobians)) × (2 * rows ≤ length (now links)) × (length (now pending) ≡ rows) × (length (now residual) ≡ rows) × (length (now «body_impulses») ≡ 6 * bodies) ⌝ }
     requires { ⌜ StandsAfter (tableOf rows bodies (now numbers) (now words) (now masses)) (now masses) counted (now jacobians) (now links) ⌝ }
-    ensures { λ r. ⌜ proposalOf (now (solution .entry)) (now (impulses .entry)) (next (iteratedOut counted limit (now (pending .entry)) (now (residual .entry))) (finishedOf (tableOf rows bodies (now (numbers .entry)) (now (words .entry)) (now (masses .entry))) (multipliers (tableOf rows bodies (now (numbers .entry)) (now (words .entry)) (now (masses .entry)))))) ≡ record { answer = r; solution = now (solution .exit); impulses = now (impulses .exit) } ⌝ }
+    ensures { λ r. ⌜ proposalOf (now (solution .entry)) (now (impulses .entry)) (now («new_centres» .entry)) (next (iteratedOut counted limit (now (pending .entry)) (now (residual .entry))) (finishedOf (tableOf rows bodies (now (numbers .entry)) (now (words .entry)) (now (masses .entry))) (multipliers (tableOf rows bodies (now (numbers .entry)) (now (words .entry)) (now (masses .entry)))) (centresIn bodies (now (centres .entry))))) ≡ record { answer = r; solution = now (solution .exit); impulses = now (impulses .exit); centres = now («new_centres» .exit) } ⌝ }
     ensures { λ _. ⌜ Free (now («body_impulses» .entry)) (now («body_impulses» .exit)) ⌝ }
 {
     let mut flag = true;
@@ -166,6 +196,7 @@ pub fn propose(
         numbers,
         words,
         masses,
+        centres,
         rows,
         bodies,
         jacobians,
@@ -175,6 +206,7 @@ pub fn propose(
         body_impulses,
         solution,
         impulses,
+        new_centres,
     )
 }
 
@@ -201,6 +233,7 @@ pub fn deliver(
     numbers: &mut [f64],
     words: &[u32],
     masses: &[f64],
+    centres: &[f64],
     rows: u32,
     bodies: u32,
     jacobians: &mut [f64],
@@ -210,12 +243,13 @@ pub fn deliver(
     body_impulses: &mut [f64],
     solution: &mut [f64],
     impulses: &mut [f64],
+    new_centres: &mut [f64],
 ) -> PositionPcg
     requires { ⌜ RowsRoom rows bodies (now numbers) (now words) (now masses) ⌝ }
-    requires { ⌜ (length (now solution) ≡ rows) × (length (now impulses) ≡ 6 * bodies) ⌝ }
+    requires { ⌜ (length (now solution) ≡ rows) × (length (now impulses) ≡ 6 * bodies) × (length (now centres) ≡ 3 * bodies) × (length (now «new_centres») ≡ 3 * bodies) ⌝ }
     requires { ⌜ TableRoom rows bodies (tableMemory (now jacobians) (now links) (now residual) (now pending) (now «body_impulses»)) ⌝ }
     requires { ⌜ StandsAfter (tableOf rows bodies (now numbers) (now words) (now masses)) (now masses) counted (now jacobians) (now links) ⌝ }
-    ensures { λ r. ⌜ outcomeOf rows record { numbers = now (numbers .entry); solution = now (solution .entry); impulses = now (impulses .entry) } (next (iteratedOut counted limit (now (pending .entry)) (now (residual .entry))) (finishedOf (tableOf rows bodies (now (numbers .entry)) (now (words .entry)) (now (masses .entry))) (multipliers (tableOf rows bodies (now (numbers .entry)) (now (words .entry)) (now (masses .entry)))))) ≡ record { answer = r; lent = record { numbers = now (numbers .exit); solution = now (solution .exit); impulses = now (impulses .exit) } } ⌝ }
+    ensures { λ r. ⌜ outcomeOf rows record { numbers = now (numbers .entry); solution = now (solution .entry); impulses = now (impulses .entry); centres = now («new_centres» .entry) } (next (iteratedOut counted limit (now (pending .entry)) (now (residual .entry))) (finishedOf (tableOf rows bodies (now (numbers .entry)) (now (words .entry)) (now (masses .entry))) (multipliers (tableOf rows bodies (now (numbers .entry)) (now (words .entry)) (now (masses .entry)))) (centresIn bodies (now (centres .entry))))) ≡ record { answer = r; lent = record { numbers = now (numbers .exit); solution = now (solution .exit); impulses = now (impulses .exit); centres = now («new_centres» .exit) } } ⌝ }
     ensures { λ _. ⌜ tableMemory (now (jacobians .exit)) (now (links .exit)) (now (residual .exit)) (now (pending .exit)) (now («body_impulses» .exit)) ≡ clearedTable (tableMemory (now (jacobians .entry)) (now (links .entry)) (now (residual .entry)) (now (pending .entry)) (now («body_impulses» .entry))) ⌝ }
 {
     let answer = propose(
@@ -224,6 +258,7 @@ pub fn deliver(
         numbers,
         words,
         masses,
+        centres,
         rows,
         bodies,
         jacobians,
@@ -233,6 +268,7 @@ pub fn deliver(
         body_impulses,
         solution,
         impulses,
+        new_centres,
     );
     commit(answer, numbers, solution);
     clear_table(jacobians, links, residual, pending, body_impulses);

@@ -9,6 +9,7 @@ use Rattle.loops.specs.Run.{Goes, Run, check, ended, going}
 use Rattle.loops.proofs.Inverse.{next-going}
 use Rattle.loops.proofs.Numbers.{judge-numbers}
 use Rattle.loops.proofs.Ranges.{Among, Listed, among-check, among-going, among-judge, among-judged, among-next}
+use Rattle.kapitsa_math.specs.declared.vector.Vec3.{Vec3}
 use Rattle.kapitsa_joint.specs.Table.{Table}
 use Rattle.rules.specs.Rules.{Rules, ruledBy}
 use Rattle.mass_operator.specs.System.{systemOf}
@@ -139,7 +140,7 @@ module _ (p : Problem) (mode : Mode) where
       first = λ v n b. following-numbers v b n;
       advance = advance-numbers Advanced (advanced .0) (advanced .1) (systemOf (p .table));
       renew = λ u v c n b g. renew-numbers Renewed (renewed .0) (renewed .1) _ _ c (z-numbers Renewed (renewed .1) mode _ _ _ _ (factor-there (p .factorFirst) (begun-factor u b) (first-factor u g))) n;
-      finish = finish-numbers (p .table) (p .accumulated);
+      finish = finish-numbers (p .table) (p .accumulated) (p .centres);
     }
 
     module _ (limit : ℕ) (apart : Apart p) where
@@ -160,12 +161,12 @@ module _ (p : Problem) (mode : Mode) where
       problem-not-zero = steps.refusal-not-zero (methodOf fits p mode) (placesOf p) limit problem-in-place (nought .0)
 
 -- ---- positions
-pub position-apart : (t : Table) (rules : Rules) (shift : Float) → Apart (shiftedProblem t (ruledBy rules t) shift)
+pub position-apart : (t : Table) (rules : Rules) (shift : Float) (centre : ℕ → Vec3) → Apart (shiftedProblem t (ruledBy rules t) shift centre)
 unfolding once stands numbersOf
-position-apart t rules shift = record { each = refl }
+position-apart t rules shift centre = record { each = refl }
 
-module _ (fits : Bool) (t : Table) (rules : Rules) (shift : Float) (mode : Mode) (limit : ℕ) where
+module _ (fits : Bool) (t : Table) (rules : Rules) (shift : Float) (centre : ℕ → Vec3) (mode : Mode) (limit : ℕ) where
   -- to be read beside document 01: the places are those of `positionPlaces`
-  pub position-in-place : InPlace (methodOf fits (shiftedProblem t (ruledBy rules t) shift) mode) positionPlaces limit
+  pub position-in-place : InPlace (methodOf fits (shiftedProblem t (ruledBy rules t) shift centre) mode) positionPlaces limit
   unfolding numbersOf
-  position-in-place = problem-in-place (shiftedProblem t (ruledBy rules t) shift) mode fits limit (position-apart t rules shift)
+  position-in-place = problem-in-place (shiftedProblem t (ruledBy rules t) shift centre) mode fits limit (position-apart t rules shift centre)

@@ -1,11 +1,14 @@
 -- The numbers of each part of a solve: alpha, s, beta, a step, its renewal, and what is delivered. Assumes nothing.
 use Prim.Native.Nat.{ℕ, zero, suc}
 use mathlib.Core.Path.{_≡_, refl}
+use mathlib.Core.Bool.{Bool}
 use mathlib.Core.List.{List}
 use lib.Ieee.{Float}
 use Rattle.loops.specs.Run.{Run}
+use Rattle.loops.specs.Judge.{test}
 use Rattle.loops.proofs.Ranges.{Among, among-going, among-next, among-test}
 use Rattle.kapitsa_joint.specs.Table.{Table}
+use Rattle.kapitsa_joint.specs.Centre.{Centres}
 use Rattle.mass_operator.specs.System.{System}
 use Rattle.recurrence.specs.Step.{Iterate, Carried, alphaOf, updatedOf, advanceOf, productFit, firstFrom, betaOf, turnedOf, renewFrom}
 use Rattle.position_iteration.specs.Method.{finishOf}
@@ -40,7 +43,10 @@ module _ (P : ℕ → Type 0) (p15 : P 15) (p16 : P 16) where
 abbrev Seventeen : ℕ → Type 0
 Seventeen n = n ≡ 17
 
-pub finish-numbers : (t : Table) (accumulated : ℕ → Float) (count : ℕ) (v : Iterate) → Among (λ n. n ≡ 17) (finishOf t accumulated count v)
+pub finish-numbers : (t : Table) (accumulated : ℕ → Float) (c : Centres) (count : ℕ) (v : Iterate) → Among (λ n. n ≡ 17) (finishOf t accumulated c count v)
 unfolding finishOf
-finish-numbers t accumulated zero v = among-going Seventeen _
-finish-numbers t accumulated (suc count) v = among-next Seventeen _ _ (among-test Seventeen _ 17 refl) (λ _ _. among-next Seventeen _ _ (among-test Seventeen _ 17 refl) (λ _ _. among-going Seventeen _))
+finish-numbers t accumulated c zero v = among-going Seventeen _
+finish-numbers t accumulated c (suc count) v = among-next Seventeen _ _ (tested _) (λ _ _. among-next Seventeen _ _ (tested _) (λ _ _. among-next Seventeen _ _ (tested _) (λ _ _. among-going Seventeen _)))
+  where
+    tested : (b : Bool) → Among Seventeen (test b 17)
+    tested b = among-test Seventeen b 17 refl

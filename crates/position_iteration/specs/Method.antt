@@ -12,8 +12,11 @@ use Rattle.loops.specs.Every.{every}
 use Rattle.loops.specs.Tabulate.{tabulate}
 use Rattle.kapitsa_joint.specs.Table.{Table}
 use Rattle.kapitsa_joint.specs.Tolerance.{dimensionOf}
-use Rattle.joint_refusals.specs.Refusals.{passes4, passes6}
+use Rattle.kapitsa_joint.specs.Centre.{Centres, flatCentres}
+use Rattle.kapitsa_joint.specs.declared.impulse.GeneralizedImpulse.{GeneralizedImpulse}
+use Rattle.joint_refusals.specs.Refusals.{passes4, passes6, centresFinite}
 use Rattle.mass_operator.specs.System.{System, systemOf}
+use Rattle.mass_operator.specs.Operator.{impulseAt}
 use Rattle.mass_operator.specs.Flat.{coefficients, impulsesOf}
 use Rattle.mass_operator.specs.Applied.{allFiniteOf}
 use Rattle.loops.specs.Cleared.{zeros}
@@ -21,6 +24,7 @@ use Rattle.preconditioner.specs.Factor.{factorJudged}
 use Rattle.preconditioner.specs.Apply.{preconditioned}
 use Rattle.preconditioner.specs.declared.mode.Mode.{Mode}
 use Rattle.recurrence.specs.Step.{Iterate, Carried, advanceOf, firstFrom, renewFrom}
+use Rattle.position.specs.Centres.{movedBy}
 use Rattle.position.specs.Problem.{Problem}
 use Rattle.position.specs.Prepare.{rowsJudged, diagonals, residuals}
 use Rattle.position.specs.Residual.{meetsOf, maximaOf}
@@ -39,7 +43,7 @@ passes5 rows opens limit = cond (eqb rows 0) true (not (eqb limit 0) && every op
 
 -- once 3 has passed: first what is chosen, then, in this order
 abbrev pub tableTests : Problem → ℕ → List (ℕ × Bool)
-tableTests p limit = let t = p .table in (4, passes4 t) ∷ (p .toleranceTests ++ ((5, passes5 (t .rows) (p .opens) limit) ∷ ((6, passes6 t) ∷ p .lent)))
+tableTests p limit = let t = p .table in (4, passes4 t) ∷ (p .toleranceTests ++ ((5, passes5 (t .rows) (p .opens) limit) ∷ ((6, passes6 t && p .placed) ∷ p .lent)))
 
 abbrev pub afterThree : Problem → ℕ → List (ℕ × Bool)
 afterThree p limit = p .options ++ tableTests p limit
@@ -78,10 +82,11 @@ stepsBy z s tolerance = record {
 abbrev pub stepsOf : Mode → System → (ℕ → ℕ) → List Float → (ℕ → Float) → Recurrence Iterate Carried
 stepsOf mode s owner diagonal tolerance = stepsBy (preconditioned mode s owner diagonal) s tolerance
 
--- ---- what is delivered: document 01, "Multipliers, solution, impulses"
+-- ---- what is delivered: document 01, "Multipliers, solution, impulses", and document 02, d, "the new centre of each link with the impulses"
 pub record Delivered : Type 0 where
   pub accumulated : List Float  -- the rows' accumulated numbers, afterwards
   pub impulses : List Float  -- six doubles a body
+  pub centres : List Float  -- three doubles a body
   pub maxima : Maxima
 
 unfoldable pub gainsOf : (ℕ → Float) → ℕ → List Float → List Float
@@ -90,13 +95,19 @@ gainsOf accumulated rows solution = tabulate (λ i. add binary64 (accumulated i)
 unfoldable pub maximaIn : Table → Iterate → Maxima
 maximaIn t v = maximaOf (λ i. dimensionOf (t .row i .words .dimension)) (v .residual) (t .rows)
 
--- "with count 0 it keeps its bits", "With count 0, solution and impulses are +0.0"; "17. A final impulse or multiplier is not finite."
-unfoldable pub finishOf : Table → (ℕ → Float) → ℕ → Iterate → Run Delivered ℕ
-finishOf t accumulated zero v = going (record { accumulated = tabulate accumulated (t .rows); impulses = zeros (6 * t .bodies); maxima = maximaIn t v })
-finishOf t accumulated (suc count) v =
+-- of body b, by the step's solution
+abbrev pub impulseBy : Table → Iterate → ℕ → GeneralizedImpulse
+impulseBy t v b = impulseAt (systemOf t .jacobian) (coefficients (v .solution)) b (t .rows)
+
+-- "with count 0 it keeps its bits", "With count 0, solution and impulses are +0.0"; "17. A final impulse or multiplier is not finite", nor a centre: "one that comes out so is 17"
+unfoldable pub finishOf : Table → (ℕ → Float) → Centres → ℕ → Iterate → Run Delivered ℕ
+finishOf t accumulated c zero v = going (record { accumulated = tabulate accumulated (t .rows); impulses = zeros (6 * t .bodies); centres = flatCentres c; maxima = maximaIn t v })
+finishOf t accumulated c (suc count) v =
     let impulses = impulsesOf (systemOf t .jacobian) (coefficients (v .solution)) (t .rows) (t .bodies) in
     let gains = gainsOf accumulated (t .rows) (v .solution) in
-    next (test (allFiniteOf impulses) 17) (λ _. next (test (allFiniteOf gains) 17) (λ _. going (record { accumulated = gains; impulses = impulses; maxima = maximaIn t v })))
+    let moved = movedBy (t .mass) (impulseBy t v) c in
+    next (test (allFiniteOf impulses) 17)
+    (λ _. next (test (allFiniteOf gains) 17) (λ _. next (test (centresFinite moved) 17) (λ _. going (record { accumulated = gains; impulses = impulses; centres = flatCentres moved; maxima = maximaIn t v }))))
 
 -- ---- the solve
 abbrev pub methodOf : Bool → Problem → Mode → Method Iterate Carried Delivered
@@ -105,5 +116,5 @@ methodOf fits p mode = let t = p .table in record {
   begin = beginOf p mode;
   first = firstOf (p .factorFirst) mode (systemOf t) (ownerOf t) (diagonals t);
   steps = stepsOf mode (systemOf t) (ownerOf t) (diagonals t) (p .tolerance);
-  finish = finishOf t (p .accumulated);
+  finish = finishOf t (p .accumulated) (p .centres);
 }

@@ -24,14 +24,14 @@ use Rattle.work_memory.specs.Work.{WorkMemory, workMemory}
 use Rattle.joint_refusals.specs.Counts.{countsFit}
 use Rattle.work_memory.specs.Lengths.{tableFits, vectorsFit, factorFits, passes3, WorkRoom}
 use Rattle.rules.specs.Rules.{Rules}
-use Rattle.pcg.specs.Ruled.{rulesLent, SolveRuled}
+use Rattle.pcg.specs.Ruled.{rulesLent, centresLent, SolveRuled}
 use Rattle.position_solve.specs.Job.{jobFits, JobSolved, FactorRoom}
 
 -- the counts of what has passed
-pub counts-within : (n b mode numbers words masses solution impulses ruleWords ruleTolerances ruleNumbers : ℕ) → jobFits n b mode numbers words masses solution impulses ruleWords ruleTolerances ruleNumbers ≡ true → (n ≤ 512) × (b ≤ 256) × (mode ≤ 2)
+pub counts-within : (n b mode numbers words masses solution impulses centres newCentres ruleWords ruleTolerances ruleNumbers : ℕ) → jobFits n b mode numbers words masses solution impulses centres newCentres ruleWords ruleTolerances ruleNumbers ≡ true → (n ≤ 512) × (b ≤ 256) × (mode ≤ 2)
 unfolding jobFits countsFit
-counts-within n b mode numbers words masses solution impulses ruleWords ruleTolerances ruleNumbers h =
-    let (_, k) = both (rulesLent n ruleWords ruleTolerances ruleNumbers) (countsFit n b mode && tableFits n b numbers words masses solution impulses) h in
+counts-within n b mode numbers words masses solution impulses centres newCentres ruleWords ruleTolerances ruleNumbers h =
+    let (_, k) = both (rulesLent n ruleWords ruleTolerances ruleNumbers && centresLent b centres newCentres) (countsFit n b mode && tableFits n b numbers words masses solution impulses) h in
     let (c, _) = both (countsFit n b mode) (tableFits n b numbers words masses solution impulses) k in
     let (p, m) = both (leb n 512 && leb b 256) (leb mode 2) c in
     let (x, y) = both (leb n 512) (leb b 256) p in
@@ -49,16 +49,16 @@ module _ (N B : ℕ) {n b mode : ℕ} {pattern order : List ℕ} {values : List 
         table = record { jacobians-long = length-take-le (12 * n) j (omega arith); links-long = length-take-le (2 * n) l (omega arith); residual-long = row r er; pending-long = row p ep; body-impulses-long = length-take-le (6 * b) i (omega arith) };
       }
 
-module _ (n b mode : ℕ) (numbers : List Float) (words : List ℕ) (masses solution impulses : List Float) (w : WorkMemory) (ruleWords ruleTolerances ruleNumbers : ℕ)
-    (h : jobFits n b mode (length numbers) (length words) (length masses) (length solution) (length impulses) ruleWords ruleTolerances ruleNumbers ≡ true) (r : WorkRoom (roomMode mode) n b w) where
-  fits-too : (rulesLent n ruleWords ruleTolerances ruleNumbers && passes3 n b mode numbers words masses solution impulses w) ≡ true
+module _ (n b mode : ℕ) (numbers : List Float) (words : List ℕ) (masses solution impulses : List Float) (w : WorkMemory) (centres newCentres ruleWords ruleTolerances ruleNumbers : ℕ)
+    (h : jobFits n b mode (length numbers) (length words) (length masses) (length solution) (length impulses) centres newCentres ruleWords ruleTolerances ruleNumbers ≡ true) (r : WorkRoom (roomMode mode) n b w) where
+  fits-too : ((rulesLent n ruleWords ruleTolerances ruleNumbers && centresLent b centres newCentres) && passes3 n b mode numbers words masses solution impulses w) ≡ true
   unfolding jobFits passes3 vectorsFit factorFits
   fits-too =
-      let (l, k) = both (rulesLent n ruleWords ruleTolerances ruleNumbers) (countsFit n b mode && tableFits n b (length numbers) (length words) (length masses) (length solution) (length impulses)) h in
+      let (l, k) = both (rulesLent n ruleWords ruleTolerances ruleNumbers && centresLent b centres newCentres) (countsFit n b mode && tableFits n b (length numbers) (length words) (length masses) (length solution) (length impulses)) h in
       rw (l, k, eq-eqb _ _ (r .table .jacobians-long), eq-eqb _ _ (r .table .links-long), eq-eqb _ _ (r .steps .tolerances-long), eq-eqb _ _ (r .table .residual-long), eq-eqb _ _ (r .table .pending-long), eq-eqb _ _ (r .steps .direction-long), eq-eqb _ _ (r .steps .product-long), eq-eqb _ _ (r .table .body-impulses-long), eq-eqb _ _ (r .steps .factor .diagonal-long), eq-eqb _ _ (r .steps .factor .pattern-long), eq-eqb _ _ (r .steps .factor .order-long), eq-eqb _ _ (r .steps .factor .values-long))
 
   pub job-solved : {s : Rules} {p : Problem} {m : Mode} {limit rows : ℕ} {before after : Lent} {named namedAfter : List ℕ} {answer : PositionPcg} {work workAfter : WorkMemory}
-      → SolveRuled (rulesLent n ruleWords ruleTolerances ruleNumbers && passes3 n b mode numbers words masses solution impulses w) s p m limit rows before after named namedAfter answer work workAfter
+      → SolveRuled ((rulesLent n ruleWords ruleTolerances ruleNumbers && centresLent b centres newCentres) && passes3 n b mode numbers words masses solution impulses w) s p m limit rows before after named namedAfter answer work workAfter
       → JobSolved true s p m limit rows before after named namedAfter answer
   job-solved r =
       let q = rw fits-too at r in

@@ -16,13 +16,13 @@ use Rattle.position_delivery.specs.Outcome.{Lent, outcomeOf, SolveMeaning}
 use Rattle.position_delivery.specs.declared.answer.PositionPcg.{PositionPcg}
 use Rattle.position_delivery.specs.declared.answer.PositionPcg.the-variants as answers
 use Rattle.position_delivery.specs.declared.answer.PositionPcgResult.{PositionPcgResult}
-use Rattle.pcg.specs.Ruled.{rulesLent, namedBy}
+use Rattle.pcg.specs.Ruled.{rulesLent, centresLent, namedBy}
 use Rattle.joint_refusals.specs.Counts.{countsFit}
 use Rattle.work_memory.specs.Lengths.{tableFits}
 
 -- Document 01, refusal 3, of what a caller lends: the counts, the mode, and the lengths of the table, of the rules and of what takes the answer. True where the refusal does not apply.
-unfoldable pub jobFits : ℕ → ℕ → ℕ → ℕ → ℕ → ℕ → ℕ → ℕ → ℕ → ℕ → ℕ → Bool
-jobFits n b mode numbers words masses solution impulses ruleWords ruleTolerances ruleNumbers = rulesLent n ruleWords ruleTolerances ruleNumbers && (countsFit n b mode && tableFits n b numbers words masses solution impulses)
+unfoldable pub jobFits : ℕ → ℕ → ℕ → ℕ → ℕ → ℕ → ℕ → ℕ → ℕ → ℕ → ℕ → ℕ → ℕ → Bool
+jobFits n b mode numbers words masses solution impulses centres newCentres ruleWords ruleTolerances ruleNumbers = (rulesLent n ruleWords ruleTolerances ruleNumbers && centresLent b centres newCentres) && (countsFit n b mode && tableFits n b numbers words masses solution impulses)
 
 -- of n rows; `fits` is whether refusal 3 passes
 pub record JobSolved (fits : Bool) (s : Rules) (p : Problem) (mode : Mode) (limit n : ℕ) (before after : Lent) (numbers numbersAfter : List ℕ) (answer : PositionPcg) : Type 0 where

@@ -2,6 +2,7 @@
 ghost use mathlib.Core.Path.{_≡_};
 ghost use Rattle.position_solve.specs.Job.{jobFits};
 use joint_refusals::counts_fit;
+use pcg::centres_lent;
 use pcg::rules_lent;
 use work_memory::table_fits;
 
@@ -14,13 +15,16 @@ pub fn job_fits(
     masses: usize,
     solution: usize,
     impulses: usize,
+    centres: usize,
+    new_centres: usize,
     rule_words: usize,
     rule_tolerances: usize,
     rule_numbers: usize,
 ) -> bool
-    ensures { λ r. ⌜ r ≡ jobFits rows bodies mode numbers words masses solution impulses «rule_words» «rule_tolerances» «rule_numbers» ⌝ }
+    ensures { λ r. ⌜ r ≡ jobFits rows bodies mode numbers words masses solution impulses centres «new_centres» «rule_words» «rule_tolerances» «rule_numbers» ⌝ }
 {
     rules_lent(rows, rule_words, rule_tolerances, rule_numbers)
+        & centres_lent(bodies, centres, new_centres)
         & (counts_fit(rows, bodies, mode)
             & table_fits(rows, bodies, numbers, words, masses, solution, impulses))
 }

@@ -20,6 +20,7 @@ fn with_vectors(
     numbers: &mut [f64],
     words: &[u32],
     masses: &[f64],
+    centres: &[f64],
     rows: u32,
     bodies: u32,
     rule_words: &[u32],
@@ -29,15 +30,16 @@ fn with_vectors(
     shift: f64,
     solution: &mut [f64],
     impulses: &mut [f64],
+    new_centres: &mut [f64],
     rule_numbers: &mut [u32],
     pattern: &mut [u32],
     order: &mut [u32],
     values: &mut [f64],
 ) -> PositionPcg
-    requires { ⌜ jobFits rows bodies mode (length (now numbers)) (length (now words)) (length (now masses)) (length (now solution)) (length (now impulses)) (length (now «rule_words»)) (length (now «rule_tolerances»)) (length (now «rule_numbers»)) ≡ true ⌝ }
+    requires { ⌜ jobFits rows bodies mode (length (now numbers)) (length (now words)) (length (now masses)) (length (now solution)) (length (now impulses)) (length (now centres)) (length (now «new_centres»)) (length (now «rule_words»)) (length (now «rule_tolerances»)) (length (now «rule_numbers»)) ≡ true ⌝ }
     requires { ⌜ (rows ≤ 128) × (bodies ≤ 64) ⌝ }
     requires { ⌜ FactorRoom mode rows (length (now pattern)) (length (now order)) (length (now values)) ⌝ }
-    ensures { λ r. ⌜ JobSolved true (rulesIn (now («rule_words» .entry)) (now («rule_tolerances» .entry))) (positionOf rows bodies (now (numbers .entry)) (now (words .entry)) (now (masses .entry)) (rulesIn (now («rule_words» .entry)) (now («rule_tolerances» .entry))) shift) (modeOf mode shift) limit rows record { numbers = now (numbers .entry); solution = now (solution .entry); impulses = now (impulses .entry) } record { numbers = now (numbers .exit); solution = now (solution .exit); impulses = now (impulses .exit) } (now («rule_numbers» .entry)) (now («rule_numbers» .exit)) r ⌝ }
+    ensures { λ r. ⌜ JobSolved true (rulesIn (now («rule_words» .entry)) (now («rule_tolerances» .entry))) (positionOf rows bodies (now (numbers .entry)) (now (words .entry)) (now (masses .entry)) (now (centres .entry)) (rulesIn (now («rule_words» .entry)) (now («rule_tolerances» .entry))) shift) (modeOf mode shift) limit rows record { numbers = now (numbers .entry); solution = now (solution .entry); impulses = now (impulses .entry); centres = now («new_centres» .entry) } record { numbers = now (numbers .exit); solution = now (solution .exit); impulses = now (impulses .exit); centres = now («new_centres» .exit) } (now («rule_numbers» .entry)) (now («rule_numbers» .exit)) r ⌝ }
 {
     let mut jacobians: [f64; 1536] = [0.0; 1536];
     let mut links: [u32; 256] = [0; 256];
@@ -57,6 +59,7 @@ fn with_vectors(
         numbers,
         words,
         masses,
+        centres,
         rows,
         bodies,
         rule_words,
@@ -66,6 +69,7 @@ fn with_vectors(
         shift,
         solution,
         impulses,
+        new_centres,
         rule_numbers,
         &mut jacobians[..jacobian_numbers],
         &mut links[..body_links],
@@ -87,6 +91,7 @@ fn with_factor(
     numbers: &mut [f64],
     words: &[u32],
     masses: &[f64],
+    centres: &[f64],
     rows: u32,
     bodies: u32,
     rule_words: &[u32],
@@ -96,12 +101,13 @@ fn with_factor(
     shift: f64,
     solution: &mut [f64],
     impulses: &mut [f64],
+    new_centres: &mut [f64],
     rule_numbers: &mut [u32],
 ) -> PositionPcg
-    requires { ⌜ jobFits rows bodies mode (length (now numbers)) (length (now words)) (length (now masses)) (length (now solution)) (length (now impulses)) (length (now «rule_words»)) (length (now «rule_tolerances»)) (length (now «rule_numbers»)) ≡ true ⌝ }
+    requires { ⌜ jobFits rows bodies mode (length (now numbers)) (length (now words)) (length (now masses)) (length (now solution)) (length (now impulses)) (length (now centres)) (length (now «new_centres»)) (length (now «rule_words»)) (length (now «rule_tolerances»)) (length (now «rule_numbers»)) ≡ true ⌝ }
     requires { ⌜ (rows ≤ 128) × (bodies ≤ 64) ⌝ }
     requires { ⌜ mode ≡ 1 ⌝ }
-    ensures { λ r. ⌜ JobSolved true (rulesIn (now («rule_words» .entry)) (now («rule_tolerances» .entry))) (positionOf rows bodies (now (numbers .entry)) (now (words .entry)) (now (masses .entry)) (rulesIn (now («rule_words» .entry)) (now («rule_tolerances» .entry))) shift) (modeOf mode shift) limit rows record { numbers = now (numbers .entry); solution = now (solution .entry); impulses = now (impulses .entry) } record { numbers = now (numbers .exit); solution = now (solution .exit); impulses = now (impulses .exit) } (now («rule_numbers» .entry)) (now («rule_numbers» .exit)) r ⌝ }
+    ensures { λ r. ⌜ JobSolved true (rulesIn (now («rule_words» .entry)) (now («rule_tolerances» .entry))) (positionOf rows bodies (now (numbers .entry)) (now (words .entry)) (now (masses .entry)) (now (centres .entry)) (rulesIn (now («rule_words» .entry)) (now («rule_tolerances» .entry))) shift) (modeOf mode shift) limit rows record { numbers = now (numbers .entry); solution = now (solution .entry); impulses = now (impulses .entry); centres = now («new_centres» .entry) } record { numbers = now (numbers .exit); solution = now (solution .exit); impulses = now (impulses .exit); centres = now («new_centres» .exit) } (now («rule_numbers» .entry)) (now («rule_numbers» .exit)) r ⌝ }
 {
     let mut pattern: [u32; 8257] = [0; 8257];
     let mut order: [u32; 16384] = [0; 16384];
@@ -113,6 +119,7 @@ fn with_factor(
         numbers,
         words,
         masses,
+        centres,
         rows,
         bodies,
         rule_words,
@@ -122,6 +129,7 @@ fn with_factor(
         shift,
         solution,
         impulses,
+        new_centres,
         rule_numbers,
         &mut pattern[..pattern_words],
         &mut order[..order_words],
@@ -134,6 +142,7 @@ fn with_blocks(
     numbers: &mut [f64],
     words: &[u32],
     masses: &[f64],
+    centres: &[f64],
     rows: u32,
     bodies: u32,
     rule_words: &[u32],
@@ -143,12 +152,13 @@ fn with_blocks(
     shift: f64,
     solution: &mut [f64],
     impulses: &mut [f64],
+    new_centres: &mut [f64],
     rule_numbers: &mut [u32],
 ) -> PositionPcg
-    requires { ⌜ jobFits rows bodies mode (length (now numbers)) (length (now words)) (length (now masses)) (length (now solution)) (length (now impulses)) (length (now «rule_words»)) (length (now «rule_tolerances»)) (length (now «rule_numbers»)) ≡ true ⌝ }
+    requires { ⌜ jobFits rows bodies mode (length (now numbers)) (length (now words)) (length (now masses)) (length (now solution)) (length (now impulses)) (length (now centres)) (length (now «new_centres»)) (length (now «rule_words»)) (length (now «rule_tolerances»)) (length (now «rule_numbers»)) ≡ true ⌝ }
     requires { ⌜ (rows ≤ 128) × (bodies ≤ 64) ⌝ }
     requires { ⌜ mode ≡ 2 ⌝ }
-    ensures { λ r. ⌜ JobSolved true (rulesIn (now («rule_words» .entry)) (now («rule_tolerances» .entry))) (positionOf rows bodies (now (numbers .entry)) (now (words .entry)) (now (masses .entry)) (rulesIn (now («rule_words» .entry)) (now («rule_tolerances» .entry))) shift) (modeOf mode shift) limit rows record { numbers = now (numbers .entry); solution = now (solution .entry); impulses = now (impulses .entry) } record { numbers = now (numbers .exit); solution = now (solution .exit); impulses = now (impulses .exit) } (now («rule_numbers» .entry)) (now («rule_numbers» .exit)) r ⌝ }
+    ensures { λ r. ⌜ JobSolved true (rulesIn (now («rule_words» .entry)) (now («rule_tolerances» .entry))) (positionOf rows bodies (now (numbers .entry)) (now (words .entry)) (now (masses .entry)) (now (centres .entry)) (rulesIn (now («rule_words» .entry)) (now («rule_tolerances» .entry))) shift) (modeOf mode shift) limit rows record { numbers = now (numbers .entry); solution = now (solution .entry); impulses = now (impulses .entry); centres = now («new_centres» .entry) } record { numbers = now (numbers .exit); solution = now (solution .exit); impulses = now (impulses .exit); centres = now («new_centres» .exit) } (now («rule_numbers» .entry)) (now («rule_numbers» .exit)) r ⌝ }
 {
     let mut pattern: [u32; 128] = [0; 128];
     let mut order: [u32; 0] = [0; 0];
@@ -159,6 +169,7 @@ fn with_blocks(
         numbers,
         words,
         masses,
+        centres,
         rows,
         bodies,
         rule_words,
@@ -168,6 +179,7 @@ fn with_blocks(
         shift,
         solution,
         impulses,
+        new_centres,
         rule_numbers,
         &mut pattern[..pattern_words],
         &mut order,
@@ -180,6 +192,7 @@ fn with_diagonal(
     numbers: &mut [f64],
     words: &[u32],
     masses: &[f64],
+    centres: &[f64],
     rows: u32,
     bodies: u32,
     rule_words: &[u32],
@@ -189,12 +202,13 @@ fn with_diagonal(
     shift: f64,
     solution: &mut [f64],
     impulses: &mut [f64],
+    new_centres: &mut [f64],
     rule_numbers: &mut [u32],
 ) -> PositionPcg
-    requires { ⌜ jobFits rows bodies mode (length (now numbers)) (length (now words)) (length (now masses)) (length (now solution)) (length (now impulses)) (length (now «rule_words»)) (length (now «rule_tolerances»)) (length (now «rule_numbers»)) ≡ true ⌝ }
+    requires { ⌜ jobFits rows bodies mode (length (now numbers)) (length (now words)) (length (now masses)) (length (now solution)) (length (now impulses)) (length (now centres)) (length (now «new_centres»)) (length (now «rule_words»)) (length (now «rule_tolerances»)) (length (now «rule_numbers»)) ≡ true ⌝ }
     requires { ⌜ (rows ≤ 128) × (bodies ≤ 64) ⌝ }
     requires { ⌜ mode ≡ 0 ⌝ }
-    ensures { λ r. ⌜ JobSolved true (rulesIn (now («rule_words» .entry)) (now («rule_tolerances» .entry))) (positionOf rows bodies (now (numbers .entry)) (now (words .entry)) (now (masses .entry)) (rulesIn (now («rule_words» .entry)) (now («rule_tolerances» .entry))) shift) (modeOf mode shift) limit rows record { numbers = now (numbers .entry); solution = now (solution .entry); impulses = now (impulses .entry) } record { numbers = now (numbers .exit); solution = now (solution .exit); impulses = now (impulses .exit) } (now («rule_numbers» .entry)) (now («rule_numbers» .exit)) r ⌝ }
+    ensures { λ r. ⌜ JobSolved true (rulesIn (now («rule_words» .entry)) (now («rule_tolerances» .entry))) (positionOf rows bodies (now (numbers .entry)) (now (words .entry)) (now (masses .entry)) (now (centres .entry)) (rulesIn (now («rule_words» .entry)) (now («rule_tolerances» .entry))) shift) (modeOf mode shift) limit rows record { numbers = now (numbers .entry); solution = now (solution .entry); impulses = now (impulses .entry); centres = now («new_centres» .entry) } record { numbers = now (numbers .exit); solution = now (solution .exit); impulses = now (impulses .exit); centres = now («new_centres» .exit) } (now («rule_numbers» .entry)) (now («rule_numbers» .exit)) r ⌝ }
 {
     let mut pattern: [u32; 0] = [0; 0];
     let mut order: [u32; 0] = [0; 0];
@@ -203,6 +217,7 @@ fn with_diagonal(
         numbers,
         words,
         masses,
+        centres,
         rows,
         bodies,
         rule_words,
@@ -212,6 +227,7 @@ fn with_diagonal(
         shift,
         solution,
         impulses,
+        new_centres,
         rule_numbers,
         &mut pattern,
         &mut order,
@@ -224,6 +240,7 @@ pub fn solve_small_position(
     numbers: &mut [f64],
     words: &[u32],
     masses: &[f64],
+    centres: &[f64],
     rows: u32,
     bodies: u32,
     rule_words: &[u32],
@@ -233,10 +250,11 @@ pub fn solve_small_position(
     shift: f64,
     solution: &mut [f64],
     impulses: &mut [f64],
+    new_centres: &mut [f64],
     rule_numbers: &mut [u32],
 ) -> PositionPcg
     requires { ⌜ (rows ≤ 128) × (bodies ≤ 64) ⌝ }
-    ensures { λ r. ⌜ JobSolved (jobFits rows bodies mode (length (now (numbers .entry))) (length (now (words .entry))) (length (now (masses .entry))) (length (now (solution .entry))) (length (now (impulses .entry))) (length (now («rule_words» .entry))) (length (now («rule_tolerances» .entry))) (length (now («rule_numbers» .entry)))) (rulesIn (now («rule_words» .entry)) (now («rule_tolerances» .entry))) (positionOf rows bodies (now (numbers .entry)) (now (words .entry)) (now (masses .entry)) (rulesIn (now («rule_words» .entry)) (now («rule_tolerances» .entry))) shift) (modeOf mode shift) limit rows record { numbers = now (numbers .entry); solution = now (solution .entry); impulses = now (impulses .entry) } record { numbers = now (numbers .exit); solution = now (solution .exit); impulses = now (impulses .exit) } (now («rule_numbers» .entry)) (now («rule_numbers» .exit)) r ⌝ }
+    ensures { λ r. ⌜ JobSolved (jobFits rows bodies mode (length (now (numbers .entry))) (length (now (words .entry))) (length (now (masses .entry))) (length (now (solution .entry))) (length (now (impulses .entry))) (length (now (centres .entry))) (length (now («new_centres» .entry))) (length (now («rule_words» .entry))) (length (now («rule_tolerances» .entry))) (length (now («rule_numbers» .entry)))) (rulesIn (now («rule_words» .entry)) (now («rule_tolerances» .entry))) (positionOf rows bodies (now (numbers .entry)) (now (words .entry)) (now (masses .entry)) (now (centres .entry)) (rulesIn (now («rule_words» .entry)) (now («rule_tolerances» .entry))) shift) (modeOf mode shift) limit rows record { numbers = now (numbers .entry); solution = now (solution .entry); impulses = now (impulses .entry); centres = now («new_centres» .entry) } record { numbers = now (numbers .exit); solution = now (solution .exit); impulses = now (impulses .exit); centres = now («new_centres» .exit) } (now («rule_numbers» .entry)) (now («rule_numbers» .exit)) r ⌝ }
 {
     if !job_fits(
         rows,
@@ -247,6 +265,8 @@ pub fn solve_small_position(
         masses.len(),
         solution.len(),
         impulses.len(),
+        centres.len(),
+        new_centres.len(),
         rule_words.len(),
         rule_tolerances.len(),
         rule_numbers.len(),
@@ -258,6 +278,7 @@ pub fn solve_small_position(
             numbers,
             words,
             masses,
+            centres,
             rows,
             bodies,
             rule_words,
@@ -267,6 +288,7 @@ pub fn solve_small_position(
             shift,
             solution,
             impulses,
+            new_centres,
             rule_numbers,
         );
     }
@@ -275,6 +297,7 @@ pub fn solve_small_position(
             numbers,
             words,
             masses,
+            centres,
             rows,
             bodies,
             rule_words,
@@ -284,6 +307,7 @@ pub fn solve_small_position(
             shift,
             solution,
             impulses,
+            new_centres,
             rule_numbers,
         );
     }
@@ -291,6 +315,7 @@ pub fn solve_small_position(
         numbers,
         words,
         masses,
+        centres,
         rows,
         bodies,
         rule_words,
@@ -300,6 +325,7 @@ pub fn solve_small_position(
         shift,
         solution,
         impulses,
+        new_centres,
         rule_numbers,
     )
 }

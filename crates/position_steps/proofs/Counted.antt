@@ -11,6 +11,7 @@ use Rattle.loops.proofs.Loop.{on-going, on-ended}
 use Rattle.loops.proofs.Tabulate.{getD-tabulate}
 use Rattle.kapitsa_joint.specs.Row.{rowOf, wordsOf}
 use Rattle.kapitsa_joint.specs.Table.{Table, tableOf, tolerancesIn}
+use Rattle.kapitsa_joint.specs.Centre.{noCentres}
 use Rattle.joint_refusals.specs.Tolerances.{Tolerances}
 use Rattle.rules.specs.Rules.{Rules, ruledBy}
 use Rattle.mass_operator.specs.System.{System, systemOf, compactSystem}
@@ -21,7 +22,7 @@ use Rattle.preconditioner.specs.Held.{jointsIn}
 use Rattle.preconditioner.specs.declared.mode.Mode.{Mode}
 use Rattle.recurrence.specs.Step.{Iterate, Carried}
 use Rattle.position.specs.Problem.{Problem}
-use Rattle.position_iteration.specs.Position.{shiftedProblem}
+use Rattle.position_iteration.specs.Position.{placedProblem}
 use Rattle.position.specs.Prepare.{rowsJudged, diagonals}
 use Rattle.position.specs.Residual.{meetsOf}
 use Rattle.position.specs.declared.prepare.Begun.{Begun}
@@ -50,9 +51,9 @@ module _ (p : Problem) (mode : Mode) (limit : ℕ) where
   following = followingOf mode (systemOf (p .table)) (ownerOf (p .table)) (diagonals (p .table)) (p .tolerance) limit
 
 -- of positions no factor stands before the count 0 test
-module _ (t : Table) (tolerances : Tolerances) (shift : Float) (mode : Mode) (limit : ℕ) where
+module _ (t : Table) (tolerances : Tolerances) (shift : Float) (placed : Bool) (mode : Mode) (limit : ℕ) where
   abbrev p : Problem
-  p = shiftedProblem t tolerances shift
+  p = placedProblem t tolerances shift placed noCentres
 
   abbrev tolerance : ℕ → Float
   tolerance = tolerances .row
@@ -84,12 +85,12 @@ pub start-roomy : (mode : Mode) (n : ℕ) (m : Memory) (diagonal : List Float) �
 start-roomy mode n m diagonal r e = record { diagonal-long = e ∙ r .diagonal-long; pattern-long = r .pattern-long; order-long = r .order-long; values-long = r .values-long }
 
 -- ---- `count_steps`
-module _ (numbers : List Float) (words : List ℕ) (masses : List Float) (rows bodies : ℕ) (rules : Rules) (limit : ℕ) (shift : Float) (mode : Mode) (a : Begun) (jacobians : List Float) (links : List ℕ) (tolerances diagonal pending residual : List Float) where
+module _ (numbers : List Float) (words : List ℕ) (masses : List Float) (rows bodies : ℕ) (rules : Rules) (limit : ℕ) (shift : Float) (placed : Bool) (mode : Mode) (a : Begun) (jacobians : List Float) (links : List ℕ) (tolerances diagonal pending residual : List Float) where
   abbrev table : Table
   table = tableOf rows bodies numbers words masses
 
   abbrev problem : Problem
-  problem = shiftedProblem table (ruledBy rules table) shift
+  problem = placedProblem table (ruledBy rules table) shift placed noCentres
 
   abbrev code : ℕ → Iterate → Run (Bool × ℕ × Iterate) ℕ
   code w = followingOf mode (compactSystem rows w jacobians links masses) (jointsIn words) diagonal (tolerancesIn tolerances) limit
@@ -111,7 +112,7 @@ module _ (numbers : List Float) (words : List ℕ) (masses : List Float) (rows b
     follows (begun.Refused k) e = on-ended _ _ _ refl ∙ sym (on-ended _ _ _ refl)
 
     answers : countedOf mode problem limit ≡ iteratedOut o limit x r
-    answers = in-turn table (ruledBy rules table) shift mode limit ∙ ap (λ (q : Run Iterate ℕ). next q (following problem mode limit)) (held .answered) ∙ follows a refl ∙ here
+    answers = in-turn table (ruledBy rules table) shift placed mode limit ∙ ap (λ (q : Run Iterate ℕ). next q (following problem mode limit)) (held .answered) ∙ follows a refl ∙ here
 
     -- where the answer is no refusal, step 0 was none
     stands : (q : Begun) → a ≡ q → (p : Bool × ℕ × Iterate) → iteratedOut o limit x r ≡ going p → Stands table masses jacobians links

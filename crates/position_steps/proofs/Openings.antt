@@ -1,7 +1,7 @@
 -- What the tests before step 0 are over the lent lists. Assumes nothing.
 use Prim.Native.Nat.{ℕ, _+_, _*_}
 use mathlib.Core.Path.{_≡_, refl, ap, _∙_}
-use mathlib.Core.Bool.{Bool, true, false}
+use mathlib.Core.Bool.{Bool, true, false, _&&_}
 use mathlib.Core.List.{List}
 use lib.Ieee.{Float}
 use borrow.Author.Tests.{eq-eqb, ne-eqb}
@@ -39,9 +39,10 @@ module _ (numbers masses : List Float) (words : List ℕ) (rows bodies : ℕ) (r
   unfolding passes4 rowOf
   words-four n en e = rw (← en) e
 
-  pub masses-six : (n : ℕ) → n ≡ bodies → r ≡ every (λ b. massFiniteOf (massOf masses b)) n → r ≡ passes6 (tableOf rows bodies numbers words masses)
+  -- with what is told of the centres
+  pub masses-six : (placed : Bool) (n : ℕ) → n ≡ bodies → r ≡ every (λ b. massFiniteOf (massOf masses b)) n → (r && placed) ≡ (passes6 (tableOf rows bodies numbers words masses) && placed)
   unfolding passes6
-  masses-six n en e = rw (← en) e
+  masses-six placed n en e = rw (← en, e)
 
 pub rows-28 : (rules : Rules) (numbers : List Float) (words : List ℕ) (masses : List Float) (rows bodies n : ℕ) (r : Bool) → n ≡ rows → r ≡ rowsRuled rules words n → r ≡ passes28 rules (tableOf rows bodies numbers words masses)
 rows-28 rules numbers words masses rows bodies n r en e = e ∙ ap (rowsRuled rules words) en ∙ lent-28 rules rows bodies numbers words masses

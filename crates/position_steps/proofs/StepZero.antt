@@ -1,7 +1,7 @@
 -- The ways to step 0: the opening or a row is refused, or the lent memory holds the table. Assumes nothing.
 use Prim.Native.Nat.{ℕ, _+_, _*_, _<_}
 use mathlib.Core.Path.{_≡_, sym, ap, _∙_, subst}
-use mathlib.Core.Bool.{true}
+use mathlib.Core.Bool.{Bool, true}
 use mathlib.Core.List.{List}
 use native.Mathlib.Omega.{arith}
 use lib.ListN.{getD, length}
@@ -15,13 +15,14 @@ use Rattle.loops.proofs.Loop.{on-going, on-ended}
 use Rattle.loops.proofs.Tabulate.{getD-tabulate}
 use Rattle.kapitsa_joint.specs.Row.{rowOf, wordsOf, jacobianOf}
 use Rattle.kapitsa_joint.specs.Table.{Table, tableOf, tolerancesIn}
+use Rattle.kapitsa_joint.specs.Centre.{noCentres}
 use Rattle.rules.specs.Rules.{Rules, ruledBy}
 use Rattle.rules.specs.Rows.{toleranceIn, rowsRuled}
 use Rattle.rules.proofs.Lent.{lent-28}
 use Rattle.compact_table.specs.Compact.{Gathered}
 use Rattle.mass_operator.specs.System.{systemOf, compactSystem}
 use Rattle.position.specs.Problem.{Problem, positionProblem}
-use Rattle.position_iteration.specs.Position.{shiftTests, shiftedProblem}
+use Rattle.position_iteration.specs.Position.{shiftTests, placedProblem}
 use Rattle.position.specs.Answers.{BegunHeld}
 use Rattle.position.specs.Prepare.{rowJudged, rowsJudged}
 use Rattle.position.specs.declared.prepare.Begun.{Begun}
@@ -33,12 +34,12 @@ use Rattle.position_steps.specs.Start.{stepZeroOf, StartHeld}
 use Rattle.position_steps.proofs.Openings.{opening-after}
 use Rattle.position_steps.proofs.Tables.{system-same, table-linked}
 
-module _ (numbers : List Float) (words : List ℕ) (masses : List Float) (rows bodies : ℕ) (rules : Rules) (limit : ℕ) (shift : Float) where
+module _ (numbers : List Float) (words : List ℕ) (masses : List Float) (rows bodies : ℕ) (rules : Rules) (limit : ℕ) (shift : Float) (placed : Bool) where
   abbrev table : Table
   table = tableOf rows bodies numbers words masses
 
   abbrev problem : Problem
-  problem = shiftedProblem table (ruledBy rules table) shift
+  problem = placedProblem table (ruledBy rules table) shift placed noCentres
 
   pub unopened : (k : ℕ) (jacobians : List Float) (links : List ℕ) (tolerances diagonal pending residual : List Float) → judge (afterThree problem limit) ≡ ended k → StartHeld problem limit masses (begun.Refused k) jacobians links tolerances diagonal pending residual
   unopened k jacobians links tolerances diagonal pending residual e = record { answered = on-ended _ _ _ {a = k} (opening-after problem limit e); started = λ q. absurd (let z : _≡_ {A = ℕ} 0 1 = cc in omega arith) }
@@ -59,7 +60,7 @@ module _ (numbers : List Float) (words : List ℕ) (masses : List Float) (rows b
 
     module _ (n : ℕ) (same : n ≡ rows) (a : Begun) (diagonal residual : List Float) (begins : BegunHeld (positionProblem (tableOf n bodies numbers words masses) (tolerancesIn tolerances)) a diagonal residual) where
       held : BegunHeld problem a diagonal residual
-      held = begun-tested (shiftTests shift) (ruledBy rules table) (positionProblem table (ruledBy rules table .row)) a diagonal residual (begun-same table (tolerancesIn tolerances) (ruledBy rules table .row) agree a diagonal residual (subst (λ (i : ℕ). BegunHeld (positionProblem (tableOf i bodies numbers words masses) (tolerancesIn tolerances)) a diagonal residual) same begins))
+      held = begun-tested (shiftTests shift) (ruledBy rules table) placed noCentres (positionProblem table (ruledBy rules table .row)) a diagonal residual (begun-same table (tolerancesIn tolerances) (ruledBy rules table .row) agree a diagonal residual (subst (λ (i : ℕ). BegunHeld (positionProblem (tableOf i bodies numbers words masses) (tolerancesIn tolerances)) a diagonal residual) same begins))
 
       pub start-refused : (k : ℕ) (jacobians : List Float) (links : List ℕ) (pending : List Float) → a ≡ begun.Refused k → StartHeld problem limit masses (begun.Refused k) jacobians links tolerances diagonal pending residual
       unfolding stepZeroOf
@@ -70,7 +71,7 @@ module _ (numbers : List Float) (words : List ℕ) (masses : List Float) (rows b
         judgement = held .judgement ∙ rw done
 
         passed : judged (rowJudged problem) rows ≡ going tt
-        passed = sym (tested-rows (shiftTests shift) (ruledBy rules table) table (ruledBy rules table .row)) ∙ judgement
+        passed = sym (tested-rows (shiftTests shift) (ruledBy rules table) placed noCentres table (ruledBy rules table .row)) ∙ judgement
 
         begun-is : stepZeroOf problem ≡ going (record { solution = pending; residual = residual })
         unfolding stepZeroOf

@@ -2,7 +2,7 @@
 ghost use Prim.Native.Nat.{_*_, _≤_};
 ghost use lib.ListN.{length};
 ghost use Rattle.rules.specs.Rows.{rulesIn};
-ghost use Rattle.position_iteration.specs.Position.{positionOf};
+ghost use Rattle.position_iteration.specs.Position.{stepsFor};
 ghost use Rattle.work_memory.specs.Work.{stepMemory, tableMemory, workMemory};
 ghost use Rattle.work_memory.specs.Lengths.{RowsRoom, WorkRoom};
 ghost use Rattle.position_steps.specs.Counting.{CountHeld, CountFree};
@@ -25,6 +25,7 @@ pub fn count_steps(
     limit: u32,
     mode: Mode,
     shift: f64,
+    placed: bool,
     jacobians: &mut [f64],
     links: &mut [u32],
     tolerances: &mut [f64],
@@ -41,7 +42,7 @@ pub fn count_steps(
     requires { ⌜ RowsRoom rows bodies (now numbers) (now words) (now masses) ⌝ }
     requires { ⌜ WorkRoom mode rows bodies (workMemory (now jacobians) (now links) (now tolerances) (now diagonal) (now residual) (now pending) (now direction) (now product) (now «body_impulses») (now pattern) (now order) (now values)) ⌝ }
     requires { ⌜ 3 * length (now «rule_tolerances») ≤ length (now «rule_words») ⌝ }
-    ensures { λ r. ⌜ CountHeld mode (positionOf rows bodies (now (numbers .entry)) (now (words .entry)) (now (masses .entry)) (rulesIn (now («rule_words» .entry)) (now («rule_tolerances» .entry))) shift) limit (now (masses .entry)) r (now (jacobians .exit)) (now (links .exit)) (now (pending .exit)) (now (residual .exit))
+    ensures { λ r. ⌜ CountHeld mode (stepsFor rows bodies (now (numbers .entry)) (now (words .entry)) (now (masses .entry)) (rulesIn (now («rule_words» .entry)) (now («rule_tolerances» .entry))) shift placed) limit (now (masses .entry)) r (now (jacobians .exit)) (now (links .exit)) (now (pending .exit)) (now (residual .exit))
         (stepMemory (now (tolerances .entry)) (now (diagonal .entry)) (now (direction .entry)) (now (product .entry)) (now (pattern .entry)) (now (order .entry)) (now (values .entry)))
         (stepMemory (now (tolerances .exit)) (now (diagonal .exit)) (now (direction .exit)) (now (product .exit)) (now (pattern .exit)) (now (order .exit)) (now (values .exit))) ⌝ }
     ensures { λ _. ⌜ CountFree (tableMemory (now (jacobians .entry)) (now (links .entry)) (now (residual .entry)) (now (pending .entry)) (now («body_impulses» .entry))) (tableMemory (now (jacobians .exit)) (now (links .exit)) (now (residual .exit)) (now (pending .exit)) (now («body_impulses» .exit))) ⌝ }
@@ -56,6 +57,7 @@ pub fn count_steps(
         rule_tolerances,
         limit,
         shift,
+        placed,
         jacobians,
         links,
         tolerances,

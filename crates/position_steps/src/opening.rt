@@ -7,7 +7,7 @@ ghost use Rattle.kapitsa_joint.specs.Row.{scalarsOf, wordsOf};
 ghost use Rattle.joint_refusals.specs.Refusals.{opensOf};
 ghost use Rattle.rules.specs.Rows.{rulesIn};
 ghost use Rattle.position_iteration.specs.Method.{passes5, afterThree};
-ghost use Rattle.position_iteration.specs.Position.{positionOf};
+ghost use Rattle.position_iteration.specs.Position.{stepsFor};
 ghost use Rattle.position_steps.specs.Opening.{openedOut};
 use joint_refusals::masses_finite;
 use joint_refusals::rows_open;
@@ -36,6 +36,7 @@ fn opens(numbers: &[f64], words: &[u32], rows: u32, limit: u32) -> bool
     rows_open(numbers, words, wide(rows))
 }
 
+// `placed` tells whether the centres are finite.
 pub fn open_table(
     numbers: &[f64],
     words: &[u32],
@@ -46,9 +47,10 @@ pub fn open_table(
     rule_tolerances: &[f64],
     limit: u32,
     shift: f64,
+    placed: bool,
 ) -> Opened
     requires { ⌜ (27 * rows ≤ length (now numbers)) × (8 * rows ≤ length (now words)) × (10 * bodies ≤ length (now masses)) × (3 * length (now «rule_tolerances») ≤ length (now «rule_words»)) ⌝ }
-    ensures { λ r. ⌜ judge (afterThree (positionOf rows bodies (now (numbers .entry)) (now (words .entry)) (now (masses .entry)) (rulesIn (now («rule_words» .entry)) (now («rule_tolerances» .entry))) shift) limit) ≡ openedOut r ⌝ }
+    ensures { λ r. ⌜ judge (afterThree (stepsFor rows bodies (now (numbers .entry)) (now (words .entry)) (now (masses .entry)) (rulesIn (now («rule_words» .entry)) (now («rule_tolerances» .entry))) shift placed) limit) ≡ openedOut r ⌝ }
 {
     if !shift_fits(shift) {
         return Opened::Refused(25);
@@ -65,7 +67,7 @@ pub fn open_table(
     if !opens(numbers, words, rows, limit) {
         return Opened::Refused(5);
     }
-    if !masses_finite(masses, wide(bodies)) {
+    if !(masses_finite(masses, wide(bodies)) & placed) {
         return Opened::Refused(6);
     }
     Opened::Done

@@ -17,62 +17,68 @@ use Rattle.position_delivery.specs.declared.answer.PositionPcgResult.{PositionP
 use Rattle.packed_list.specs.Packed.{groupOf}
 use Rattle.solve_replay.specs.Job.{headerOf, doublesOf, rowNumbers, rowWords}
 use Rattle.solve_replay.specs.Compare.{sameDoubles, keptNumbers, sameAnswers}
-use Rattle.solve_replay.specs.Seen.{flagOf, sameResult, acceptedSeen, refusedSeen, outcomeSeen, toleranceIn, solvedOf, solvedSeen, marked, tableSeen, malformedIn, jobSeen, TableRead}
+use Rattle.solve_replay.specs.Seen.{rowGroup, massGroup, centreGroup, answerGroup, impulseGroup, flagOf, sameResult, acceptedSeen, refusedSeen, outcomeSeen, toleranceIn, solvedOf, solvedSeen, marked, tableSeen, malformedIn, jobSeen, TableRead}
 use Rattle.solve_replay.specs.declared.header.Header.{Header}
 use Rattle.solve_replay.specs.declared.replay.Seen.{Seen}
 
--- ---- two groups, one after the other
-module _ (list : List ℕ) (at k j n m w v next end : ℕ) (a₀ a b₀ b : List ℕ) (ew : w ≡ n) (ev : v ≡ m) (ea : a₀ ≡ replicate (k * n) 0) (eb : b₀ ≡ replicate (j * m) 0)
-    (e : (next, a) ≡ groupOf list at k a₀ w) (f : (end, b) ≡ groupOf list next j b₀ v) where
-  pub first-group : (next, a) ≡ groupOf list at k (replicate (k * n) 0) n
-  first-group = e ∙ rw (ea, ew)
+-- ---- the groups, one straight after the other
+module _ (list : List ℕ) (k : ℕ) where
+  -- as it is unpacked into memory that is lent as zeros; w stands for n
+  pub unpacked : (at : ℕ) {n w end : ℕ} {a₀ a : List ℕ} → a₀ ≡ replicate (k * n) 0 → w ≡ n → (end, a) ≡ groupOf list at k a₀ w → (end, a) ≡ groupOf list at k (replicate (k * n) 0) n
+  unpacked at ea ew e = e ∙ rw (ea, ew)
 
-  pub second-group : (end, b) ≡ groupOf list (groupOf list at k (replicate (k * n) 0) n .0) j (replicate (j * m) 0) m
-  second-group = f ∙ rw (eb, ev, ap (λ (x : ℕ × List ℕ). x .0) first-group)
+  -- from where the one before it ends
+  following : (n : ℕ) {at from end : ℕ} {a : List ℕ} → at ≡ from → (end, a) ≡ groupOf list at k (replicate (k * n) 0) n → (end, a) ≡ groupOf list from k (replicate (k * n) 0) n
+  following n p e = e ∙ rw p
+
+abbrev end-of : {end : ℕ} {a : List ℕ} {g : ℕ × List ℕ} → (end, a) ≡ g → end ≡ g .0
+end-of = ap (λ (x : ℕ × List ℕ). x .0)
+
+abbrev words-of : {end : ℕ} {a : List ℕ} {g : ℕ × List ℕ} → (end, a) ≡ g → a ≡ g .1
+words-of = ap (λ (x : ℕ × List ℕ). x .1)
 
 -- ---- `answers_seen`
-pub accepted-shown : (list : List ℕ) (at : ℕ) (h : Header) (rows : List ℕ) (r : PositionPcgResult) (l : Lent) (w v next end : ℕ) (a₀ a b₀ b : List ℕ) (f : ℕ) (s t u k : Bool)
-    → w ≡ h .rows → v ≡ h .bodies → a₀ ≡ replicate (2 * h .rows) 0 → b₀ ≡ replicate (6 * h .bodies) 0 → (next, a) ≡ groupOf list at 2 a₀ w → (end, b) ≡ groupOf list next 6 b₀ v
-    → f ≡ flagOf (r .converged) → s ≡ sameResult h r → t ≡ sameAnswers (l .solution) (l .numbers) a → u ≡ sameDoubles (l .impulses) b → k ≡ keptNumbers true (l .numbers) rows
-    → record { outcome = 1 + f; same = (((s && t) && u) && k) && leb end (length list); end = end } ≡ acceptedSeen list at h rows r l
+pub accepted-shown : (list : List ℕ) (at : ℕ) (h : Header) (rows : List ℕ) (r : PositionPcgResult) (l : Lent) {bodiesAt centresAt end : ℕ} {a b c : List ℕ} {f : ℕ} {s t u v k : Bool}
+    → (bodiesAt, a) ≡ answerGroup list at (h .rows) → (centresAt, b) ≡ impulseGroup list bodiesAt (h .bodies) → (end, c) ≡ centreGroup list centresAt (h .bodies)
+    → f ≡ flagOf (r .converged) → s ≡ sameResult h r → t ≡ sameAnswers (l .solution) (l .numbers) a → u ≡ sameDoubles (l .impulses) b → v ≡ sameDoubles (l .centres) c → k ≡ keptNumbers true (l .numbers) rows
+    → record { outcome = 1 + f; same = ((((s && t) && u) && v) && k) && leb end (length list); end = end } ≡ acceptedSeen list at h rows r l
 unfolding acceptedSeen
-accepted-shown list at h rows r l w v next end a₀ a b₀ b f s t u k ew ev ea eb e g ef es et eu ek =
-    let p = first-group list at 2 6 (h .rows) (h .bodies) w v next end a₀ a b₀ b ew ev ea eb e g in
-    let q = second-group list at 2 6 (h .rows) (h .bodies) w v next end a₀ a b₀ b ew ev ea eb e g in
-    rw (ef, es, et, eu, ek, ap (λ (x : ℕ × List ℕ). x .1) p, ap (λ (x : ℕ × List ℕ). x .1) q, ap (λ (x : ℕ × List ℕ). x .0) q)
+accepted-shown list at h rows r l e f g ef es et eu ev ek =
+    let p = following list 6 (h .bodies) (end-of e) f in
+    let q = following list 3 (h .bodies) (end-of p) g in
+    rw (ef, es, et, eu, ev, ek, words-of e, words-of p, words-of q, end-of q)
 
 -- ---- `solved_seen`
-module _ (list : List ℕ) (at : ℕ) (h : Header) (rows : List ℕ) (numbers : List Float) (words : List ℕ) (masses solution impulses : List Float) (tolerance : JointTolerance) (named : ℕ) (answer : PositionPcg) (after : Lent) (r : Seen)
-    (t : tolerance ≡ toleranceIn h) (l : named ≡ h .rows) (e : solvedOf h (twoRules tolerance) named numbers words masses solution impulses ≡ record { answer = answer; lent = after }) where
-  shown : outcomeSeen list at h rows answer after ≡ solvedSeen list at h rows numbers words masses solution impulses
+module _ (list : List ℕ) (at : ℕ) (h : Header) (rows words : List ℕ) (masses centres : List Float) (before : Lent) (tolerance : JointTolerance) (named : ℕ) (answer : PositionPcg) (after : Lent) (r : Seen)
+    (t : tolerance ≡ toleranceIn h) (l : named ≡ h .rows) (e : solvedOf h (twoRules tolerance) named words masses centres before ≡ record { answer = answer; lent = after }) where
+  shown : outcomeSeen list at h rows answer after ≡ solvedSeen list at h rows words masses centres before
   unfolding solvedSeen
-  shown = ap (λ (o : Outcome). outcomeSeen list at h rows (o .answer) (o .lent)) (sym e ∙ ap (λ (k : ℕ). solvedOf h (twoRules tolerance) k numbers words masses solution impulses) l ∙ ap (λ (x : JointTolerance). solvedOf h (twoRules x) (h .rows) numbers words masses solution impulses) t)
+  shown = ap (λ (o : Outcome). outcomeSeen list at h rows (o .answer) (o .lent)) (sym e ∙ ap (λ (k : ℕ). solvedOf h (twoRules tolerance) k words masses centres before) l ∙ ap (λ (x : JointTolerance). solvedOf h (twoRules x) (h .rows) words masses centres before) t)
 
-  pub solved-accepted : (result : PositionPcgResult) → answer ≡ answers.Accepted result → r ≡ acceptedSeen list at h rows result after → r ≡ solvedSeen list at h rows numbers words masses solution impulses
+  pub solved-accepted : (result : PositionPcgResult) → answer ≡ answers.Accepted result → r ≡ acceptedSeen list at h rows result after → r ≡ solvedSeen list at h rows words masses centres before
   unfolding outcomeSeen
   solved-accepted result a q = q ∙ ap (λ (x : PositionPcg). outcomeSeen list at h rows x after) (sym a) ∙ shown
 
-  pub solved-refused : (number : ℕ) → answer ≡ answers.Refused number → r ≡ refusedSeen list at h rows number after → r ≡ solvedSeen list at h rows numbers words masses solution impulses
+  pub solved-refused : (number : ℕ) → answer ≡ answers.Refused number → r ≡ refusedSeen list at h rows number after → r ≡ solvedSeen list at h rows words masses centres before
   unfolding outcomeSeen
   solved-refused number a q = q ∙ ap (λ (x : PositionPcg). outcomeSeen list at h rows x after) (sym a) ∙ shown
 
 -- ---- `read_table`
-pub table-read : (list : List ℕ) (at n b w v next end : ℕ) (rows₀ rows masses₀ massWords : List ℕ) (x : ℕ) (numbers : List Float) (y : ℕ) (words : List ℕ) (z : ℕ) (m : List Float)
-    → w ≡ n → v ≡ b → rows₀ ≡ replicate (35 * n) 0 → masses₀ ≡ replicate (10 * b) 0 → (next, rows) ≡ groupOf list at 35 rows₀ w → (end, massWords) ≡ groupOf list next 10 masses₀ v
-    → numbers ≡ rowNumbers rows x → x ≡ 27 * n → words ≡ rowWords rows y → y ≡ 8 * n → m ≡ doublesOf massWords z → z ≡ 10 * b → end < 3000000000
-    → TableRead list at n b end rows numbers words m
-table-read list at n b w v next end rows₀ rows masses₀ massWords x numbers y words z m ew ev er em e f en ln eo lo ed ld near =
-    let p = first-group list at 35 10 n b w v next end rows₀ rows masses₀ massWords ew ev er em e f in
-    let q = second-group list at 35 10 n b w v next end rows₀ rows masses₀ massWords ew ev er em e f in
-    let rowed = ap (λ (g : ℕ × List ℕ). g .1) p in
-    record { ended = ap (λ (g : ℕ × List ℕ). g .0) q; rowed = rowed; numbered = en ∙ rw (rowed, ln); worded = eo ∙ rw (rowed, lo); massed = ed ∙ rw (ap (λ (g : ℕ × List ℕ). g .1) q, ld); near = near }
+pub table-read : {list : List ℕ} {at n b massesAt centresAt end : ℕ} {rows massWords centreWords : List ℕ} {i : ℕ} {numbers : List Float} {j : ℕ} {words : List ℕ} {k : ℕ} {masses : List Float} {l : ℕ} {centres : List Float}
+    → (massesAt, rows) ≡ rowGroup list at n → (centresAt, massWords) ≡ massGroup list massesAt b → (end, centreWords) ≡ centreGroup list centresAt b
+    → numbers ≡ rowNumbers rows i → i ≡ 27 * n → words ≡ rowWords rows j → j ≡ 8 * n → masses ≡ doublesOf massWords k → k ≡ 10 * b → centres ≡ doublesOf centreWords l → l ≡ 3 * b → end < 3000000000
+    → TableRead list at n b end rows numbers words masses centres
+table-read {list} {b = b} e f g en ln ew lw em lm ec lc near =
+    let p = following list 10 b (end-of e) f in
+    let q = following list 3 b (end-of p) g in
+    record { ended = end-of q; rowed = words-of e; numbered = en ∙ rw (words-of e, ln); worded = ew ∙ rw (words-of e, lw); massed = em ∙ rw (words-of p, lm); centred = ec ∙ rw (words-of q, lc); near = near }
 
 -- ---- `table_seen`
-pub table-shown : (list : List ℕ) (at : ℕ) (h : Header) (end : ℕ) (rows : List ℕ) (numbers : List Float) (words : List ℕ) (masses solution impulses : List Float) (r : Seen)
-    → TableRead list at (h .rows) (h .bodies) end rows numbers words masses → solution ≡ replicate (h .rows) marked → impulses ≡ replicate (6 * h .bodies) marked
-    → r ≡ solvedSeen list end h rows numbers words masses solution impulses → r ≡ tableSeen list at h
+pub table-shown : (h : Header) {list : List ℕ} {at end : ℕ} {rows : List ℕ} {numbers : List Float} {words : List ℕ} {masses centres solution impulses newCentres : List Float} {r : Seen}
+    → TableRead list at (h .rows) (h .bodies) end rows numbers words masses centres → solution ≡ replicate (h .rows) marked → impulses ≡ replicate (6 * h .bodies) marked → newCentres ≡ replicate (3 * h .bodies) marked
+    → r ≡ solvedSeen list end h rows words masses centres (record { numbers = numbers; solution = solution; impulses = impulses; centres = newCentres }) → r ≡ tableSeen list at h
 unfolding tableSeen
-table-shown list at h end rows numbers words masses solution impulses r t es ei e = e ∙ rw (t .numbered, t .worded, t .massed, t .ended, t .rowed, es, ei)
+table-shown h t es ei ec e = e ∙ rw (t .numbered, t .worded, t .massed, t .centred, t .ended, t .rowed, es, ei, ec)
 
 -- ---- `job_seen`
 and-both : (a b : Bool) → (a && b) ≡ true → (a ≡ true) × (b ≡ true)

@@ -31,6 +31,10 @@ rowGroup list at n = groupOf list at 35 (replicate (35 * n) 0) n
 abbrev pub massGroup : List ℕ → ℕ → ℕ → ℕ × List ℕ
 massGroup list at b = groupOf list at 10 (replicate (10 * b) 0) b
 
+-- the centres as they come in, and the new ones of an accepted answer
+abbrev pub centreGroup : List ℕ → ℕ → ℕ → ℕ × List ℕ
+centreGroup list at b = groupOf list at 3 (replicate (3 * b) 0) b
+
 abbrev pub answerGroup : List ℕ → ℕ → ℕ → ℕ × List ℕ
 answerGroup list at n = groupOf list at 2 (replicate (2 * n) 0) n
 
@@ -44,21 +48,22 @@ flagOf b = cond b 1 0
 unfoldable pub sameResult : Header → PositionPcgResult → Bool
 sameResult h r = (((eqb (h .refusal) 0 && eqb (h .flag) (flagOf (r .converged))) && eqb (h .count) (r .iterations)) && eqb (h .«linear_maximum») (toBits binary64 (r .«linear_residual_m»))) && eqb (h .«angular_maximum») (toBits binary64 (r .«angular_residual_rad»))
 
--- `rows` are the words of the rows; the recorded solution, multipliers and impulses begin at `at`
+-- `rows` are the words of the rows; the recorded solution, multipliers, impulses and new centres begin at `at`
 unfoldable pub acceptedSeen : List ℕ → ℕ → Header → List ℕ → PositionPcgResult → Lent → Seen
 acceptedSeen list at h rows r l =
     let a = answerGroup list at (h .rows) in
     let b = impulseGroup list (a .0) (h .bodies) in
+    let c = centreGroup list (b .0) (h .bodies) in
     record {
       outcome = 1 + flagOf (r .converged);
-      same = (((sameResult h r && sameAnswers (l .solution) (l .numbers) (a .1)) && sameDoubles (l .impulses) (b .1)) && keptNumbers true (l .numbers) rows) && leb (b .0) (length list);
-      end = b .0;
+      same = ((((sameResult h r && sameAnswers (l .solution) (l .numbers) (a .1)) && sameDoubles (l .impulses) (b .1)) && sameDoubles (l .centres) (c .1)) && keptNumbers true (l .numbers) rows) && leb (c .0) (length list);
+      end = c .0;
     }
 
 -- "After a refusal nothing is written"
 unfoldable pub refusedSeen : List ℕ → ℕ → Header → List ℕ → ℕ → Lent → Seen
 refusedSeen list at h rows number l =
-    record { outcome = 0; same = (((eqb (h .refusal) number && keptNumbers false (l .numbers) rows) && unwrittenOf (l .solution)) && unwrittenOf (l .impulses)) && leb at (length list); end = at }
+    record { outcome = 0; same = ((((eqb (h .refusal) number && keptNumbers false (l .numbers) rows) && unwrittenOf (l .solution)) && unwrittenOf (l .impulses)) && unwrittenOf (l .centres)) && leb at (length list); end = at }
 
 unfoldable pub outcomeSeen : List ℕ → ℕ → Header → List ℕ → PositionPcg → Lent → Seen
 outcomeSeen list at h rows (answers.Accepted r) l = acceptedSeen list at h rows r l
@@ -69,13 +74,14 @@ abbrev pub toleranceIn : Header → JointTolerance
 toleranceIn h = record { «linear_m» = ofBits binary64 (h .«linear_tolerance»); «angular_rad» = ofBits binary64 (h .«angular_tolerance») }
 
 -- the definition's outcome; `named` are the numbers lent for the rows' rules
-unfoldable pub solvedOf : Header → Rules → ℕ → List Float → List ℕ → List Float → List Float → List Float → Outcome
-solvedOf h rules named numbers words masses solution impulses =
-    outcomeOf (h .rows) (record { numbers = numbers; solution = solution; impulses = impulses })
-    (solve (methodOf (jobFits (h .rows) (h .bodies) (h .mode) (length numbers) (length words) (length masses) (length solution) (length impulses) (length (rules .words)) (length (rules .tolerances)) named) (positionOf (h .rows) (h .bodies) numbers words masses rules plusZero) (modeOf (h .mode) plusZero)) (h .limit))
+unfoldable pub solvedOf : Header → Rules → ℕ → List ℕ → List Float → List Float → Lent → Outcome
+solvedOf h rules named words masses centres l =
+    outcomeOf (h .rows) l
+    (solve (methodOf (jobFits (h .rows) (h .bodies) (h .mode) (length (l .numbers)) (length words) (length masses) (length (l .solution)) (length (l .impulses)) (length centres) (length (l .centres)) (length (rules .words)) (length (rules .tolerances)) named) (positionOf (h .rows) (h .bodies) (l .numbers) words masses centres rules plusZero) (modeOf (h .mode) plusZero)) (h .limit))
 
-unfoldable pub solvedSeen : List ℕ → ℕ → Header → List ℕ → List Float → List ℕ → List Float → List Float → List Float → Seen
-solvedSeen list at h rows numbers words masses solution impulses = let o = solvedOf h (twoRules (toleranceIn h)) (h .rows) numbers words masses solution impulses in outcomeSeen list at h rows (o .answer) (o .lent)
+-- `l` is what the solve writes into
+unfoldable pub solvedSeen : List ℕ → ℕ → Header → List ℕ → List ℕ → List Float → List Float → Lent → Seen
+solvedSeen list at h rows words masses centres l = let o = solvedOf h (twoRules (toleranceIn h)) (h .rows) words masses centres l in outcomeSeen list at h rows (o .answer) (o .lent)
 
 -- what takes the answer is lent as 0.5 throughout
 abbrev pub marked : Float
@@ -86,7 +92,9 @@ unfoldable pub tableSeen : List ℕ → ℕ → Header → Seen
 tableSeen list at h =
     let r = rowGroup list at (h .rows) in
     let m = massGroup list (r .0) (h .bodies) in
-    solvedSeen list (m .0) h (r .1) (rowNumbers (r .1) (27 * h .rows)) (rowWords (r .1) (8 * h .rows)) (doublesOf (m .1) (10 * h .bodies)) (replicate (h .rows) marked) (replicate (6 * h .bodies) marked)
+    let c = centreGroup list (m .0) (h .bodies) in
+    solvedSeen list (c .0) h (r .1) (rowWords (r .1) (8 * h .rows)) (doublesOf (m .1) (10 * h .bodies)) (doublesOf (c .1) (3 * h .bodies))
+    (record { numbers = rowNumbers (r .1) (27 * h .rows); solution = replicate (h .rows) marked; impulses = replicate (6 * h .bodies) marked; centres = replicate (3 * h .bodies) marked })
 
 -- no such job is recorded; the rest of the list is taken for it
 abbrev pub malformedIn : List ℕ → Seen
@@ -96,10 +104,11 @@ unfoldable pub jobSeen : List ℕ → ℕ → Seen
 jobSeen list at = let h = headerOf list at in cond (leb (h .rows) 513 && leb (h .bodies) 257) (tableSeen list (at + 64) h) (malformedIn list)
 
 -- ---- the table, as it is read
-pub record TableRead (list : List ℕ) (at n b end : ℕ) (rows : List ℕ) (numbers : List Float) (words : List ℕ) (masses : List Float) : Type 0 where
-  pub ended : end ≡ massGroup list (rowGroup list at n .0) b .0
+pub record TableRead (list : List ℕ) (at n b end : ℕ) (rows : List ℕ) (numbers : List Float) (words : List ℕ) (masses centres : List Float) : Type 0 where
+  pub ended : end ≡ centreGroup list (massGroup list (rowGroup list at n .0) b .0) b .0
   pub rowed : rows ≡ rowGroup list at n .1
   pub numbered : numbers ≡ rowNumbers (rowGroup list at n .1) (27 * n)
   pub worded : words ≡ rowWords (rowGroup list at n .1) (8 * n)
   pub massed : masses ≡ doublesOf (massGroup list (rowGroup list at n .0) b .1) (10 * b)
+  pub centred : centres ≡ doublesOf (centreGroup list (massGroup list (rowGroup list at n .0) b .0) b .1) (3 * b)
   pub near : end < 3000000000

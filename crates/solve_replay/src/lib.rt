@@ -3,7 +3,7 @@ pub mod compare; // compare.rt: the answer beside the recorded one
 pub mod header; // header.rt: the first 64 bytes of a job
 pub mod replay; // replay.rt: a job
 pub mod room; // room.rt: memory for the largest job
-pub mod table; // table.rt: its rows and masses
+pub mod table; // table.rt: its rows, masses and centres
 
 pub use replay::Seen;
 pub use replay::job_seen;

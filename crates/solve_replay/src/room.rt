@@ -38,6 +38,20 @@ pub fn mass_room() -> [f64; 2570]
     [0.0; 2570]
 }
 
+// three words for each centre,
+pub fn centre_word_room() -> [u64; 771]
+    ensures { λ r. ⌜ r ≡ replicate 771 0 ⌝ }
+{
+    [0; 771]
+}
+
+// numbers too;
+pub fn centre_room() -> [f64; 771]
+    ensures { λ r. ⌜ 771 ≡ length r ⌝ }
+{
+    [0.0; 771]
+}
+
 // solution and multiplier of each row,
 pub fn answer_room() -> [u64; 1026]
     ensures { λ r. ⌜ r ≡ replicate 1026 0 ⌝ }
@@ -63,4 +77,10 @@ pub fn impulse_room() -> [f64; 1542]
     ensures { λ r. ⌜ r ≡ replicate 1542 marked ⌝ }
 {
     [0.5; 1542]
+}
+
+pub fn new_centre_room() -> [f64; 771]
+    ensures { λ r. ⌜ r ≡ replicate 771 marked ⌝ }
+{
+    [0.5; 771]
 }

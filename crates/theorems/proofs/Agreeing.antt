@@ -3,6 +3,7 @@ use Prim.Native.Nat.{ℕ, _<_}
 use mathlib.Core.Path.{_≡_, refl, sym, _∙_}
 use mathlib.Core.Bool.{Bool, true}
 use lib.Ieee.{Float}
+use Rattle.kapitsa_math.specs.declared.vector.Vec3.{Vec3}
 use Rattle.kapitsa_joint.specs.Table.{Table, byDimension}
 use Rattle.kapitsa_joint.specs.declared.tolerance.JointTolerance.{JointTolerance}
 use Rattle.joint_refusals.specs.Refusals.{passes4}
@@ -28,10 +29,10 @@ module _ (t : Table) (rules : Rules) (tolerance : JointTolerance) (four : passes
   tests-same : ruledBy (twoRules tolerance) t .tests ≡ ruledBy rules t .tests
   tests-same = rw (fit, ruled, two-fit tolerance, sound, two-ruled tolerance t four)
 
-  pub solved-alike : (fits : Bool) (shift : Float) (mode : Mode) (limit : ℕ) → solve (methodOf fits (shiftedProblem t (ruledBy (twoRules tolerance) t) shift) mode) limit ≡ solve (methodOf fits (shiftedProblem t (ruledBy rules t) shift) mode) limit
-  solved-alike = looks-below t t (record { rows = refl; bodies = refl; row = λ i h. refl; mass = λ b h. refl }) .solves (ruledBy rules t) (ruledBy (twoRules tolerance) t) tests-same by-two
+  pub solved-alike : (centre : ℕ → Vec3) (fits : Bool) (shift : Float) (mode : Mode) (limit : ℕ) → solve (methodOf fits (shiftedProblem t (ruledBy (twoRules tolerance) t) shift centre) mode) limit ≡ solve (methodOf fits (shiftedProblem t (ruledBy rules t) shift centre) mode) limit
+  solved-alike centre = looks-below t t (record { rows = refl; bodies = refl; row = λ i h. refl; mass = λ b h. refl }) .solves (ruledBy rules t) (ruledBy (twoRules tolerance) t) tests-same by-two centre centre (λ b h. refl)
 
-  pub checked-alike : (fits : Bool) (listed : ℕ → Float) → checkOf fits (closingOf t listed (twoRules tolerance)) ≡ checkOf fits (closingOf t listed rules)
-  checked-alike fits listed =
-      check-below (closingOf t listed rules) (closingOf t listed (twoRules tolerance))
-      (record { table = record { rows = refl; bodies = refl; row = λ i h. record { fit = refl; valid = refl; jacobian = refl; dimension = refl }; mass = λ b h. refl }; error = λ i h. refl; listed = λ i h. refl; tolerance = by-two; toleranceTests = tests-same }) fits
+  pub checked-alike : (fits : Bool) (listed : ℕ → Float) (placed : Bool) → checkOf fits (closingOf t listed (twoRules tolerance) placed) ≡ checkOf fits (closingOf t listed rules placed)
+  checked-alike fits listed placed =
+      check-below (closingOf t listed rules placed) (closingOf t listed (twoRules tolerance) placed)
+      (record { table = record { rows = refl; bodies = refl; row = λ i h. record { fit = refl; valid = refl; jacobian = refl; dimension = refl }; mass = λ b h. refl }; error = λ i h. refl; listed = λ i h. refl; tolerance = by-two; toleranceTests = tests-same; placed = refl }) fits

@@ -1,8 +1,9 @@
--- P1 to P9, sentences of document 01, that a solve and a check look only below the counts, and what a shift of 0 leaves as it was.
+-- P1 to P9, sentences of documents 01 and 02, that a solve and a check look only below the counts, and what a shift of 0 leaves as it was.
 pub mod Sheets
 pub mod Sentences
 pub mod Systems
 pub mod Tables
+pub mod Centres
 pub mod Solves
 pub mod Checks
 pub mod Below

@@ -23,9 +23,11 @@ use Rattle.kapitsa_joint.specs.declared.tolerance.RowDimension.{RowDimension}
 use Rattle.joint_refusals.specs.Refusals.{isValidOf}
 use Rattle.mass_operator.specs.System.{systemOf}
 use Rattle.mass_operator.specs.Flat.{coefficients}
+use Rattle.mass_operator.proofs.Same.{impulse-same}
 use Rattle.preconditioner.specs.Apply.{preconditioned}
 use Rattle.preconditioner.specs.declared.mode.Mode.{Mode}
 use Rattle.recurrence.specs.Step.{Iterate, advanceOf}
+use Rattle.position.specs.Centres.{movedBy}
 use Rattle.position.specs.Problem.{Problem}
 use Rattle.position.specs.Prepare.{rowDiagonal, diagonalTests, rowJudged, validJudged, diagonalsJudged, rowsJudged, preparedDiagonal, preparedResidual, diagonals, residuals}
 use Rattle.kapitsa_joint.proofs.Largest.{maxima-same}
@@ -33,10 +35,11 @@ use Rattle.position.specs.Residual.{meetsOf, maximaOf}
 use Rattle.steps.specs.Alike.{Alike}
 use Rattle.steps.specs.Solve.{solve}
 use Rattle.steps.proofs.Alike.{solve-same}
-use Rattle.position_iteration.specs.Method.{ownerOf, passes5, openingOf, factorHere, beginOf, firstOf, gainsOf, maximaIn, finishOf, methodOf}
+use Rattle.position_iteration.specs.Method.{ownerOf, passes5, openingOf, factorHere, beginOf, firstOf, gainsOf, maximaIn, impulseBy, finishOf, methodOf}
 use Rattle.position_iteration.proofs.Alike.{advance-long}
-use Rattle.theorems.specs.Below.{ProblemsAgree}
+use Rattle.theorems.specs.Below.{CentresAlike, ProblemsAgree}
 use Rattle.theorems.proofs.Tables.{BodiesBelow, tableWith, fours, sixes, systems-agree, valid-below, valid-same}
+use Rattle.theorems.proofs.Centres.{finite-same, flat-same, moved-alike}
 use Rattle.theorems.proofs.Systems.{SystemsAgree, product-same, impulses-same, factor-same, preconditioned-same}
 
 -- of tests that all pass, the first does
@@ -80,9 +83,11 @@ with p q = record {
   options = p .options;
   toleranceTests = p .toleranceTests;
   opens = q .opens;
+  placed = p .placed;
   lent = p .lent;
   validFirst = p .validFirst;
   factorFirst = p .factorFirst;
+  centres = record { bodies = p .centres .bodies; at = q .centres .at };
 }
 
 module _ (mode : Mode) (p q : Problem) (w : ProblemsAgree mode p q) where
@@ -171,11 +176,21 @@ module _ (mode : Mode) (p q : Problem) (w : ProblemsAgree mode p q) where
       let (_, _, d) = next-going (factorHere (p .factorFirst) mode (systemOf (p .table)) (ownerOf (p .table)) (diagonals (p .table))) _ v .0 b in
       (a, ap (λ (x : Iterate). length (x .residual)) (sym (going-inj d)) ∙ length-tabulate _ (p .table .rows))
 
-  finish-same : rowsJudged p ≡ going tt → (k : ℕ) (v : Iterate) → finishOf (with p q .table) (q .accumulated) k v ≡ finishOf (p .table) (p .accumulated) k v
+  centres-same : CentresAlike (p .centres) (with p q .centres)
+  centres-same = record { bodies = refl; at = w .centres .at }
+
+  moved-same : (v : Iterate) → CentresAlike (movedBy (p .table .mass) (impulseBy (p .table) v) (p .centres)) (movedBy (q .table .mass) (impulseBy (with p q .table) v) (with p q .centres))
+  moved-same v =
+      moved-alike (p .centres) (with p q .centres) centres-same (p .table .mass) (q .table .mass) (impulseBy (p .table) v) (impulseBy (with p q .table) v) (λ b h. w .table .mass b (omega (arith, w .within)))
+      (λ b h. impulse-same (λ i. jacobianOf (q .table .row i)) (λ i. jacobianOf (p .table .row i)) (coefficients (v .solution)) (coefficients (v .solution)) b (p .table .rows) (λ i k. w .table .row i k .jacobian) (λ i k. refl))
+
+  finish-same : rowsJudged p ≡ going tt → (k : ℕ) (v : Iterate) → finishOf (with p q .table) (q .accumulated) (with p q .centres) k v ≡ finishOf (p .table) (p .accumulated) (p .centres) k v
   unfolding finishOf
-  finish-same passed zero v = rw (kept-same, maxima-in-same v)
+  finish-same passed zero v = rw (kept-same, flat-same (p .centres) (with p q .centres) centres-same, maxima-in-same v)
   finish-same passed (suc k) v =
-      rw (impulses-same (systemOf (p .table)) (λ i. jacobianOf (q .table .row i)) (q .table .mass) (agree passed) (coefficients (v .solution)), gains-same (v .solution), maxima-in-same v)
+      let moved = movedBy (p .table .mass) (impulseBy (p .table) v) (p .centres) in
+      let other = movedBy (q .table .mass) (impulseBy (with p q .table) v) (with p q .centres) in
+      rw (impulses-same (systemOf (p .table)) (λ i. jacobianOf (q .table .row i)) (q .table .mass) (agree passed) (coefficients (v .solution)), gains-same (v .solution), finite-same moved other (moved-same v), flat-same moved other (moved-same v), maxima-in-same v)
 
   alike : (fits : Bool) → rowsJudged p ≡ going tt → Alike (methodOf fits p mode) (methodOf fits (with p q) mode) (λ v. length (v .residual) ≡ p .table .rows) (λ d. d)
   unfolding firstOf advanceOf on
@@ -188,7 +203,7 @@ module _ (mode : Mode) (p q : Problem) (w : ProblemsAgree mode p q) where
         advance = λ v c l. rw (product-same s (λ i. jacobianOf (q .table .row i)) (q .table .mass) (agree passed) (coefficients (c .direction)));
         meets = λ v l. meets-same (v .residual);
         renew = λ v c l. rw (diagonals-same passed, z-same passed (v .residual) l);
-        finish = λ k v l. finish-same passed k v ∙ sym (delivered (finishOf (p .table) (p .accumulated) k v));
+        finish = λ k v l. finish-same passed k v ∙ sym (delivered (finishOf (p .table) (p .accumulated) (p .centres) k v));
       }
     where
       delivered : {F : Type 0} (r : Run F ℕ) → next r (λ d. going d) ≡ r
@@ -210,9 +225,11 @@ module _ (mode : Mode) (p q : Problem) (w : ProblemsAgree mode p q) where
     options = w .options i;
     toleranceTests = w .toleranceTests i;
     opens = q .opens;
+    placed = w .placed i;
     lent = w .lent i;
     validFirst = w .validFirst i;
     factorFirst = w .factorFirst i;
+    centres = record { bodies = w .centres .bodies i; at = q .centres .at };
   }
 
   -- of every kind of problem

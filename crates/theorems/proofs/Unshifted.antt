@@ -16,7 +16,9 @@ use Rattle.loops.specs.Tabulate.{tabulate}
 use Rattle.loops.proofs.Tabulate.{length-tabulate, tabulate-same, getD-tabulate}
 use Rattle.binary64.specs.SquareRoot.{unsigned}
 use Rattle.binary64.specs.Order.{minPositive}
+use Rattle.kapitsa_math.specs.declared.vector.Vec3.{Vec3}
 use Rattle.kapitsa_joint.specs.Table.{Table}
+use Rattle.joint_refusals.specs.Refusals.{centresFinite}
 use Rattle.joint_refusals.specs.Tolerances.{Tolerances}
 use Rattle.mass_operator.specs.System.{System}
 use Rattle.incomplete_cholesky.specs.Build.{choleskyRun}
@@ -29,6 +31,7 @@ use Rattle.steps.specs.Solve.{solve}
 use Rattle.position_iteration.specs.Method.{methodOf}
 use Rattle.position_iteration.specs.Position.{shiftedProblem}
 use Rattle.rounding.proofs.TimesOne.{times-one, one-more}
+use Rattle.theorems.proofs.Centres.{centresOf}
 
 -- ---- d × (1 + 0) is d
 one-fits : T (fits binary64 one)
@@ -90,8 +93,8 @@ no-heed zero a b h = refl
 no-heed (suc zero) a b h = absurd (h refl)
 no-heed (suc (suc n)) a b h = refl
 
-pub shift-unheeded : (fits : Bool) (t : Table) (tolerances : Tolerances) (word limit : ℕ) (a b : Float) → (word ≡ 1 → ⊥) → passes25 a ≡ true → passes25 b ≡ true
-    → solve (methodOf fits (shiftedProblem t tolerances a) (modeOf word a)) limit ≡ solve (methodOf fits (shiftedProblem t tolerances b) (modeOf word b)) limit
-shift-unheeded fits t tolerances word limit a b h ea eb =
-    ap (λ (m : Mode). solve (methodOf fits (shiftedProblem t tolerances a) m) limit) (no-heed word a b h)
-    ∙ ap (λ (x : Bool). solve (methodOf fits (withTests ((25, x) ∷ []) tolerances (positionProblem t (tolerances .row))) (modeOf word b)) limit) (ea ∙ sym eb)
+pub shift-unheeded : (fits : Bool) (t : Table) (tolerances : Tolerances) (centre : ℕ → Vec3) (word limit : ℕ) (a b : Float) → (word ≡ 1 → ⊥) → passes25 a ≡ true → passes25 b ≡ true
+    → solve (methodOf fits (shiftedProblem t tolerances a centre) (modeOf word a)) limit ≡ solve (methodOf fits (shiftedProblem t tolerances b centre) (modeOf word b)) limit
+shift-unheeded fits t tolerances centre word limit a b h ea eb =
+    ap (λ (m : Mode). solve (methodOf fits (shiftedProblem t tolerances a centre) m) limit) (no-heed word a b h)
+    ∙ ap (λ (x : Bool). solve (methodOf fits (withTests ((25, x) ∷ []) tolerances (centresFinite (centresOf t centre)) (centresOf t centre) (positionProblem t (tolerances .row))) (modeOf word b)) limit) (ea ∙ sym eb)

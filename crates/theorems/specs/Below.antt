@@ -1,10 +1,12 @@
 -- What a solve and a check read: nothing beyond the counts, and of a row not every number.
-use Prim.Native.Nat.{ℕ, _<_}
+use Prim.Native.Nat.{ℕ, _<_, _≤_}
 use mathlib.Core.Bool.{Bool}
 use mathlib.Core.Path.{_≡_}
 use lib.Ieee.{Float}
+use Rattle.kapitsa_math.specs.declared.vector.Vec3.{Vec3}
 use Rattle.kapitsa_joint.specs.Row.{jacobianOf}
 use Rattle.kapitsa_joint.specs.Table.{Table}
+use Rattle.kapitsa_joint.specs.Centre.{Centres}
 use Rattle.kapitsa_joint.specs.declared.row.ConstraintRow.{ConstraintRow}
 use Rattle.joint_refusals.specs.Tolerances.{Tolerances}
 use Rattle.rules.specs.Rules.{Rules}
@@ -32,7 +34,12 @@ pub record TablesAlike (t u : Table) : Type 0 where
   pub row : (i : ℕ) → i < t .rows → RowsAlike (t .bodies) (t .row i) (u .row i)
   pub mass : (b : ℕ) → b < t .bodies → u .mass b ≡ t .mass b
 
--- and two problems of one kind, that agree in all else that a row has; mode 2 reads the owners
+-- centres of as many bodies, that agree on these
+pub record CentresAlike (c d : Centres) : Type 0 where
+  pub bodies : d .bodies ≡ c .bodies
+  pub at : (b : ℕ) → b < c .bodies → d .at b ≡ c .at b
+
+-- and two problems of one kind, that agree in all else that a row or a body has; mode 2 reads the owners
 pub record ProblemsAgree (mode : Mode) (p q : Problem) : Type 0 where
   pub table : TablesAlike (p .table) (q .table)
   pub owner : mode ≡ modes.BlockJacobi → (i : ℕ) → i < p .table .rows → ownerOf (q .table) i ≡ ownerOf (p .table) i
@@ -42,9 +49,12 @@ pub record ProblemsAgree (mode : Mode) (p q : Problem) : Type 0 where
   pub options : q .options ≡ p .options
   pub toleranceTests : q .toleranceTests ≡ p .toleranceTests
   pub opens : (i : ℕ) → i < p .table .rows → q .opens i ≡ p .opens i
+  pub placed : q .placed ≡ p .placed
   pub lent : q .lent ≡ p .lent
   pub validFirst : q .validFirst ≡ p .validFirst
   pub factorFirst : q .factorFirst ≡ p .factorFirst
+  pub centres : CentresAlike (p .centres) (q .centres)
+  pub within : p .centres .bodies ≤ p .table .bodies
 
 -- and what two checks are given
 pub record ClosingsAgree (c d : Closing) : Type 0 where
@@ -53,6 +63,7 @@ pub record ClosingsAgree (c d : Closing) : Type 0 where
   pub listed : (i : ℕ) → i < c .table .rows → d .listed i ≡ c .listed i
   pub tolerance : (i : ℕ) → i < c .table .rows → d .tolerance i ≡ c .tolerance i
   pub toleranceTests : d .toleranceTests ≡ c .toleranceTests
+  pub placed : d .placed ≡ c .placed
 
 -- ---- nothing beyond the counts: two tables with the same counts, that agree below them
 pub record AgreeBelow (t u : Table) : Type 0 where
@@ -61,11 +72,11 @@ pub record AgreeBelow (t u : Table) : Type 0 where
   pub row : (i : ℕ) → i < t .rows → u .row i ≡ t .row i
   pub mass : (b : ℕ) → b < t .bodies → u .mass b ≡ t .mass b
 
--- the answers are the same: of a solve refusal or flag, count, step and delivery, bit for bit; of a check refusal or verdict
+-- the answers are the same: of a solve refusal or flag, count, step and delivery, bit for bit, with centres that agree below the body count; of a check refusal or verdict
 pub record LooksBelow (t u : Table) : Type 0 where
-  pub solves : (tolerances other : Tolerances) → other .tests ≡ tolerances .tests → ((i : ℕ) → i < t .rows → other .row i ≡ tolerances .row i) → (fits : Bool) (shift : Float) (mode : Mode) (limit : ℕ)
-      → solve (methodOf fits (shiftedProblem u other shift) mode) limit ≡ solve (methodOf fits (shiftedProblem t tolerances shift) mode) limit
-  pub checks : (listed other : ℕ → Float) → ((i : ℕ) → i < t .rows → other i ≡ listed i) → (fits : Bool) (rules : Rules) → checkOf fits (closingOf u other rules) ≡ checkOf fits (closingOf t listed rules)
+  pub solves : (tolerances other : Tolerances) → other .tests ≡ tolerances .tests → ((i : ℕ) → i < t .rows → other .row i ≡ tolerances .row i) → (c d : ℕ → Vec3) → ((b : ℕ) → b < t .bodies → d b ≡ c b) → (fits : Bool) (shift : Float) (mode : Mode) (limit : ℕ)
+      → solve (methodOf fits (shiftedProblem u other shift d) mode) limit ≡ solve (methodOf fits (shiftedProblem t tolerances shift c) mode) limit
+  pub checks : (listed other : ℕ → Float) → ((i : ℕ) → i < t .rows → other i ≡ listed i) → (fits : Bool) (rules : Rules) (placed : Bool) → checkOf fits (closingOf u other rules placed) ≡ checkOf fits (closingOf t listed rules placed)
 
 -- ---- not every number of a row. Document 01: "The answer depends on key, owner (modes 0 and 1), target_velocity, force_bias, impulse bounds, accumulated impulse, position_angular_a and cached mass only through refusals 4 and 7"; but for the key, "which the answer now reads" (document 02, k).
 -- Two rows that may differ in these alone, and that 4 and 7 judge alike
@@ -98,6 +109,6 @@ pub record TablesButUnread (t u : Table) : Type 0 where
 
 -- and the answers are the same; where mode 2 solves, the owners are
 pub record Depends (t u : Table) : Type 0 where
-  pub solves : (mode : Mode) → (mode ≡ modes.BlockJacobi → (i : ℕ) → i < t .rows → ownerOf u i ≡ ownerOf t i) → (tolerances : Tolerances) (fits : Bool) (shift : Float) (limit : ℕ)
-      → solve (methodOf fits (shiftedProblem u tolerances shift) mode) limit ≡ solve (methodOf fits (shiftedProblem t tolerances shift) mode) limit
-  pub checks : (listed : ℕ → Float) (fits : Bool) (rules : Rules) → checkOf fits (closingOf u listed rules) ≡ checkOf fits (closingOf t listed rules)
+  pub solves : (mode : Mode) → (mode ≡ modes.BlockJacobi → (i : ℕ) → i < t .rows → ownerOf u i ≡ ownerOf t i) → (tolerances : Tolerances) (centre : ℕ → Vec3) (fits : Bool) (shift : Float) (limit : ℕ)
+      → solve (methodOf fits (shiftedProblem u tolerances shift centre) mode) limit ≡ solve (methodOf fits (shiftedProblem t tolerances shift centre) mode) limit
+  pub checks : (listed : ℕ → Float) (fits : Bool) (rules : Rules) (placed : Bool) → checkOf fits (closingOf u listed rules placed) ≡ checkOf fits (closingOf t listed rules placed)

@@ -91,7 +91,7 @@ thousandth = ofBits binary64 0x3f50624dd2f1a9fc
 abbrev pub alike : Float → Rules
 alike tolerance = twoRules (record { «linear_m» = tolerance; «angular_rad» = tolerance })
 
--- with shift 0; of an accepted answer flag, count, solution, multipliers and the linear residual, of a refused one its number
+-- with shift 0 and centres of +0.0; of an accepted answer flag, count, solution, multipliers and the linear residual, of a refused one its number
 pub record Accepted : Type 0 where
   pub flag : Bool
   pub count : ℕ
@@ -104,12 +104,12 @@ Worked = Run Accepted ℕ
 
 abbrev pub workedOf : Table → Float → Mode → ℕ → Worked
 workedOf t tolerance mode limit =
-    on (solve (methodOf true (shiftedProblem t (ruledBy (alike tolerance) t) plusZero) mode) limit)
+    on (solve (methodOf true (shiftedProblem t (ruledBy (alike tolerance) t) plusZero (λ b. along plusZero)) mode) limit)
     (λ r. going (record { flag = r .0 .0; count = r .0 .1; solution = r .0 .2 .solution; multipliers = r .1 .accumulated; residual = r .1 .maxima .linear })) ended
 
 -- P1's check: its row with the multiplier that P1 ends with
 abbrev pub checked : Float → Closing
-checked tolerance = closingOf p1 (λ i. ofBits binary64 0x3fd0000000000000) (alike tolerance)
+checked tolerance = closingOf p1 (λ i. ofBits binary64 0x3fd0000000000000) (alike tolerance) true
 
 -- document 02, h: "On P1, `gap` begins with the bits of 17·2^-52 and its angular half is +0.0"
 abbrev pub p1Gap : Maxima

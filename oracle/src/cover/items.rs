@@ -25,6 +25,8 @@ pub struct Item {
     pub mode: u32,
     pub name: String,
     pub enough: usize,
+    /// It is about where the links lie and end up.
+    pub centred: bool,
     pub met: Box<dyn Fn(&Seen) -> bool>,
 }
 
@@ -33,7 +35,13 @@ struct Items(Vec<Item>);
 
 impl Items {
     fn add(&mut self, mode: u32, enough: usize, name: &str, met: impl Fn(&Seen) -> bool + 'static) {
-        self.0.push(Item { mode, name: name.to_string(), enough, met: Box::new(met) });
+        let (name, met) = (name.to_string(), Box::new(met));
+        self.0.push(Item { mode, name, enough, centred: false, met });
+    }
+
+    /// The items from here on are about centres.
+    fn centred(&mut self, from: usize) {
+        self.0[from..].iter_mut().for_each(|item| item.centred = true);
     }
 }
 
@@ -42,8 +50,12 @@ pub fn items() -> Vec<Item> {
     for (slip, name, modes) in SLIPS {
         let enough = if slip == Slip::CountAfterValues { ENOUGH_LARGE } else { ENOUGH };
         let name = format!("another answer with {name}");
+        let from = items.0.len();
         for &mode in modes {
             items.add(mode, enough, &name, move |seen| seen.changed.contains(&slip));
+        }
+        if slip.of_centres() {
+            items.centred(from);
         }
     }
     factors(&mut items);
@@ -55,6 +67,9 @@ pub fn items() -> Vec<Item> {
     }
     tolerances(&mut items);
     limits(&mut items);
+    let from = items.0.len();
+    centres(&mut items);
+    items.centred(from);
     items.0
 }
 
@@ -95,6 +110,34 @@ fn tolerances(items: &mut Items) {
         let before = |seen: &Seen| seen.refusal == 4 && seen.odd_tolerance;
         items.add(mode, 1, "refused by 4, else by 27", before);
         items.add(mode, 1, "a tolerance of −0.0, not refused", |seen| seen.minus_zero);
+    }
+}
+
+/// Refusals 6 and 17 by a centre, beside others, without rows and without a centre; what keeps its
+/// bits.
+fn centres(items: &mut Items) {
+    for mode in 0..3 {
+        let odd = |seen: &Seen| seen.refusal == 6 && seen.centres.odd;
+        items.add(mode, ENOUGH, "refused by 6, by a centre", odd);
+        items.add(mode, 1, "refused by 6, by a centre, no rows", move |seen| {
+            odd(seen) && seen.rows == 0
+        });
+        for later in [7, 9] {
+            let name = format!("refused by 6, by a centre, else by {later}");
+            let met = move |seen: &Seen| odd(seen) && seen.centres.else_by == later;
+            items.add(mode, 1, &name, met);
+        }
+        for earlier in [4, 27, 5] {
+            let name = format!("refused by {earlier}, else by 6, by a centre");
+            let met = move |seen: &Seen| seen.refusal == earlier && seen.centres.odd;
+            items.add(mode, 1, &name, met);
+        }
+        items.add(mode, ENOUGH, "refused by 17, by a new centre", |seen| seen.centres.turn_back);
+        items.add(mode, 1, "refused by 17, by a new centre, all centres +0.0", |seen| {
+            seen.centres.turn_back && seen.centres.none
+        });
+        let kept = |seen: &Seen| seen.centres.minus_zero_kept;
+        items.add(mode, 1, "a centre of −0.0 at count 0", kept);
     }
 }
 

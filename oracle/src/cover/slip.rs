@@ -1,4 +1,4 @@
-//! Slips: one thing each, done otherwise than document 01 says.
+//! Slips: one thing each, done otherwise than documents 01 and 02 say.
 
 #[derive(Clone, Copy, PartialEq)]
 pub enum Slip {
@@ -21,10 +21,14 @@ pub enum Slip {
     RowsDescending,
     BodyBFirst,
     DotsFromTheRight,
+    CentreInOneRounding,
+    RestMoves,
+    TurningAtRest,
+    PartAtRest,
 }
 
 /// Each slip, what it does, and the modes in which it can show.
-pub const SLIPS: [(Slip, &str, &[u32]); 19] = [
+pub const SLIPS: [(Slip, &str, &[u32]); 23] = [
     (Slip::ProductsDescending, "products under a factor descending", &[1, 2]),
     (Slip::SquaresDescending, "squares under a pivot descending", &[1, 2]),
     (Slip::ForwardDescending, "the forward solve's columns descending", &[1, 2]),
@@ -44,4 +48,16 @@ pub const SLIPS: [(Slip, &str, &[u32]); 19] = [
     (Slip::RowsDescending, "the operator's rows descending", &[0, 1, 2]),
     (Slip::BodyBFirst, "body_b first in the operator's row value", &[0, 1, 2]),
     (Slip::DotsFromTheRight, "(xx)+((yy)+(zz)) in the operator's row value", &[0, 1, 2]),
+    (Slip::CentreInOneRounding, "a new centre in one rounding", &[0, 1, 2]),
+    (Slip::RestMoves, "a body without an impulse moved", &[0, 1, 2]),
+    (Slip::TurningAtRest, "a body with angular impulses alone not moved", &[0, 1, 2]),
+    (Slip::PartAtRest, "a part of a centre without an impulse not moved", &[0, 1, 2]),
 ];
+
+impl Slip {
+    /// It is about where the links end up (document 02, d).
+    pub fn of_centres(self) -> bool {
+        use Slip::*;
+        matches!(self, CentreInOneRounding | RestMoves | TurningAtRest | PartAtRest)
+    }
+}

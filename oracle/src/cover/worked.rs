@@ -236,6 +236,24 @@ impl Work<'_> {
         bodies
     }
 
+    /// Part by part; a body without an impulse stays where it is.
+    fn centres(&self, job: &Job, impulses: &[f64]) -> Vec<f64> {
+        let moved = |(at, old): (usize, &f64)| {
+            let (six, part) = (&impulses[6 * (at / 3)..][..6], at % 3);
+            let zero = |from: &[f64]| from.iter().all(|value| *value == 0.0);
+            let rests = (zero(six) && !self.is(Slip::RestMoves))
+                || (zero(&six[..3]) && self.is(Slip::TurningAtRest))
+                || (six[part] == 0.0 && self.is(Slip::PartAtRest));
+            let by = self.table.masses[at / 3].inverse_mass;
+            match rests {
+                true => *old,
+                false if self.is(Slip::CentreInOneRounding) => by.mul_add(six[part], *old),
+                false => by * six[part] + old,
+            }
+        };
+        job.centres.iter().enumerate().map(moved).collect()
+    }
+
     fn dot(&self, left: Vector, right: Vector) -> f64 {
         let [x, y, z] = [0, 1, 2].map(|at| left[at] * right[at]);
         if self.is(Slip::DotsFromTheRight) { x + (y + z) } else { (x + y) + z }
@@ -295,10 +313,12 @@ impl Work<'_> {
         let impulses = self.impulses(&solution).concat();
         let multipliers = job.multipliers().into_iter().zip(&solution);
         let multipliers: Vec<f64> = multipliers.map(|(old, gain)| old + gain).collect();
-        pass(17, impulses.iter().chain(&multipliers).all(|value| value.is_finite()))?;
+        let centres = self.centres(job, &impulses);
+        let mut last = impulses.iter().chain(&multipliers).chain(&centres);
+        pass(17, last.all(|value| value.is_finite()))?;
         let answer = model::answer(self.table, &residual, count, flag);
         let rules = self.table.rules.clone();
-        Ok(Solved { answer, solution, multipliers, impulses, rules })
+        Ok(Solved { answer, solution, multipliers, impulses, centres, rules })
     }
 }
 

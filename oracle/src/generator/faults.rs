@@ -165,7 +165,7 @@ fn step_tolerance(job: &mut Job, random: &mut Random) {
     let mut trial = job.clone();
     trial.limit = 1 + random.below(4) as u32;
     trial.tolerances = [0.0; 2];
-    if let Answer::Accepted { linear, angular, .. } = model::solve(&trial).answer {
+    if let Answer::Accepted { linear, angular, .. } = model::delivered(&trial).answer {
         job.tolerances = [beside(linear, random), beside(angular, random)];
         job.limit = trial.limit + random.below(3) as u32;
     }
@@ -217,7 +217,7 @@ fn beyond_counts(job: &mut Job, random: &mut Random) {
 
 /// Masses so small that the largest final impulse lies just beyond the doubles.
 fn tiny_masses(job: &mut Job, random: &mut Random) {
-    let solved = model::solve(job);
+    let solved = model::delivered(job);
     let largest = solved.impulses.iter().fold(0.0, |size: f64, value| size.max(value.abs()));
     if largest > 0.0 && largest < two(500) {
         let exponent = 1024 - ((largest.to_bits() >> 52) as i32 - 1023) + random.between(-1, 0);

@@ -2,8 +2,8 @@
 
 use super::algebra::{Mass, Side};
 use super::operator;
-use super::table::{Row, Table, counts_fit, words_fit};
-use super::{Judged, all_finite, pass};
+use super::table::{Row, Table, counts_fit, masses_finite, words_fit};
+use super::{Judged, pass};
 use crate::job::*;
 
 /// What a check gives where it is not refused.
@@ -16,12 +16,13 @@ pub struct Checked {
     pub measured: Vec<Measured>,
 }
 
-/// Verdict and gap, or refusal 3, 4, 27, 28, 6, 7 or 18. The job's limit and mode are not read.
+/// Verdict and gap, or refusal 3, 4, 27, 28, 6, 7 or 18. The job's limit and mode are not read,
+/// its centres by 6 alone.
 pub fn closing_check(job: &Job, list: &[f64]) -> Judged<Checked> {
     pass(3, counts_fit(job) && list.len() == job.rows as usize)?;
     pass(4, words_fit(job))?;
     let table = Table::of(job)?;
-    pass(6, all_finite(&job.masses))?;
+    pass(6, masses_finite(job))?;
     pass(7, table.rows.iter().all(|row| row.valid))?;
     pass(18, sized(job, list))?;
     let measured = measure(&table, list);

@@ -91,7 +91,7 @@ pub fn opening(job: &Job) -> Judged<Table> {
     pass(4, words_fit(job))?;
     let table = Table::of(job)?;
     pass(5, job.rows == 0 || (job.limit != 0 && opens(job)))?;
-    pass(6, all_finite(&job.masses))?;
+    pass(6, masses_finite(job))?;
     Ok(table)
 }
 
@@ -104,7 +104,13 @@ pub fn counts_fit(job: &Job) -> bool {
         && job.numbers.len() == ROW_NUMBERS * rows
         && job.words.len() == ROW_WORDS * rows
         && job.masses.len() == MASS_NUMBERS * bodies
+        && job.centres.len() == CENTRE_NUMBERS * bodies
         && job.rules().fit()
+}
+
+/// Refusal 6's test: the ten numbers of each mass, and the three of its centre.
+pub fn masses_finite(job: &Job) -> bool {
+    all_finite(&job.masses) && all_finite(&job.centres)
 }
 
 /// Refusal 25's test: from 0 to 1, −0.0 too, whatever the mode and the rows. No NaN is.

@@ -33,9 +33,9 @@ zero-is verdict gap (Closed m) above = (λ _ n h. let z : _≡_ {A = ℕ} 0 1 = 
 zero-is verdict gap (Open m) above = (λ _ n h. let z : _≡_ {A = ℕ} 0 1 = cc in omega arith, λ _. refl)
 zero-is verdict gap (Refused k) above = (λ e n h. let l = above k refl in omega arith, λ h. absurd (h k refl))
 
-module _ (s : Rules) (t : Table) (listed : ℕ → Float) (verdict : List ℕ) (gap : List Float) (numbers : List ℕ) (before : CheckMemory) where
+module _ (s : Rules) (t : Table) (listed : ℕ → Float) (placed : Bool) (verdict : List ℕ) (gap : List Float) (numbers : List ℕ) (before : CheckMemory) where
   abbrev c : Closing
-  c = closingOf t listed s
+  c = closingOf t listed s placed
 
   told-so : {fits : Bool} {told : VerdictTold} {a : CheckAnswer} {numbersAfter : List ℕ} {after : CheckMemory} → Checked fits s c a numbers numbersAfter before after → told ≡ verdictTold a verdict gap
       → CheckTold fits s c verdict gap told numbers numbersAfter before after
@@ -56,7 +56,7 @@ module _ (s : Rules) (t : Table) (listed : ℕ → Float) (verdict : List ℕ) (
   module _ {r v : Bool} (p : Bool) (e : r ≡ v) where
     pub untold : not r ≡ true → CheckTold (v && p) s c verdict gap (record { number = 3; verdict = verdict; gap = gap }) numbers numbers before before
     unfolding verdictTold
-    untold h = told-so (checked-3 s t listed numbers before (sym (ap (λ (b : Bool). b && p) (sym e ∙ not-true r h))) refl) refl
+    untold h = told-so (checked-3 s t listed placed numbers before (sym (ap (λ (b : Bool). b && p) (sym e ∙ not-true r h))) refl) refl
 
     pub told-on : {told : VerdictTold} {a : CheckAnswer} {numbersAfter : List ℕ} {after : CheckMemory} → not r ≡ false → Checked p s c a numbers numbersAfter before after → told ≡ verdictTold a verdict gap
         → CheckTold (v && p) s c verdict gap told numbers numbersAfter before after

@@ -38,10 +38,10 @@ pub struct Prepared {
 }
 
 impl Prepared {
-    /// `numbers` has 27 doubles a row, `words` 8 u32 a row, `masses` 10 doubles a body.
-    pub fn new(numbers: &[f64], words: &[u32], masses: &[f64]) -> Self {
+    /// `numbers` has 27 doubles a row, `words` 8 u32 a row, `masses` 10 doubles a body, `centres` 3.
+    pub fn new(numbers: &[f64], words: &[u32], masses: &[f64], centres: &[f64]) -> Self {
         let of = |mass| SolverBody { body: RigidBody::of(mass) };
-        let bodies: Vec<SolverBody> = masses_of(masses).into_iter().map(of).collect();
+        let bodies: Vec<SolverBody> = masses_of(masses, centres).into_iter().map(of).collect();
         Self {
             rows: rows_of(numbers, words),
             owners: words.chunks_exact(8).map(|words| words[6] as usize).collect(),
@@ -124,6 +124,12 @@ impl Prepared {
             .map(|pair| pair.map(|(linear, angular)| six(GeneralizedImpulse { linear, angular })))
             .collect()
     }
+
+    /// Where each body's centre ends up, worked from what was applied to it; None where it overflows.
+    pub fn next_centers(&self) -> Vec<Option<[f64; 3]>> {
+        let found = self.bodies.iter().map(|body| body.body.next_center());
+        found.map(|center| center.map(|center| [center.x, center.y, center.z])).collect()
+    }
 }
 
 pub(super) fn six(impulse: GeneralizedImpulse) -> [f64; 6] {
@@ -145,17 +151,18 @@ fn vector(numbers: &[f64]) -> Vec3 {
     Vec3::new(numbers[0], numbers[1], numbers[2])
 }
 
-pub(super) fn masses_of(numbers: &[f64]) -> Vec<SolverMass> {
-    numbers.chunks_exact(10).map(mass).collect()
+pub(super) fn masses_of(numbers: &[f64], centres: &[f64]) -> Vec<SolverMass> {
+    let bodies = numbers.chunks_exact(10).zip(centres.chunks_exact(3));
+    bodies.map(|(numbers, centre)| mass(numbers, vector(centre))).collect()
 }
 
-/// A mass is inverse_mass, then inverse_inertia by columns; the centre is not read.
-fn mass(numbers: &[f64]) -> SolverMass {
+/// A mass is inverse_mass, then inverse_inertia by columns; no step reads the centre.
+fn mass(numbers: &[f64], center: Vec3) -> SolverMass {
     let columns = [vector(&numbers[1..]), vector(&numbers[4..]), vector(&numbers[7..])];
     SolverMass {
         inverse_mass: numbers[0],
         inverse_inertia: Mat3::from_cols(columns[0], columns[1], columns[2]),
-        center: Vec3::ZERO,
+        center,
     }
 }
 

@@ -12,31 +12,31 @@ pub with-memory-spec : {M : Type 1} → statement M
 with-memory-spec =
     tie.close
     (tie.spec
-    (λ c. omega (arith, given-of _ _ _ ((c .before .before .before .before .before .before .before) .pre)))  -- mul-row-numbers
-    (λ c. omega (arith, given-of _ _ _ ((c .before .before .before .before .before .before .before) .pre)))  -- mul-row-links
-    (λ c. omega (arith, given-of _ _ _ ((c .before .before .before .before .before .before .before) .pre)))  -- mul-mass-numbers
-    (λ c. omega (arith, given-of _ _ _ ((c .before .before .before .before .before .before .before) .pre)))  -- mul-body-numbers
-    (λ c. omega (arith, given-of _ _ _ ((c .before .before .before .before .before .before .before .before) .pre)))  -- array-borrow-prefix-jacobians
-    (λ c. sym (length-take-le _ _ (omega (arith, given-of _ _ _ ((c .before .before .before .before .before .before .before .before .before) .pre)))))  -- slice-aggregate-closing-check
-    (λ c. omega (arith, given-of _ _ _ ((c .before .before .before .before .before .before .before .before .before) .pre)))  -- array-borrow-prefix-links
-    (λ c. sym (length-take-le _ _ (omega (arith, given-of _ _ _ ((c .before .before .before .before .before .before .before .before .before .before) .pre)))))  -- slice-aggregate-closing-check-2
-    (λ c. omega (arith, given-of _ _ _ ((c .before .before .before .before .before .before .before .before .before .before) .pre)))  -- array-borrow-prefix-mass-sizes
-    (λ c. sym (length-take-le _ _ (omega (arith, given-of _ _ _ ((c .before .before .before .before .before .before .before .before .before .before .before) .pre)))))  -- slice-aggregate-closing-check-3
-    (λ c. omega (arith, given-of _ _ _ ((c .before .before .before .before .before .before .before .before .before .before .before) .pre)))  -- array-borrow-prefix-multiplier-sizes
-    (λ c. sym (length-take-le _ _ (omega (arith, given-of _ _ _ ((c .before .before .before .before .before .before .before .before .before .before .before .before) .pre)))))  -- slice-aggregate-closing-check-4
-    (λ c. omega (arith, given-of _ _ _ ((c .before .before .before .before .before .before .before .before .before .before .before .before) .pre)))  -- array-borrow-prefix-impulses
-    (λ c. sym (length-take-le _ _ (omega (arith, given-of _ _ _ ((c .before .before .before .before .before .before .before .before .before .before .before .before .before) .pre)))))  -- slice-aggregate-closing-check-5
-    (λ c. omega (arith, given-of _ _ _ ((c .before .before .before .before .before .before .before .before .before .before .before .before .before) .pre)))  -- array-borrow-prefix-values
-    (λ c.
-    let start = c .before .before .before .before .before .before .before .before .before .before .before .before .before .before in
-    sym (length-take-le _ _ (omega (arith, given-of _ _ _ (start .pre)))))  -- slice-aggregate-closing-check-6
-    (λ c. omega (arith, given-of _ _ _ ((c .before .before .before .before .before .before .before .before .before .before .before .before .before .before) .pre)))  -- array-borrow-prefix-sizes
+    (λ c. omega (arith, given-of _ _ _ ((c .before .before .before .before .before .before .before .before) .pre)))  -- mul-row-numbers
+    (λ c. omega (arith, given-of _ _ _ ((c .before .before .before .before .before .before .before .before) .pre)))  -- mul-row-links
+    (λ c. omega (arith, given-of _ _ _ ((c .before .before .before .before .before .before .before .before) .pre)))  -- mul-mass-numbers
+    (λ c. omega (arith, given-of _ _ _ ((c .before .before .before .before .before .before .before .before) .pre)))  -- mul-body-numbers
+    (λ c. omega (arith, given-of _ _ _ ((c .before .before .before .before .before .before .before .before .before) .pre)))  -- array-borrow-prefix-jacobians
+    (λ c. sym (length-take-le _ _ (omega (arith, given-of _ _ _ ((c .before .before .before .before .before .before .before .before .before .before) .pre)))))  -- slice-aggregate-closing-check
+    (λ c. omega (arith, given-of _ _ _ ((c .before .before .before .before .before .before .before .before .before .before) .pre)))  -- array-borrow-prefix-links
+    (λ c. sym (length-take-le _ _ (omega (arith, given-of _ _ _ ((c .before .before .before .before .before .before .before .before .before .before .before) .pre)))))  -- slice-aggregate-closing-check-2
+    (λ c. omega (arith, given-of _ _ _ ((c .before .before .before .before .before .before .before .before .before .before .before) .pre)))  -- array-borrow-prefix-mass-sizes
+    (λ c. sym (length-take-le _ _ (omega (arith, given-of _ _ _ ((c .before .before .before .before .before .before .before .before .before .before .before .before) .pre)))))  -- slice-aggregate-closing-check-3
+    (λ c. omega (arith, given-of _ _ _ ((c .before .before .before .before .before .before .before .before .before .before .before .before) .pre)))  -- array-borrow-prefix-multiplier-sizes
+    (λ c. sym (length-take-le _ _ (omega (arith, given-of _ _ _ ((c .before .before .before .before .before .before .before .before .before .before .before .before .before) .pre)))))  -- slice-aggregate-closing-check-4
+    (λ c. omega (arith, given-of _ _ _ ((c .before .before .before .before .before .before .before .before .before .before .before .before .before) .pre)))  -- array-borrow-prefix-impulses
+    (λ c. sym (length-take-le _ _ (omega (arith, given-of _ _ _ ((c .before .before .before .before .before .before .before .before .before .before .before .before .before .before) .pre)))))  -- slice-aggregate-closing-check-5
+    (λ c. omega (arith, given-of _ _ _ ((c .before .before .before .before .before .before .before .before .before .before .before .before .before .before) .pre)))  -- array-borrow-prefix-values
     (λ c.
     let start = c .before .before .before .before .before .before .before .before .before .before .before .before .before .before .before in
+    sym (length-take-le _ _ (omega (arith, given-of _ _ _ (start .pre)))))  -- slice-aggregate-closing-check-6
+    (λ c. omega (arith, given-of _ _ _ ((c .before .before .before .before .before .before .before .before .before .before .before .before .before .before .before) .pre)))  -- array-borrow-prefix-sizes
+    (λ c.
+    let start = c .before .before .before .before .before .before .before .before .before .before .before .before .before .before .before .before in
     sym (length-take-le _ _ (omega (arith, given-of _ _ _ (start .pre)))))  -- slice-aggregate-closing-check-7
     (λ c κs. search needs)  -- closing-check-requires
     (λ c. (c .before .before .before .before .before .before .before .before .rule-numbers) .given)  -- same-length
     (λ c.
     let at-closing-check = c .before .before .before .before .before .before .before .before .before in
-    let start = at-closing-check .before .before .before .before .before .before .before .before .before .before .before .before .before .before .before .before in
+    let start = at-closing-check .before .before .before .before .before .before .before .before .before .before .before .before .before .before .before .before .before in
     alone _ (start .pre) (taken 512 256 _ _ _ _ _ _ _ (given-of _ _ _ (start .pre) .rows) (given-of _ _ _ (start .pre) .bodies) refl refl refl refl refl refl refl) ((at-closing-check .closing-check) .ensures)))  -- returns

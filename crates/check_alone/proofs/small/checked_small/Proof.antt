@@ -11,6 +11,6 @@ checked-small-spec =
     (tie.spec
     (λ c κs. search needs)  -- given-fits-requires
     (λ c. alone-3 _ _ _ ((c .before .given-fits) .ensures) ((c .if1) .taken))  -- returns
-    (λ c κs. (passed-3 ((c .before .before .given-fits) .ensures) ((c .before .if1) .left), (c .before .before .before .before .before .before .before .before .before .before) .pre))  -- with-small-memory-requires
+    (λ c κs. (passed-3 ((c .before .before .given-fits) .ensures) ((c .before .if1) .left), (c .before .before .before .before .before .before .before .before .before .before .before) .pre))  -- with-small-memory-requires
     (λ c. (c .before .rule-numbers) .given)  -- same-length
     (λ c. (c .before .before .with-small-memory) .ensures))  -- returns-2

@@ -2,11 +2,11 @@
 use borrow.Author.Needs.{needs}
 use Rattle.joint_refusals.specs.Refusals.{passes6, passes7}
 use Rattle.loops.proofs.Judge.{judge-done, judge-fail, judge-pass, judging}
-use Rattle.check_refusals.proofs.Judgement.{words-pass, rows-pass}
+use Rattle.check_refusals.proofs.Judgement.{words-pass, rows-pass, placed-pass}
 use Rattle.check_refusals.proofs.judge.judge_table.Statement.{statement}
 use Rattle.check_refusals.proofs.judge.judge_table.Tie as tie
 
-ruleset known = (judging, words-pass, rows-pass, needs)
+ruleset known = (judging, words-pass, rows-pass, placed-pass, needs)
 
 pub judge-table-spec : {M : Type 1} → statement M
 unfolding passes6 passes7
@@ -28,13 +28,13 @@ judge-table-spec =
     judge-pass _ _ _ (words-pass _ _ _ _ _ ((c .before .before .before .before .before .before .before .before .before .before .before .words-fit) .ensures)) ((c .before .before .before .before .before .before .before .before .before .before .if1) .left)
     (judge-pass _ _ _ ((c .before .before .before .before .before .before .before .before .before .rules-fit) .ensures) ((c .before .before .before .before .before .before .before .before .if2) .left)
     (judge-pass _ _ _ (rows-pass _ _ _ _ _ _ ((c .before .before .before .before .before .before .before .rows-ruled) .ensures)) ((c .before .before .before .before .before .before .if3) .left)
-    (judge-pass _ _ _ ((c .before .before .before .before .before .masses-finite) .ensures) ((c .before .before .before .before .if4) .left)
+    (judge-pass _ _ _ (placed-pass _ ((c .before .before .before .before .before .masses-finite) .ensures)) ((c .before .before .before .before .if4) .left)
     (judge-pass _ _ _ ((c .before .before .before .rows-valid) .ensures) ((c .before .before .if5) .left)
     (judge-fail _ _ _ ((c .before .table-in-range) .ensures) ((c .if6) .taken)))))))  -- returns-6
     (λ c.
     judge-pass _ _ _ (words-pass _ _ _ _ _ ((c .before .before .before .before .before .before .before .before .before .before .before .words-fit) .ensures)) ((c .before .before .before .before .before .before .before .before .before .before .if1) .left)
     (judge-pass _ _ _ ((c .before .before .before .before .before .before .before .before .before .rules-fit) .ensures) ((c .before .before .before .before .before .before .before .before .if2) .left)
     (judge-pass _ _ _ (rows-pass _ _ _ _ _ _ ((c .before .before .before .before .before .before .before .rows-ruled) .ensures)) ((c .before .before .before .before .before .before .if3) .left)
-    (judge-pass _ _ _ ((c .before .before .before .before .before .masses-finite) .ensures) ((c .before .before .before .before .if4) .left)
+    (judge-pass _ _ _ (placed-pass _ ((c .before .before .before .before .before .masses-finite) .ensures)) ((c .before .before .before .before .if4) .left)
     (judge-pass _ _ _ ((c .before .before .before .rows-valid) .ensures) ((c .before .before .if5) .left)
     (judge-pass _ _ _ ((c .before .table-in-range) .ensures) ((c .if6) .left) judge-done)))))))  -- returns-7

@@ -22,7 +22,7 @@ judged-check-spec =
       room-same ((c .before .before .before .before .before .before .before .before .before .before .before .before .before .before .before .before .before .before .before .before .before .before .before .before) .pre .0 .multipliers) ((c .before .before .before .before .before .before .before .before .before .before .before .before .before .before .before .before .before .before .before .before .before .before .before .before) .pre .0),
       valid-same
           ((c .before .before .before .before .before .before .before .before .before .before .before .before .before .before .before .before .before .before .before .before .before .before .before .before) .pre .0 .multipliers)
-          (valid-judged _ _ _ _ _ _ _
+          (valid-judged _ _ _ _ _ _ _ _
           ((c .before .before .before .before .before .before .before .before .before .judge-table) .ensures)
           ((c .before .before .before .before .before .before .before .enum-told) .given .1)),
     ))  -- measure-rows-requires
@@ -40,7 +40,7 @@ judged-check-spec =
         omega (arith, (c .before .before .before .before .before .before .values2) .given, (c .before .before .before .before .before .before .before .before .before .before .before .before .before .values) .given, (c .before .before .before .before .before .before .before .before .before .before .before .before .before .before .before .before .before .before .before .before .before .before .before .before .before .before .before .before .before .before .before .before .before .before .before .before .before .before .before .before .before .before .before .before .before .before .before .before .before) .pre .0 .values),
         omega (arith, (c .before .before .before .before .before .before .before .before .before .before .before .before .before .before .before .before .before .before .before .before .before .before .before .before .before .before .before .before .before .before .before .before .before .before .before .before .before .before .before .before .before .before .before .before .before .before .before .before .before) .pre .1 .0 .0),
       ),
-      ruled-judged _ _ _ _ _ _ _
+      ruled-judged _ _ _ _ _ _ _ _
           ((c .before .before .before .before .before .before .before .before .before .before .before .before .before .before .before .before .before .before .before .before .before .before .before .before .before .before .before .before .before .before .before .before .before .before .judge-table) .ensures)
           ((c .before .before .before .before .before .before .before .before .before .before .before .before .before .before .before .before .before .before .before .before .before .before .before .before .before .before .before .before .before .before .before .before .enum-told) .given .1),
     ))  -- verdict-requires
@@ -62,14 +62,14 @@ judged-check-spec =
     (at-values2 .values2) .given ∙ (at-values .values) .given)  -- same-length-7
     (λ c. (c .before .before .before .before .before .before .before .before .before .before .before .before .sizes) .given)  -- same-length-8
     (λ c. (
-      verdict-is _
+      verdict-is _ _
           ((c .before .before .before .before .before .before .before .before .before .before .before .before .before .before .before .before .before .before .before .before .before .before .before .before .before .measure-rows) .ensures)
           ((c .before .before .before .before .before .before .before .before .before .before .before .before .before .before .before .before .before .before .before .before .before .before .before .before .before .before .before .before .before .before .before .before .before .before .before .before .before .before .before .before .before .before .before .before .before .before .before .before .before .before) .pre .0 .multipliers)
           ((c .before .before .before .before .before .before .before .before .measure-reaches) .ensures) ((c .verdict) .ensures)
           (passed-judged _
           ((c .before .before .before .before .before .before .before .before .before .before .before .before .before .before .before .before .before .before .before .before .before .before .before .before .before .before .before .before .before .before .before .before .before .before .before .judge-table) .ensures)
           ((c .before .before .before .before .before .before .before .before .before .before .before .before .before .before .before .before .before .before .before .before .before .before .before .before .before .before .before .before .before .before .before .before .before .enum-told) .given .1)),
-      named-is _ _ _ _ _ _ _ _ _ ((c .verdict) .ensures)
+      named-is _ _ _ _ _ _ _ _ _ _ ((c .verdict) .ensures)
           ((c .before .before .before .before .before .before .before .before .before .before .before .before .before .before .before .before .before .before .before .before .before .before .before .before .before .before .before .before .before .before .before .before .before .before .before .before .before .before .before .before .before .before .before .before .before .before .before .before .before .before) .pre .1 .0 .2)
           ((c .before .before .before .before .name-rules) .ensures),
     )))  -- returns-2

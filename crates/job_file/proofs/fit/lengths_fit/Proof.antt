@@ -15,4 +15,5 @@ lengths-fit-spec =
     (λ c. search loops)  -- mul-result
     (λ c. search loops)  -- mul-result-2
     (λ c. search loops)  -- mul-result-3
+    (λ c. search loops)  -- mul-result-4
     (λ c. refl))  -- returns

@@ -1,18 +1,20 @@
 -- `job_file::sections::read_masses` meets its contract: what stands below k is read. Assumes nothing.
 use Prim.Native.Nat.{_-_, _/_, _%_}
+use native.Mathlib.Omega.{arith}
 use lib.Ieee.{nan}
+use lib.ListN.{length}
 use Rattle.loops.proofs.Fill.{Fills, fills}
 use Rattle.job_file.specs.File.{massNumber, sectionMasses}
-use lib.ListN.{length}
 use Rattle.job_file.proofs.Counted.{filled-count}
+use Rattle.job_file.proofs.Masses.{mass-inside}
 use Rattle.job_file.proofs.sections.read_masses.Statement.{statement}
 use Rattle.job_file.proofs.sections.read_masses.Tie as tie
 
 abbrev Inv-loop : tie.InvT-loop
-Inv-loop file offset bodies masses₀ k₀ masses k = Fills nan (λ k. massNumber file offset (k / 10) (k % 10)) (length masses₀) k masses
+Inv-loop file offset spare bodies masses₀ k₀ masses k = Fills nan (λ k. massNumber file offset spare (k / 10) (k % 10)) (length masses₀) k masses
 
 abbrev μ-loop : tie.MeasureT-loop
-μ-loop file offset bodies masses₀ k₀ masses k = length masses₀ - k
+μ-loop file offset spare bodies masses₀ k₀ masses k = length masses₀ - k
 
 ruleset known = (filled-count, fills)
 
@@ -22,7 +24,7 @@ read-masses-spec =
     tie.close
     (tie.spec Inv-loop μ-loop
     (λ c. search known)  -- loop-holds
-    (λ c κs. search known)  -- mass-number-requires
+    (λ c κs. mass-inside _ _ _ _ (omega arith) ((c .before .before .before .before) .pre .0) (omega arith))  -- mass-number-requires
     (λ c. search known)  -- mul-masses
     (λ c. search known)  -- slice-write-masses
     (λ c. search known)  -- add-k

@@ -14,13 +14,18 @@ write-file-spec =
     (λ c. search needs)  -- cast-bodies
     (λ c. search needs)  -- cast-row-offset
     (λ c. search needs)  -- cast-mass-offset
-    (λ c κs. (rows-held ((c .before .before .before .before .before .before .before .before .before .before .before .before .before) .args .file .now) ((c .before .before .before .before .before .before .before .before .before .before .before .before .before) .args .trailer) ((c .before .before .before .before .before .before .before .before .before .before .before .before .before) .pre .0), (c .before .before .before .before .before .before .before .before .before .before .before .before .before) .pre .1 .0 .numbers-long, (c .before .before .before .before .before .before .before .before .before .before .before .before .before) .pre .1 .0 .words-long))  -- read-rows-requires
-    (λ c κs. (masses-held ((c .before .before .before .before .before .before .before .before .before .before .before .before .before .before .before .before .before .before .before) .args .file .now) ((c .before .before .before .before .before .before .before .before .before .before .before .before .before .before .before .before .before .before .before) .args .trailer) ((c .before .before .before .before .before .before .before .before .before .before .before .before .before .before .before .before .before .before .before) .pre .0), (c .before .before .before .before .before .before .before .before .before .before .before .before .before .before .before .before .before .before .before) .pre .1 .0 .masses-long))  -- read-masses-requires
-    (λ c κs. (room-after ((c .before .before .before .before .before .before .before .before .before .before .before .before .before .before .before .before .before .before .before .before .before .before .before .before .before .before .before .before) .pre .1 .0) ((c .before .before .before .before .before .before .before .before .before .before .before .before .before .numbers) .given) ((c .before .before .before .before .before .before .before .before .before .before .before .words) .given) ((c .before .before .before .before .before .before .before .masses) .given) refl refl, (c .before .before .before .before .before .before .before .before .before .before .before .before .before .before .before .before .before .before .before .before .before .before .before .before .before .before .before .before) .pre .1 .1))  -- write-job-requires
-    (λ c. (c .before .before .before .before .before .before .before .numbers2) .given ∙ (c .before .before .before .before .before .before .before .before .before .before .before .before .before .before .before .before .before .before .before .before .before .before .numbers) .given)  -- same-length
-    (λ c. (c .before .before .before .before .before .before .before .before .before .before .before .before .before .before .before .before .before .before .before .before .words) .given)  -- same-length-2
-    (λ c. (c .before .before .before .before .before .before .before .before .before .before .before .before .before .before .before .before .masses) .given)  -- same-length-3
-    (λ c. (c .before .before .before .before .before .solution) .given)  -- same-length-4
-    (λ c. (c .before .before .before .impulses) .given)  -- same-length-5
-    (λ c. (c .before .out) .given)  -- same-length-6
-    (λ c. wrote-as (sheet-read ((c .before .before .before .before .before .before .before .before .before .before .before .before .before .before .before .before .before .before .before .before .before .before .before .before .before .before .before .before .before .before .before .before .before .before .before .before .before) .args .file .now) ((c .before .before .before .before .before .before .before .before .before .before .before .before .before .before .before .before .before .before .before .before .before .before .before .before .before .before .before .before .before .before .before .before .before .before .before .before .before) .args .trailer) ((c .before .before .before .before .before .before .before .before .before .before .before .before .before .before .before .before .before .before .before .before .before .before .before .before .before .before .before .before .before .before .before .before .before .before .before .before .before) .pre .0) ((c .before .before .before .before .before .before .before .before .before .before .before .before .before .before .before .before .before .before .before .before .before .before .before .read-rows) .ensures .0) ((c .before .before .before .before .before .before .before .before .before .before .before .before .before .before .before .before .before .before .before .before .before .before .before .read-rows) .ensures .1) ((c .before .before .before .before .before .before .before .before .before .before .before .before .before .before .before .before .before .read-masses) .ensures)) ((c .before .before .before .before .before .before .before .before .write-job) .ensures)))  -- returns
+    (λ c κs. (rows-held ((c .before .before .before .before .before .before .before .before .before .before .before .before .before .before .before) .args .file .now) ((c .before .before .before .before .before .before .before .before .before .before .before .before .before .before .before) .args .trailer) ((c .before .before .before .before .before .before .before .before .before .before .before .before .before .before .before) .pre .0), (c .before .before .before .before .before .before .before .before .before .before .before .before .before .before .before) .pre .1 .0 .numbers-long, (c .before .before .before .before .before .before .before .before .before .before .before .before .before .before .before) .pre .1 .0 .words-long))  -- read-rows-requires
+    (λ c κs. (masses-held ((c .before .before .before .before .before .before .before .before .before .before .before .before .before .before .before .before .before .before .before .before .before) .args .file .now) ((c .before .before .before .before .before .before .before .before .before .before .before .before .before .before .before .before .before .before .before .before .before) .args .trailer) ((c .before .before .before .before .before .before .before .before .before .before .before .before .before .before .before .before .before .before .before .before .before) .pre .0), (c .before .before .before .before .before .before .before .before .before .before .before .before .before .before .before .before .before .before .before .before .before) .pre .1 .0 .masses-long))  -- read-masses-requires
+    (λ c κs. (masses-held ((c .before .before .before .before .before .before .before .before .before .before .before .before .before .before .before .before .before .before .before .before .before .before .before .before .before) .args .file .now) ((c .before .before .before .before .before .before .before .before .before .before .before .before .before .before .before .before .before .before .before .before .before .before .before .before .before) .args .trailer) ((c .before .before .before .before .before .before .before .before .before .before .before .before .before .before .before .before .before .before .before .before .before .before .before .before .before) .pre .0), (c .before .before .before .before .before .before .before .before .before .before .before .before .before .before .before .before .before .before .before .before .before .before .before .before .before) .pre .1 .0 .centres-long))  -- read-centres-requires
+    (λ c κs. (room-after ((c .before .before .before .before .before .before .before .before .before .before .before .before .before .before .before .before .before .before .before .before .before .before .before .before .before .before .before .before .before .before .before .before .before .before .before .before) .pre .1 .0) ((c .before .before .before .before .before .before .before .before .before .before .before .before .before .before .before .before .before .before .before .numbers) .given) ((c .before .before .before .before .before .before .before .before .before .before .before .before .before .before .before .before .before .words) .given) ((c .before .before .before .before .before .before .before .before .before .before .before .before .before .masses) .given) ((c .before .before .before .before .before .before .before .before .before .centres) .given) refl refl refl, (c .before .before .before .before .before .before .before .before .before .before .before .before .before .before .before .before .before .before .before .before .before .before .before .before .before .before .before .before .before .before .before .before .before .before .before .before) .pre .1 .1))  -- write-job-requires
+    (λ c. (c .before .before .before .before .before .before .before .before .before .numbers2) .given ∙ (c .before .before .before .before .before .before .before .before .before .before .before .before .before .before .before .before .before .before .before .before .before .before .before .before .before .before .before .before .before .before .numbers) .given)  -- same-length
+    (λ c. (c .before .before .before .before .before .before .before .before .before .before .before .before .before .before .before .before .before .before .before .before .before .before .before .before .before .before .before .before .words) .given)  -- same-length-2
+    (λ c. (c .before .before .before .before .before .before .before .before .before .before .before .before .before .before .before .before .before .before .before .before .before .before .before .before .masses) .given)  -- same-length-3
+    (λ c. (c .before .before .before .before .before .before .before .before .before .before .before .before .before .before .before .before .before .before .before .before .centres) .given)  -- same-length-4
+    (λ c. (c .before .before .before .before .before .before .before .solution) .given)  -- same-length-5
+    (λ c. (c .before .before .before .before .before .impulses) .given)  -- same-length-6
+    (λ c. (c .before .before .before .new-centres) .given)  -- same-length-7
+    (λ c. (c .before .out) .given)  -- same-length-8
+    (λ c.
+    let read = sheet-read ((c .before .before .before .before .before .before .before .before .before .before .before .before .before .before .before .before .before .before .before .before .before .before .before .before .before .before .before .before .before .before .before .before .before .before .before .before .before .before .before .before .before .before .before .before .before .before .before) .args .file .now) ((c .before .before .before .before .before .before .before .before .before .before .before .before .before .before .before .before .before .before .before .before .before .before .before .before .before .before .before .before .before .before .before .before .before .before .before .before .before .before .before .before .before .before .before .before .before .before .before) .args .trailer) ((c .before .before .before .before .before .before .before .before .before .before .before .before .before .before .before .before .before .before .before .before .before .before .before .before .before .before .before .before .before .before .before .before .before .before .before .before .before .before .before .before .before .before .before .before .before .before .before) .pre .0) ((c .before .before .before .before .before .before .before .before .before .before .before .before .before .before .before .before .before .before .before .before .before .before .before .before .before .before .before .before .before .before .before .read-rows) .ensures .0) ((c .before .before .before .before .before .before .before .before .before .before .before .before .before .before .before .before .before .before .before .before .before .before .before .before .before .before .before .before .before .before .before .read-rows) .ensures .1) ((c .before .before .before .before .before .before .before .before .before .before .before .before .before .before .before .before .before .before .before .before .before .before .before .before .before .read-masses) .ensures) ((c .before .before .before .before .before .before .before .before .before .before .before .before .before .before .before .before .before .before .before .before .before .read-centres) .ensures) in
+    wrote-as read ((c .before .before .before .before .before .before .before .before .before .before .write-job) .ensures)))  -- returns

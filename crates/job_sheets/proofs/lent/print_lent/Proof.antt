@@ -12,6 +12,7 @@ print-lent-spec =
     (λ c. search needs)  -- slice-aggregate-read-job
     (λ c. search needs)  -- slice-aggregate-read-job-2
     (λ c. search needs)  -- slice-aggregate-read-job-3
+    (λ c. search needs)  -- slice-aggregate-read-job-4
     (λ c κs. search needs)  -- read-job-requires
     (λ c. search needs)  -- enum-known-opened
     (λ c. search needs)  -- enum-told
@@ -19,6 +20,7 @@ print-lent-spec =
     (λ c. search needs)  -- slice-aggregate-write-told
     (λ c. search needs)  -- slice-aggregate-write-told-2
     (λ c. search needs)  -- slice-aggregate-write-told-3
+    (λ c. search needs)  -- slice-aggregate-write-told-4
     (λ c κs. search needs)  -- write-told-requires
     (λ c. search needs)  -- slice-reshare-prefix-write-all
     (λ c. sym (length-take-le _ _ (search needs)))  -- slice-aggregate-write-all

@@ -23,9 +23,10 @@ solved-spec =
     (λ c. search needs)  -- slice-aggregate-kapitsa-solve-position-14
     (λ c. search needs)  -- slice-aggregate-kapitsa-solve-position-15
     (λ c κs. search needs)  -- kapitsa-solve-position-requires
-    (λ c. (c .before .before .before .before .before .before .before .before .before .before .before .before .before .before .before .before .before .before .before .before .before .before .numbers) .given)  -- same-length
-    (λ c. (c .before .before .before .before .before .before .before .before .before .before .before .before .before .before .before .before .before .before .before .before .solution) .given)  -- same-length-2
-    (λ c. (c .before .before .before .before .before .before .before .before .before .before .before .before .before .before .before .before .before .before .impulses) .given)  -- same-length-3
-    (λ c. (c .before .before .before .before .before .before .before .before .before .before .before .before .before .before .before .counts) .given)  -- same-length-4
-    (λ c. (c .before .before .before .before .before .before .before .before .before .before .before .before .before .maxima) .given)  -- same-length-5
+    (λ c. (c .before .before .before .before .before .before .before .before .before .before .before .before .before .before .before .before .before .before .before .before .before .before .before .before .numbers) .given)  -- same-length
+    (λ c. (c .before .before .before .before .before .before .before .before .before .before .before .before .before .before .before .before .before .before .before .before .before .before .solution) .given)  -- same-length-2
+    (λ c. (c .before .before .before .before .before .before .before .before .before .before .before .before .before .before .before .before .before .before .before .before .impulses) .given)  -- same-length-3
+    (λ c. (c .before .before .before .before .before .before .before .before .before .before .before .before .before .before .before .before .before .before .new-centres) .given)  -- same-length-4
+    (λ c. (c .before .before .before .before .before .before .before .before .before .before .before .before .before .before .before .counts) .given)  -- same-length-5
+    (λ c. (c .before .before .before .before .before .before .before .before .before .before .before .before .before .maxima) .given)  -- same-length-6
     (λ c. search needs))  -- returns

@@ -9,6 +9,6 @@ pub write-accepted-spec : {M : Type 1} → statement M
 write-accepted-spec =
     tie.close
     (tie.spec
-    (λ c κs. (omega arith, omega arith, listing-room _ _ _ _ _ _ _ _ _ _ (search needs) (search needs) (omega arith) (omega arith) (omega arith)))  -- write-listing-requires
+    (λ c κs. (omega arith, omega arith, omega arith, listing-room _ _ _ _ _ _ _ _ _ _ _ _ (search needs) (search needs) (omega arith) (omega arith) (omega arith)))  -- write-listing-requires
     (λ c. search needs)  -- same-length
     (λ c. search needs))  -- returns

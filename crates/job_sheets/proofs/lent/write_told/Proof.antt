@@ -13,6 +13,7 @@ write-told-spec =
     (λ c. search needs)  -- slice-aggregate-solved-2
     (λ c. search needs)  -- slice-aggregate-solved-3
     (λ c. search needs)  -- slice-aggregate-solved-4
+    (λ c. search needs)  -- slice-aggregate-solved-5
     (λ c κs. search needs)  -- solved-requires
     (λ c κs. refused-room _ _ (search needs) (omega arith))  -- write-refusal-requires
     (λ c. search needs)  -- same-length
@@ -23,12 +24,13 @@ write-told-spec =
     (λ c κs. search needs)  -- verdict-requires
     (λ c. search needs)  -- array-read-write-accepted
     (λ c. search needs)  -- array-read-write-accepted-2
-    (λ c. search needs)  -- array-read-t40
-    (λ c. search needs)  -- array-read-t43
+    (λ c. search needs)  -- array-read-t44
     (λ c. search needs)  -- array-read-t47
-    (λ c. search needs)  -- array-read-t50
+    (λ c. search needs)  -- array-read-t51
+    (λ c. search needs)  -- array-read-t54
     (λ c. search needs)  -- slice-aggregate-write-accepted
-    (λ c κs. (omega arith, omega arith, omega arith))  -- write-accepted-requires
+    (λ c. search needs)  -- slice-aggregate-write-accepted-2
+    (λ c κs. (omega arith, omega arith, omega arith, omega arith))  -- write-accepted-requires
     (λ c. search needs)  -- same-length-3
     (λ c. search needs)  -- same-length-4
     (λ c. search needs))  -- returns-2

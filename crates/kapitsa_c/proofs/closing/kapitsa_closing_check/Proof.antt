@@ -11,7 +11,7 @@ kapitsa-closing-check-spec =
     (λ c κs. search needs)  -- verdict-fits-requires
     (λ c. search needs)  -- same-length
     (λ c. search needs)  -- same-length-2
-    (λ c. untold _ _ _ _ _ _ _ _ ((c .before .verdict-fits) .ensures) ((c .if1) .taken))  -- returns
+    (λ c. untold _ _ _ _ _ _ _ _ _ ((c .before .verdict-fits) .ensures) ((c .if1) .taken))  -- returns
     (λ c κs. search needs)  -- closing-check-requires
     (λ c κs.
     told-lengths _ _
@@ -28,7 +28,7 @@ kapitsa-closing-check-spec =
     (λ c. (c .before .before .before .before .before .before .before .before .before .before .values) .given)  -- same-length-11
     (λ c. (c .before .before .before .before .before .before .before .before .sizes) .given)  -- same-length-12
     (λ c.
-    told-on _ _ _ _ _ _ _ _
+    told-on _ _ _ _ _ _ _ _ _
     ((c .before .before .before .before .before .before .before .before .before .before .before .before .before .before .before .before .before .before .before .before .before .before .before .before .before .before .before .before .before .before .before .before .before .verdict-fits) .ensures)
     ((c .before .before .before .before .before .before .before .before .before .before .before .before .before .before .before .before .before .before .before .before .before .before .before .before .before .before .before .before .before .before .before .before .if1) .left)
     ((c .before .before .before .before .before .before .before .before .before .before .before .before .before .before .before .before .before .before .before .before .before .before .before .closing-check) .ensures)

@@ -11,9 +11,10 @@ with-diagonal-spec =
     (λ c. search needs)  -- slice-aggregate-with-vectors
     (λ c. search needs)  -- slice-aggregate-with-vectors-2
     (λ c. search needs)  -- slice-aggregate-with-vectors-3
-    (λ c κs. ((c .before .before .before .before .before .before .before .before .before .before .before .before .before .before .before) .pre .0, ((c .before .before .before .before .before .before .before .before .before .before .before .before .before .before .before) .pre .1 .0, no-factor _ _ ((c .before .before .before .before .before .before .before .before .before .before .before .before .before .before .before) .pre .1 .1))))  -- with-vectors-requires
-    (λ c. (c .before .before .before .before .before .before .before .before .before .before .numbers) .given)  -- same-length
-    (λ c. (c .before .before .before .before .before .before .before .before .solution) .given)  -- same-length-2
-    (λ c. (c .before .before .before .before .before .before .impulses) .given)  -- same-length-3
-    (λ c. (c .before .before .before .before .rule-numbers) .given)  -- same-length-4
-    (λ c. (c .before .before .before .before .before .before .before .before .before .before .before .with-vectors) .ensures))  -- returns
+    (λ c κs. ((c .before .before .before .before .before .before .before .before .before .before .before .before .before .before .before .before .before .before) .pre .0, ((c .before .before .before .before .before .before .before .before .before .before .before .before .before .before .before .before .before .before) .pre .1 .0, no-factor _ _ ((c .before .before .before .before .before .before .before .before .before .before .before .before .before .before .before .before .before .before) .pre .1 .1))))  -- with-vectors-requires
+    (λ c. (c .before .before .before .before .before .before .before .before .before .before .before .before .numbers) .given)  -- same-length
+    (λ c. (c .before .before .before .before .before .before .before .before .before .before .solution) .given)  -- same-length-2
+    (λ c. (c .before .before .before .before .before .before .before .before .impulses) .given)  -- same-length-3
+    (λ c. (c .before .before .before .before .before .before .new-centres) .given)  -- same-length-4
+    (λ c. (c .before .before .before .before .rule-numbers) .given)  -- same-length-5
+    (λ c. (c .before .before .before .before .before .before .before .before .before .before .before .before .before .with-vectors) .ensures))  -- returns

@@ -45,11 +45,11 @@ open-table-spec =
     (judge-pass _ _ _ ((c .before .before .before .before .before .before .before .before .before .rules-fit) .ensures) ((c .before .before .before .before .before .before .before .before .if3) .left)
     (judge-pass _ _ _ (rows-28 _ _ _ _ _ _ _ _ ((c .before .before .before .before .before .before .before .wide2) .ensures) ((c .before .before .before .before .before .before .rows-ruled) .ensures)) ((c .before .before .before .before .before .if4) .left)
     (judge-pass _ _ _ (rows-five _ _ _ _ _ ((c .before .before .before .before .opens) .ensures)) ((c .before .before .before .if5) .left)
-    (judge-fail _ _ _ (masses-six _ _ _ _ _ _ _ ((c .before .before .wide3) .ensures) ((c .before .masses-finite) .ensures)) ((c .if6) .taken)))))))  -- returns-6
+    (judge-fail _ _ _ (masses-six _ _ _ _ _ _ _ _ ((c .before .before .wide3) .ensures) ((c .before .masses-finite) .ensures)) ((c .if6) .taken)))))))  -- returns-6
     (λ c.
     judge-pass _ _ _ ((c .before .before .before .before .before .before .before .before .before .before .before .before .before .before .shift-fits) .ensures) ((c .before .before .before .before .before .before .before .before .before .before .before .before .before .if1) .left)
     (judge-pass _ _ _ (words-four _ _ _ _ _ _ _ ((c .before .before .before .before .before .before .before .before .before .before .before .before .wide) .ensures) ((c .before .before .before .before .before .before .before .before .before .before .before .words-fit) .ensures)) ((c .before .before .before .before .before .before .before .before .before .before .if2) .left)
     (judge-pass _ _ _ ((c .before .before .before .before .before .before .before .before .before .rules-fit) .ensures) ((c .before .before .before .before .before .before .before .before .if3) .left)
     (judge-pass _ _ _ (rows-28 _ _ _ _ _ _ _ _ ((c .before .before .before .before .before .before .before .wide2) .ensures) ((c .before .before .before .before .before .before .rows-ruled) .ensures)) ((c .before .before .before .before .before .if4) .left)
     (judge-pass _ _ _ (rows-five _ _ _ _ _ ((c .before .before .before .before .opens) .ensures)) ((c .before .before .before .if5) .left)
-    (judge-pass _ _ _ (masses-six _ _ _ _ _ _ _ ((c .before .before .wide3) .ensures) ((c .before .masses-finite) .ensures)) ((c .if6) .left) judge-done)))))))  -- returns-7
+    (judge-pass _ _ _ (masses-six _ _ _ _ _ _ _ _ ((c .before .before .wide3) .ensures) ((c .before .masses-finite) .ensures)) ((c .if6) .left) judge-done)))))))  -- returns-7

@@ -2,7 +2,7 @@
 use Prim.Native.Nat.{_*_}
 use native.Mathlib.Omega.{arith}
 use Rattle.solve_replay.proofs.Filling.{filled-long, group-fits, group-near}
-use Rattle.solve_replay.proofs.Showing.{accepted-shown}
+use Rattle.solve_replay.proofs.Showing.{unpacked, accepted-shown}
 use Rattle.solve_replay.proofs.replay.answers_seen.Statement.{statement}
 use Rattle.solve_replay.proofs.replay.answers_seen.Tie as tie
 
@@ -11,15 +11,18 @@ answers-seen-spec =
     tie.close
     (tie.spec
     (λ c κs. record {})  -- wide-requires
-    (λ c κs. group-fits ((c .before .before .before .before .before .before .before .before .before) .args .answers .now) 2 ((c .before .before .before .before .before .before .before .before .before) .args .header .rows) _ _ ((c .before .before .before .before .before .before .before .before .before) .pre .1 .1 .0) ((c .before .wide) .ensures) (omega (arith, (c .before .before .before .before .before .before .before .before .before) .pre .0 .1)) (omega (arith, (c .before .before .before .before .before .before .before .before .before) .pre .0 .0)))  -- unpack-requires
     (λ c κs. record {})  -- wide-requires-2
-    (λ c κs. group-fits ((c .before .before .before .before .before .before .before .before .before .before .before .before .before .before) .args .body-words .now) 6 ((c .before .before .before .before .before .before .before .before .before .before .before .before .before .before) .args .header .bodies) _ _ ((c .before .before .before .before .before .before .before .before .before .before .before .before .before .before) .pre .1 .1 .1) ((c .before .wide2) .ensures) (omega (arith, (c .before .before .before .before .before .before .before .before .before .before .before .before .before .before) .pre .0 .2)) (omega (arith, (c .before .before .before .before .before .before .before .before .before .before .before .before .before .before) .pre .0 .0, group-near ((c .before .before .before .before .before .before .before .before .before .before .before .before .before .before) .args .answers .now) 2 ((c .before .before .before .before .before .before .before .before .before .before .before .before .before .before) .args .header .rows) _ _ ((c .before .before .before .before .before .before .before .before .before .before .before .before .before .before) .pre .1 .1 .0) ((c .before .before .before .before .before .before .wide) .ensures) (omega (arith, (c .before .before .before .before .before .before .before .before .before .before .before .before .before .before) .pre .0 .1)) _ ((c .before .before .before .before .unpack) .ensures .1))))  -- unpack-requires-2
+    (λ c κs. group-fits ((c .before .before .before .before .before .before .before .before .before .before .before .before) .args .answers .now) 2 ((c .before .before .before .before .before .before .before .before .before .before .before .before) .args .header .rows) _ _ ((c .before .before .before .before .before .before .before .before .before .before .before .before) .pre .1 .1 .0) ((c .before .before .wide) .ensures) (omega (arith, (c .before .before .before .before .before .before .before .before .before .before .before .before) .pre .0 .1)) (omega (arith, (c .before .before .before .before .before .before .before .before .before .before .before .before) .pre .0 .0)))  -- unpack-requires
+    (λ c κs. group-fits ((c .before .before .before .before .before .before .before .before .before .before .before .before .before .before .before .before) .args .body-words .now) 6 ((c .before .before .before .before .before .before .before .before .before .before .before .before .before .before .before .before) .args .header .bodies) _ _ ((c .before .before .before .before .before .before .before .before .before .before .before .before .before .before .before .before) .pre .1 .1 .1) ((c .before .before .before .before .before .wide2) .ensures) (omega (arith, (c .before .before .before .before .before .before .before .before .before .before .before .before .before .before .before .before) .pre .0 .2)) (omega (arith, (c .before .before .before .before .before .before .before .before .before .before .before .before .before .before .before .before) .pre .0 .0, group-near ((c .before .before .before .before .before .before .before .before .before .before .before .before .before .before .before .before) .args .answers .now) 2 ((c .before .before .before .before .before .before .before .before .before .before .before .before .before .before .before .before) .args .header .rows) _ _ ((c .before .before .before .before .before .before .before .before .before .before .before .before .before .before .before .before) .pre .1 .1 .0) ((c .before .before .before .before .before .before .wide) .ensures) (omega (arith, (c .before .before .before .before .before .before .before .before .before .before .before .before .before .before .before .before) .pre .0 .1)) _ ((c .before .before .before .unpack) .ensures .1))))  -- unpack-requires-2
+    (λ c κs. group-fits ((c .before .before .before .before .before .before .before .before .before .before .before .before .before .before .before .before .before .before .before .before) .args .centre-words .now) 3 ((c .before .before .before .before .before .before .before .before .before .before .before .before .before .before .before .before .before .before .before .before) .args .header .bodies) _ _ ((c .before .before .before .before .before .before .before .before .before .before .before .before .before .before .before .before .before .before .before .before) .pre .1 .1 .2) ((c .before .before .before .before .before .before .before .before .before .wide2) .ensures) (omega (arith, (c .before .before .before .before .before .before .before .before .before .before .before .before .before .before .before .before .before .before .before .before) .pre .0 .2)) (omega (arith, (c .before .before .before .before .before .before .before .before .before .before .before .before .before .before .before .before .before .before .before .before) .pre .0 .0, group-near ((c .before .before .before .before .before .before .before .before .before .before .before .before .before .before .before .before .before .before .before .before) .args .answers .now) 2 ((c .before .before .before .before .before .before .before .before .before .before .before .before .before .before .before .before .before .before .before .before) .args .header .rows) _ _ ((c .before .before .before .before .before .before .before .before .before .before .before .before .before .before .before .before .before .before .before .before) .pre .1 .1 .0) ((c .before .before .before .before .before .before .before .before .before .before .wide) .ensures) (omega (arith, (c .before .before .before .before .before .before .before .before .before .before .before .before .before .before .before .before .before .before .before .before) .pre .0 .1)) _ ((c .before .before .before .before .before .before .before .unpack) .ensures .1), group-near ((c .before .before .before .before .before .before .before .before .before .before .before .before .before .before .before .before .before .before .before .before) .args .body-words .now) 6 ((c .before .before .before .before .before .before .before .before .before .before .before .before .before .before .before .before .before .before .before .before) .args .header .bodies) _ _ ((c .before .before .before .before .before .before .before .before .before .before .before .before .before .before .before .before .before .before .before .before) .pre .1 .1 .1) ((c .before .before .before .before .before .before .before .before .before .wide2) .ensures) (omega (arith, (c .before .before .before .before .before .before .before .before .before .before .before .before .before .before .before .before .before .before .before .before) .pre .0 .2)) _ ((c .before .before .before .unpack2) .ensures .1))))  -- unpack-requires-3
     (λ c κs. record {})  -- flag-requires
-    (λ c. omega (arith, (c .flag) .ensures .1))  -- add-t19
+    (λ c. omega (arith, (c .flag) .ensures .1))  -- add-t25
     (λ c κs. record {})  -- same-result-requires
-    (λ c κs. (omega (arith, (c .before .before .before .before .before .before .before .before .before .before .before .before .before .before .before .before .before .before .before .before) .pre .1 .0 .1, (c .before .before .before .before .before .before .before .before .before .before .before .before .before .before .before .before .before .before .before .before) .pre .1 .0 .2), omega (arith, (c .before .before .before .before .before .before .before .before .before .before .before .before .before .before .before .before .before .before .before .before) .pre .1 .0 .2, (c .before .before .before .before .before .before .before .before .before .answers) .given, filled-long 0 (2 * (c .before .before .before .before .before .before .before .before .before .before .before .before .before .before .before .before .before .before .before .before) .args .header .rows) ((c .before .before .before .before .before .before .before .before .before .before .before .before .before .before .before .before .before .before .before .before) .args .answers .now) ((c .before .before .before .before .before .before .before .before .before .before .before .before .before .before .before .before .before .before .before .before) .pre .1 .1 .0)), omega (arith, (c .before .before .before .before .before .before .before .before .before .before .before .before .before .before .before .before .before .before .before .before) .pre .1 .0 .2, (c .before .before .before .before .before .before .before .before .before .before .before .before .before .before .before .before .before .before .before .before) .pre .0 .1)))  -- same-answers-requires
-    (λ c κs. omega (arith, (c .before .before .before .before .before .before .before .before .before .before .before .before .before .before .before .before .before .before .before .before .before .before) .pre .1 .0 .3, (c .before .before .before .before .before .before .body-words) .given, filled-long 0 (6 * (c .before .before .before .before .before .before .before .before .before .before .before .before .before .before .before .before .before .before .before .before .before .before) .args .header .bodies) ((c .before .before .before .before .before .before .before .before .before .before .before .before .before .before .before .before .before .before .before .before .before .before) .args .body-words .now) ((c .before .before .before .before .before .before .before .before .before .before .before .before .before .before .before .before .before .before .before .before .before .before) .pre .1 .1 .1)))  -- same-doubles-requires
-    (λ c κs. (omega (arith, (c .before .before .before .before .before .before .before .before .before .before .before .before .before .before .before .before .before .before .before .before .before .before .before) .pre .1 .0 .0, (c .before .before .before .before .before .before .before .before .before .before .before .before .before .before .before .before .before .before .before .before .before .before .before) .pre .1 .0 .1), omega (arith, (c .before .before .before .before .before .before .before .before .before .before .before .before .before .before .before .before .before .before .before .before .before .before .before) .pre .1 .0 .1, (c .before .before .before .before .before .before .before .before .before .before .before .before .before .before .before .before .before .before .before .before .before .before .before) .pre .0 .1)))  -- kept-numbers-requires
-    (λ c. (c .before .before .before .before .before .before .before .before .before .before .before .before .before .answers) .given)  -- same-length
-    (λ c. (c .before .before .before .before .before .before .before .before .body-words) .given)  -- same-length-2
-    (λ c. accepted-shown _ _ _ _ _ _ _ _ _ _ _ _ _ _ _ _ _ _ _ ((c .before .before .before .before .before .before .before .before .before .before .before .before .before .before .before .before .wide) .ensures) ((c .before .before .before .before .before .before .before .before .before .before .before .wide2) .ensures) ((c .before .before .before .before .before .before .before .before .before .before .before .before .before .before .before .before .before .before .before .before .before .before .before .before) .pre .1 .1 .0) ((c .before .before .before .before .before .before .before .before .before .before .before .before .before .before .before .before .before .before .before .before .before .before .before .before) .pre .1 .1 .1) ((c .before .before .before .before .before .before .before .before .before .before .before .before .before .before .unpack) .ensures .0) ((c .before .before .before .before .before .before .before .before .before .unpack2) .ensures .0) ((c .before .before .before .before .before .before .flag) .ensures .0) ((c .before .before .before .before .before .same-result) .ensures) ((c .before .before .before .same-answers) .ensures) ((c .before .same-doubles) .ensures) ((c .kept-numbers) .ensures)))  -- returns
+    (λ c κs. (omega (arith, (c .before .before .before .before .before .before .before .before .before .before .before .before .before .before .before .before .before .before .before .before .before .before .before .before .before .before) .pre .1 .0 .1, (c .before .before .before .before .before .before .before .before .before .before .before .before .before .before .before .before .before .before .before .before .before .before .before .before .before .before) .pre .1 .0 .2), omega (arith, (c .before .before .before .before .before .before .before .before .before .before .before .before .before .before .before .before .before .before .before .before .before .before .before .before .before .before) .pre .1 .0 .2, (c .before .before .before .before .before .before .before .before .before .before .before .before .answers) .given, filled-long 0 (2 * (c .before .before .before .before .before .before .before .before .before .before .before .before .before .before .before .before .before .before .before .before .before .before .before .before .before .before) .args .header .rows) ((c .before .before .before .before .before .before .before .before .before .before .before .before .before .before .before .before .before .before .before .before .before .before .before .before .before .before) .args .answers .now) ((c .before .before .before .before .before .before .before .before .before .before .before .before .before .before .before .before .before .before .before .before .before .before .before .before .before .before) .pre .1 .1 .0)), omega (arith, (c .before .before .before .before .before .before .before .before .before .before .before .before .before .before .before .before .before .before .before .before .before .before .before .before .before .before) .pre .1 .0 .2, (c .before .before .before .before .before .before .before .before .before .before .before .before .before .before .before .before .before .before .before .before .before .before .before .before .before .before) .pre .0 .1)))  -- same-answers-requires
+    (λ c κs. omega (arith, (c .before .before .before .before .before .before .before .before .before .before .before .before .before .before .before .before .before .before .before .before .before .before .before .before .before .before .before .before) .pre .1 .0 .3, (c .before .before .before .before .before .before .before .before .before .before .body-words) .given, filled-long 0 (6 * (c .before .before .before .before .before .before .before .before .before .before .before .before .before .before .before .before .before .before .before .before .before .before .before .before .before .before .before .before) .args .header .bodies) ((c .before .before .before .before .before .before .before .before .before .before .before .before .before .before .before .before .before .before .before .before .before .before .before .before .before .before .before .before) .args .body-words .now) ((c .before .before .before .before .before .before .before .before .before .before .before .before .before .before .before .before .before .before .before .before .before .before .before .before .before .before .before .before) .pre .1 .1 .1)))  -- same-doubles-requires
+    (λ c κs. omega (arith, (c .before .before .before .before .before .before .before .before .before .before .before .before .before .before .before .before .before .before .before .before .before .before .before .before .before .before .before .before .before .before) .pre .1 .0 .4, (c .before .before .before .before .before .before .before .before .centre-words) .given, filled-long 0 (3 * (c .before .before .before .before .before .before .before .before .before .before .before .before .before .before .before .before .before .before .before .before .before .before .before .before .before .before .before .before .before .before) .args .header .bodies) ((c .before .before .before .before .before .before .before .before .before .before .before .before .before .before .before .before .before .before .before .before .before .before .before .before .before .before .before .before .before .before) .args .centre-words .now) ((c .before .before .before .before .before .before .before .before .before .before .before .before .before .before .before .before .before .before .before .before .before .before .before .before .before .before .before .before .before .before) .pre .1 .1 .2)))  -- same-doubles-requires-2
+    (λ c κs. (omega (arith, (c .before .before .before .before .before .before .before .before .before .before .before .before .before .before .before .before .before .before .before .before .before .before .before .before .before .before .before .before .before .before .before) .pre .1 .0 .0, (c .before .before .before .before .before .before .before .before .before .before .before .before .before .before .before .before .before .before .before .before .before .before .before .before .before .before .before .before .before .before .before) .pre .1 .0 .1), omega (arith, (c .before .before .before .before .before .before .before .before .before .before .before .before .before .before .before .before .before .before .before .before .before .before .before .before .before .before .before .before .before .before .before) .pre .1 .0 .1, (c .before .before .before .before .before .before .before .before .before .before .before .before .before .before .before .before .before .before .before .before .before .before .before .before .before .before .before .before .before .before .before) .pre .0 .1)))  -- kept-numbers-requires
+    (λ c. (c .before .before .before .before .before .before .before .before .before .before .before .before .before .before .before .before .before .before .answers) .given)  -- same-length
+    (λ c. (c .before .before .before .before .before .before .before .before .before .before .before .before .before .before .body-words) .given)  -- same-length-2
+    (λ c. (c .before .before .before .before .before .before .before .before .before .before .centre-words) .given)  -- same-length-3
+    (λ c. accepted-shown _ _ _ _ _ _ (unpacked _ _ _ ((c .before .before .before .before .before .before .before .before .before .before .before .before .before .before .before .before .before .before .before .before .before .before .before .before .before .before .before .before .before .before .before .before) .pre .1 .1 .0) ((c .before .before .before .before .before .before .before .before .before .before .before .before .before .before .before .before .before .before .before .before .before .before .wide) .ensures) ((c .before .before .before .before .before .before .before .before .before .before .before .before .before .before .before .before .before .before .before .unpack) .ensures .0)) (unpacked _ _ _ ((c .before .before .before .before .before .before .before .before .before .before .before .before .before .before .before .before .before .before .before .before .before .before .before .before .before .before .before .before .before .before .before .before) .pre .1 .1 .1) ((c .before .before .before .before .before .before .before .before .before .before .before .before .before .before .before .before .before .before .before .before .before .wide2) .ensures) ((c .before .before .before .before .before .before .before .before .before .before .before .before .before .before .before .unpack2) .ensures .0)) (unpacked _ _ _ ((c .before .before .before .before .before .before .before .before .before .before .before .before .before .before .before .before .before .before .before .before .before .before .before .before .before .before .before .before .before .before .before .before) .pre .1 .1 .2) ((c .before .before .before .before .before .before .before .before .before .before .before .before .before .before .before .before .before .before .before .before .before .wide2) .ensures) ((c .before .before .before .before .before .before .before .before .before .before .before .unpack3) .ensures .0)) ((c .before .before .before .before .before .before .before .before .flag) .ensures .0) ((c .before .before .before .before .before .before .before .same-result) .ensures) ((c .before .before .before .before .before .same-answers) .ensures) ((c .before .before .before .same-doubles) .ensures) ((c .before .same-doubles2) .ensures) ((c .kept-numbers) .ensures)))  -- returns

@@ -9,7 +9,8 @@ unfolding refusedSeen
 refused-seen-spec =
     tie.close
     (tie.spec
-    (λ c κs. (omega (arith, (c .before .before .before .before .before .before) .pre .1 .0, (c .before .before .before .before .before .before) .pre .1 .1), omega (arith, (c .before .before .before .before .before .before) .pre .1 .1, (c .before .before .before .before .before .before) .pre .0 .0)))  -- kept-numbers-requires
+    (λ c κs. (omega (arith, (c .before .before .before .before .before .before .before) .pre .1 .0, (c .before .before .before .before .before .before .before) .pre .1 .1), omega (arith, (c .before .before .before .before .before .before .before) .pre .1 .1, (c .before .before .before .before .before .before .before) .pre .0 .0)))  -- kept-numbers-requires
     (λ c κs. record {})  -- unwritten-requires
     (λ c κs. record {})  -- unwritten-requires-2
-    (λ c. rw ((c .before .before .kept-numbers) .ensures, (c .before .unwritten) .ensures, (c .unwritten2) .ensures)))  -- returns
+    (λ c κs. record {})  -- unwritten-requires-3
+    (λ c. rw ((c .before .before .before .kept-numbers) .ensures, (c .before .before .unwritten) .ensures, (c .before .unwritten2) .ensures, (c .unwritten3) .ensures)))  -- returns

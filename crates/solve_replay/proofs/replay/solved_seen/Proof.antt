@@ -17,18 +17,20 @@ solved-seen-spec =
     (λ c. search loops)  -- cast-n
     (λ c. search loops)  -- slice-aggregate-solve-position
     (λ c. search loops)  -- slice-aggregate-solve-position-2
-    (λ c. omega (arith, (c .before .before .before .before .before .before .before .before .before .before .before .before .before .before) .pre .0 .1))  -- array-borrow-prefix-rule-numbers
-    (λ c. sym (length-take-le _ _ (omega (arith, (c .before .before .before .before .before .before .before .before .before .before .before .before .before .before .before) .pre .0 .1))))  -- slice-aggregate-solve-position-3
+    (λ c. omega (arith, (c .before .before .before .before .before .before .before .before .before .before .before .before .before .before .before .before .before) .pre .0 .1))  -- array-borrow-prefix-rule-numbers
+    (λ c. sym (length-take-le _ _ (omega (arith, (c .before .before .before .before .before .before .before .before .before .before .before .before .before .before .before .before .before .before) .pre .0 .1))))  -- slice-aggregate-solve-position-3
     (λ c κs. record {})  -- solve-position-requires
     (λ c. search loops)  -- enum-known-answer
-    (λ c κs. ((c .before .before .before .before .before .before .before .before .before .before .before .before .before .before .before .before .before .before .before .before .before .before .before .before .before .before .before .before .before) .pre .0, ((c .before .before .before .before .before .before .before .before .before .before .before .before .before .before .before .before .before .before .before .before .before .before .before .before .before .before .before .before .before) .pre .1 .0, (c .before .before .before .before .before .before .before .before .before .before .before .before .numbers) .given ∙ (c .before .before .before .before .before .before .before .before .before .before .before .before .before .before .before .before .before .before .before .before .before .before .before .before .before .before .before .before .before) .pre .1 .1, (c .before .before .before .before .before .before .before .before .before .before .solution) .given ∙ (c .before .before .before .before .before .before .before .before .before .before .before .before .before .before .before .before .before .before .before .before .before .before .before .before .before .before .before .before .before) .pre .1 .2, (c .before .before .before .before .before .before .before .before .impulses) .given ∙ (c .before .before .before .before .before .before .before .before .before .before .before .before .before .before .before .before .before .before .before .before .before .before .before .before .before .before .before .before .before) .pre .1 .3)))  -- accepted-seen-requires
+    (λ c κs. ((c .before .before .before .before .before .before .before .before .before .before .before .before .before .before .before .before .before .before .before .before .before .before .before .before .before .before .before .before .before .before .before .before .before .before .before) .pre .0, ((c .before .before .before .before .before .before .before .before .before .before .before .before .before .before .before .before .before .before .before .before .before .before .before .before .before .before .before .before .before .before .before .before .before .before .before) .pre .1 .0, (c .before .before .before .before .before .before .before .before .before .before .before .before .before .before .before .numbers) .given ∙ (c .before .before .before .before .before .before .before .before .before .before .before .before .before .before .before .before .before .before .before .before .before .before .before .before .before .before .before .before .before .before .before .before .before .before .before) .pre .1 .1, (c .before .before .before .before .before .before .before .before .before .before .before .before .before .solution) .given ∙ (c .before .before .before .before .before .before .before .before .before .before .before .before .before .before .before .before .before .before .before .before .before .before .before .before .before .before .before .before .before .before .before .before .before .before .before) .pre .1 .2, (c .before .before .before .before .before .before .before .before .before .before .before .impulses) .given ∙ (c .before .before .before .before .before .before .before .before .before .before .before .before .before .before .before .before .before .before .before .before .before .before .before .before .before .before .before .before .before .before .before .before .before .before .before) .pre .1 .3, (c .before .before .before .before .before .before .before .before .before .new-centres) .given ∙ (c .before .before .before .before .before .before .before .before .before .before .before .before .before .before .before .before .before .before .before .before .before .before .before .before .before .before .before .before .before .before .before .before .before .before .before) .pre .1 .4)))  -- accepted-seen-requires
     (λ c. search loops)  -- enum-known-answer-2
-    (λ c κs. (((c .before .before .before .before .before .before .before .before .before .before .before .before .before .before .before .before .before .before .before .before .before .before .before .before .before .before .before .before .before) .pre .0 .1, (c .before .before .before .before .before .before .before .before .before .before .before .before .before .before .before .before .before .before .before .before .before .before .before .before .before .before .before .before .before) .pre .0 .2), ((c .before .before .before .before .before .before .before .before .before .before .before .before .before .before .before .before .before .before .before .before .before .before .before .before .before .before .before .before .before) .pre .1 .0, (c .before .before .before .before .before .before .before .before .before .before .before .before .numbers) .given ∙ (c .before .before .before .before .before .before .before .before .before .before .before .before .before .before .before .before .before .before .before .before .before .before .before .before .before .before .before .before .before) .pre .1 .1, (c .before .before .before .before .before .before .before .before .before .before .solution) .given ∙ (c .before .before .before .before .before .before .before .before .before .before .before .before .before .before .before .before .before .before .before .before .before .before .before .before .before .before .before .before .before) .pre .1 .2, (c .before .before .before .before .before .before .before .before .impulses) .given ∙ (c .before .before .before .before .before .before .before .before .before .before .before .before .before .before .before .before .before .before .before .before .before .before .before .before .before .before .before .before .before) .pre .1 .3)))  -- refused-seen-requires
-    (λ c. (c .before .before .before .before .before .before .before .before .before .before .before .before .before .numbers) .given)  -- same-length
-    (λ c. (c .before .before .before .before .before .before .before .before .before .before .before .solution) .given)  -- same-length-2
-    (λ c. (c .before .before .before .before .before .before .before .before .before .impulses) .given)  -- same-length-3
-    (λ c. solved-accepted _ _ _ _ _ _ _ _ _ _ _ _ _ _ ((c .before .before .before .before .before .before .before .before .before .before .before .before .before .before .before .before .before .before .before .before .before .before .tolerance-in) .ensures) (length-take-le _ _ (omega (arith, (c .before .before .before .before .before .before .before .before .before .before .before .before .before .before .before .before .before .before .before .before .before .before .before .before .before .before .before .before .before .before) .pre .0 .1))) ((c .before .before .before .before .before .before .before .before .before .before .before .before .before .before .solve-position) .ensures .answered) _ ((c .before .before .before .before .before .answer) .given .1) ((c .accepted-seen) .ensures))  -- returns
-    (λ c. (c .before .before .before .before .before .before .before .before .before .before .before .before .before .numbers) .given)  -- same-length-4
-    (λ c. (c .before .before .before .before .before .before .before .before .before .before .before .solution) .given)  -- same-length-5
-    (λ c. (c .before .before .before .before .before .before .before .before .before .impulses) .given)  -- same-length-6
-    (λ c. solved-refused _ _ _ _ _ _ _ _ _ _ _ _ _ _ ((c .before .before .before .before .before .before .before .before .before .before .before .before .before .before .before .before .before .before .before .before .before .before .tolerance-in) .ensures) (length-take-le _ _ (omega (arith, (c .before .before .before .before .before .before .before .before .before .before .before .before .before .before .before .before .before .before .before .before .before .before .before .before .before .before .before .before .before .before) .pre .0 .1))) ((c .before .before .before .before .before .before .before .before .before .before .before .before .before .before .solve-position) .ensures .answered) _ ((c .before .before .before .before .before .answer2) .given .1) ((c .refused-seen) .ensures)))  -- returns-2
+    (λ c κs. (((c .before .before .before .before .before .before .before .before .before .before .before .before .before .before .before .before .before .before .before .before .before .before .before .before .before .before .before .before .before .before .before .before .before .before .before) .pre .0 .1, (c .before .before .before .before .before .before .before .before .before .before .before .before .before .before .before .before .before .before .before .before .before .before .before .before .before .before .before .before .before .before .before .before .before .before .before) .pre .0 .2), ((c .before .before .before .before .before .before .before .before .before .before .before .before .before .before .before .before .before .before .before .before .before .before .before .before .before .before .before .before .before .before .before .before .before .before .before) .pre .1 .0, (c .before .before .before .before .before .before .before .before .before .before .before .before .before .before .before .numbers) .given ∙ (c .before .before .before .before .before .before .before .before .before .before .before .before .before .before .before .before .before .before .before .before .before .before .before .before .before .before .before .before .before .before .before .before .before .before .before) .pre .1 .1, (c .before .before .before .before .before .before .before .before .before .before .before .before .before .solution) .given ∙ (c .before .before .before .before .before .before .before .before .before .before .before .before .before .before .before .before .before .before .before .before .before .before .before .before .before .before .before .before .before .before .before .before .before .before .before) .pre .1 .2, (c .before .before .before .before .before .before .before .before .before .before .before .impulses) .given ∙ (c .before .before .before .before .before .before .before .before .before .before .before .before .before .before .before .before .before .before .before .before .before .before .before .before .before .before .before .before .before .before .before .before .before .before .before) .pre .1 .3, (c .before .before .before .before .before .before .before .before .before .new-centres) .given ∙ (c .before .before .before .before .before .before .before .before .before .before .before .before .before .before .before .before .before .before .before .before .before .before .before .before .before .before .before .before .before .before .before .before .before .before .before) .pre .1 .4)))  -- refused-seen-requires
+    (λ c. (c .before .before .before .before .before .before .before .before .before .before .before .before .before .before .before .before .numbers) .given)  -- same-length
+    (λ c. (c .before .before .before .before .before .before .before .before .before .before .before .before .before .before .solution) .given)  -- same-length-2
+    (λ c. (c .before .before .before .before .before .before .before .before .before .before .before .before .impulses) .given)  -- same-length-3
+    (λ c. (c .before .before .before .before .before .before .before .before .before .before .new-centres) .given)  -- same-length-4
+    (λ c. solved-accepted _ _ _ _ _ _ _ _ _ _ _ _ _ ((c .before .before .before .before .before .before .before .before .before .before .before .before .before .before .before .before .before .before .before .before .before .before .before .before .before .before .tolerance-in) .ensures) (length-take-le _ _ (omega (arith, (c .before .before .before .before .before .before .before .before .before .before .before .before .before .before .before .before .before .before .before .before .before .before .before .before .before .before .before .before .before .before .before .before .before .before .before .before) .pre .0 .1))) ((c .before .before .before .before .before .before .before .before .before .before .before .before .before .before .before .before .before .solve-position) .ensures .answered) _ ((c .before .before .before .before .before .before .answer) .given .1) ((c .accepted-seen) .ensures))  -- returns
+    (λ c. (c .before .before .before .before .before .before .before .before .before .before .before .before .before .before .before .before .numbers) .given)  -- same-length-5
+    (λ c. (c .before .before .before .before .before .before .before .before .before .before .before .before .before .before .solution) .given)  -- same-length-6
+    (λ c. (c .before .before .before .before .before .before .before .before .before .before .before .before .impulses) .given)  -- same-length-7
+    (λ c. (c .before .before .before .before .before .before .before .before .before .before .new-centres) .given)  -- same-length-8
+    (λ c. solved-refused _ _ _ _ _ _ _ _ _ _ _ _ _ ((c .before .before .before .before .before .before .before .before .before .before .before .before .before .before .before .before .before .before .before .before .before .before .before .before .before .before .tolerance-in) .ensures) (length-take-le _ _ (omega (arith, (c .before .before .before .before .before .before .before .before .before .before .before .before .before .before .before .before .before .before .before .before .before .before .before .before .before .before .before .before .before .before .before .before .before .before .before .before) .pre .0 .1))) ((c .before .before .before .before .before .before .before .before .before .before .before .before .before .before .before .before .before .solve-position) .ensures .answered) _ ((c .before .before .before .before .before .before .answer2) .given .1) ((c .refused-seen) .ensures)))  -- returns-2

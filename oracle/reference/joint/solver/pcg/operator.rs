@@ -16,9 +16,9 @@ pub struct Operator {
 }
 
 impl Operator {
-    /// `numbers` has 27 doubles a row, `words` 8 u32 a row, `masses` 10 doubles a body.
-    pub fn new(numbers: &[f64], words: &[u32], masses: &[f64]) -> Self {
-        let (rows, masses) = (rows_of(numbers, words), masses_of(masses));
+    /// `numbers` has 27 doubles a row, `words` 8 u32 a row, `masses` 10 doubles a body, `centres` 3.
+    pub fn new(numbers: &[f64], words: &[u32], masses: &[f64], centres: &[f64]) -> Self {
+        let (rows, masses) = (rows_of(numbers, words), masses_of(masses, centres));
         Self {
             impulses: vec![GeneralizedImpulse::default(); masses.len()],
             responses: vec![GeneralizedImpulse::default(); masses.len()],

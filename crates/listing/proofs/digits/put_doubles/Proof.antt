@@ -1,22 +1,23 @@
--- `listing::lines::put_six` meets its contract: the impulses below k are written. Assumes nothing.
+-- `listing::digits::put_doubles` meets its contract: the numbers below k are written. Assumes nothing.
 use native.Mathlib.Omega.{arith}
 use Prim.Native.Nat.{_-_, _+_}
 use lib.ListN.{getD}
 use lib.Ieee.{nan}
 use Rattle.loops.proofs.Loop.{loops}
 use Rattle.listing.proofs.Pieces.{Writing, writing-none, writing-room, writing-more, writing-length, writing-end}
-use Rattle.listing.specs.Digits.{double}
-use Rattle.listing.proofs.lines.put_six.Statement.{statement}
-use Rattle.listing.proofs.lines.put_six.Tie as tie
+use Rattle.listing.specs.Digits.{double, doubles}
+use Rattle.listing.proofs.digits.put_doubles.Statement.{statement}
+use Rattle.listing.proofs.digits.put_doubles.Tie as tie
 
 abbrev Inv-loop : tie.InvT-loop
-Inv-loop out₀ at impulses first next₀ k₀ out next k = Writing out₀ at (λ k. double (getD impulses (first + k) nan)) 6 k out next
+Inv-loop out₀ at list first n next₀ k₀ out next k = Writing out₀ at (λ k. double (getD list (first + k) nan)) n k out next
 
 abbrev μ-loop : tie.MeasureT-loop
-μ-loop out₀ at impulses first next₀ k₀ out next k = 6 - k
+μ-loop out₀ at list first n next₀ k₀ out next k = n - k
 
-pub put-six-spec : {M : Type 1} → statement M
-put-six-spec =
+pub put-doubles-spec : {M : Type 1} → statement M
+unfolding doubles
+put-doubles-spec =
     tie.close
     (tie.spec Inv-loop μ-loop
     (λ c. writing-none ((c .before .before) .pre .1))  -- loop-holds

@@ -1,0 +1,13 @@
+-- `position::centre::is_zero` meets its contract. Assumes nothing.
+use lib.Ieee.{eq}
+use borrow.Author.Needs.{needs}
+use Rattle.position.specs.Centres.{zeroOf}
+use Rattle.position.proofs.centre.is_zero.Statement.{statement}
+use Rattle.position.proofs.centre.is_zero.Tie as tie
+
+pub is-zero-spec : {M : Type 1} → statement M
+unfolding eq zeroOf
+is-zero-spec =
+    tie.close
+    (tie.spec
+    (λ c. search needs))  -- returns
