@@ -1,14 +1,22 @@
 #!/usr/bin/env python3
 """Replays worked cases of document 02 on an implementation, and compares every bit.
 
-    python3 oracle/cases.py [FILE..] [--library SO] [--program BIN]
+    python3 oracle/cases.py [FILE..] [--library SO] [--program BIN] [--converter BIN]
 
 FILE is a list of cases, one JSON object a line; its folder's README has the format. Without one,
 every *.jsonl of the folder KAPITSA_CASES is read, by default ../shared/cases seen from the
 repository's root. --library is a shared library with the functions that src/adapter.c declares:
 the port's (oracle/target/port.so, the default, made by oracle/port), or the model behind the same
 functions (oracle/target/reference_o0.so, made by oracle/build). --program is the job program, by
-default target/bin/job. Where one of them is not there, its cases are left out.
+default target/bin/job, and --converter the converter, by default target/bin/convert. Where one of
+them is not there, its cases are left out.
+
+Of document 02, e: a convert case is one run of the converter; a same case two, whose files must be
+equal or not. The writer has no program of its own. A write case is held to a writer in this script,
+and goes through the converter as a job file of its numbers with the masses before the rows and bytes
+of no meaning between them: the converter writes as the writer does, so that bytes and refusals must
+be the case's. What that leaves out is a job that no job file holds, for which this script's writer
+alone speaks, and a slice or an output of another length, of which there is no case.
 
 Prints, for each list, how many cases of each kind are equal, which differ, and how many are left
 out and why. The exit status is 1 where one differs, or none was compared.
@@ -29,14 +37,16 @@ import sys
 HOME = pathlib.Path(__file__).resolve().parent
 
 # The requests of document 02 that are in place. A case is left out while it needs another.
-LANDED = {"d", "f", "h", "j", "k"}
+LANDED = {"d", "e", "f", "h", "j", "k"}
 
 # The request that brings a kind of case.
-BROUGHT_BY = {"groups": "g", "margins": "m", "write": "e", "convert": "e", "same": "e", "sequence": "l"}
+BROUGHT_BY = {"groups": "g", "margins": "m", "sequence": "l"}
+BROUGHT_BY |= dict.fromkeys(("write", "write beyond a file", "convert", "same"), "e")
 
 ROW_NUMBERS, ROW_BYTES = 27, 248
 MULTIPLIER = 24
 TRAILER_BYTES = 48
+MOST_BYTES = 65_536
 
 # Fills lent outputs beforehand: what stays as it was shows. The bits of a NaN with a payload.
 UNTOUCHED = 0x7FF800005EED5EED
@@ -80,6 +90,7 @@ class Job:
         self.rows, self.bodies, self.limit, self.mode = trailer[:4]
         self.tolerances = [trailer.linear, trailer.angular]
         self.tolerance_bits = struct.unpack("<2Q", container[-24:-8])
+        self.layout = trailer.layout
         mass_bytes = 104 if trailer.layout == 1 else 80
 
         def records(offset, count, size):
@@ -92,6 +103,53 @@ class Job:
         self.words = b"".join(row[8 * ROW_NUMBERS :] for row in rows)
         self.masses = b"".join(mass[:80] for mass in masses)
         self.centres = b"".join(mass[80:] if trailer.layout == 1 else bytes(24) for mass in masses)
+
+    def row_section(self):
+        numbers, words = 8 * ROW_NUMBERS, ROW_BYTES - 8 * ROW_NUMBERS
+        return b"".join(
+            self.numbers[numbers * i : numbers * (i + 1)] + self.words[words * i : words * (i + 1)]
+            for i in range(self.rows)
+        )
+
+    def mass_section(self, layout):
+        return b"".join(
+            self.masses[80 * b : 80 * (b + 1)] + (self.centres[24 * b : 24 * (b + 1)] if layout == 1 else b"")
+            for b in range(self.bodies)
+        )
+
+    def trailer(self, row_offset, mass_offset, length, layout):
+        words = (self.rows, self.bodies, self.limit, self.mode, row_offset, mass_offset)
+        return struct.pack("<6I2Q2I", *words, *self.tolerance_bits, length, layout)
+
+    def elsewhere(self):
+        """A job file of this job in its own layout: masses first, with bytes that belong to nothing."""
+        rows, masses = self.row_section(), self.mass_section(self.layout)
+        before, between, behind = b"\xa5" * 3, b"\x5a" * 5, b"\xff"
+        row_offset = len(before + masses + between)
+        body = before + masses + between + rows + behind
+        return body + self.trailer(row_offset, len(before), len(body) + TRAILER_BYTES, self.layout)
+
+    def words_fit(self):
+        """Refusal 4's test."""
+        words = struct.unpack(f"<{len(self.words) // 4}I", self.words)
+        rows = zip(*(words[place::8] for place in range(8)))
+        return all(
+            key < 256 and dimension < 2 and driven < 2 and enabled < 2 and spare == 0
+            for key, dimension, _, _, driven, enabled, _, spare in rows
+        )
+
+    def written(self, layout):
+        """The one written form of this job, or the number by which the writer turns it back."""
+        if self.rows > 128 or self.bodies > 64:
+            return 2
+        if self.mode > 2 or layout > 1:
+            return 3
+        if not self.words_fit():
+            return 4
+        if layout == 0 and any(self.centres):
+            return 24
+        rows, masses = self.row_section(), self.mass_section(layout)
+        return rows + masses + self.trailer(0, len(rows), len(rows + masses) + TRAILER_BYTES, layout)
 
 
 def lent(kind, data):
@@ -206,6 +264,37 @@ class Program:
         )
 
 
+class Converter:
+    """The converter's own process, and the writer as far as it shows in it."""
+
+    def __init__(self, path):
+        self.path = path
+
+    def run(self, file, layout):
+        """The file, or the number of the refusal."""
+        run = subprocess.run([self.path, ("old", "new")[layout]], input=file, capture_output=True, timeout=60)
+        line = re.fullmatch(rb"convert (\d+)\n", run.stdout)
+        return f"exit status {run.returncode}" if run.returncode else int(line[1]) if line else run.stdout
+
+    def convert(self, case):
+        return different(("file or refusal", self.run(case.file, case.layout), case.outcome(case.file)))
+
+    def write(self, case):
+        found = self.run(case.job.elsewhere(), case.layout)
+        return writer(case) + different(("file or refusal", found, case.outcome(case.container)))
+
+    def same(self, case):
+        both = [self.run(file, case.layout) for file in (case.file, case.other)]
+        if not all(isinstance(one, bytes) for one in both):
+            return [f"refused: {both}"]
+        return different(("equal bytes", int(both[0] == both[1]), case.expect["equal"]))
+
+
+def writer(case):
+    """The writer of this script."""
+    return different(("this script's writer", case.job.written(case.layout), case.outcome(case.container)))
+
+
 def different(*compared):
     return [
         f"{what}: {shown(found)}, wanted {shown(wanted)}"
@@ -217,15 +306,20 @@ def different(*compared):
 def shown(value):
     if isinstance(value, list):
         return "[" + " ".join(f"{one:x}" for one in value) + "]"
-    return repr(value)
+    return f"{len(value)} bytes" if isinstance(value, bytes) else repr(value)
 
 
 class Case:
     def __init__(self, line):
         given = json.loads(line)
         self.name, self.op, self.expect = given["name"], given["op"], given["expect"]
-        self.job = Job(bytes_of(given["job"])) if "job" in given else None
+        self.container = bytes_of(given["job"]) if "job" in given else None
+        self.job = Job(self.container) if "job" in given else None
         self.file = bytes_of(given["file"]) if "file" in given else None
+        self.other = bytes_of(given["other"]) if "other" in given else None
+        self.layout = given.get("layout")
+        if self.op == "write" and len(self.job.elsewhere()) > MOST_BYTES:
+            self.op = "write beyond a file"
         self.list = b"".join(struct.pack("<Q", one) for one in bits_of(given.get("list", "")))
         self.shift = double(bits_of(given["shift"])[0]) if "shift" in given else 0.0
         self.rules = [(*words, bits_of(tolerance)[0]) for *words, tolerance in given.get("rules", [])]
@@ -233,6 +327,11 @@ class Case:
         if self.job and not self.has_rules:
             linear, angular = self.job.tolerance_bits
             self.rules = [(0, 0, 255, linear), (1, 0, 255, angular)]
+
+    def outcome(self, given):
+        """What writer and converter must give: a file, which may be the one given, or a refusal."""
+        file = self.expect.get("file")
+        return self.expect["refusal"] or (given if file == "same" else bytes_of(file))
 
     def lent_rules(self):
         """Three words a rule, and its tolerance, whose NaN keeps its payload."""
@@ -306,6 +405,7 @@ def main():
     parser.add_argument("files", nargs="*", type=pathlib.Path, metavar="FILE")
     parser.add_argument("--library", type=pathlib.Path, default=HOME / "target/port.so")
     parser.add_argument("--program", type=pathlib.Path, default=HOME.parent / "target/bin/job")
+    parser.add_argument("--converter", type=pathlib.Path, default=HOME.parent / "target/bin/convert")
     asked = parser.parse_args()
     files = asked.files or sorted(cases.glob("*.jsonl"))
     if not files:
@@ -313,11 +413,16 @@ def main():
     missing = lambda path: f"there is no '{path}'"
     by_op = dict.fromkeys(("solve", "check"), missing(asked.library))
     by_op["program"] = missing(asked.program)
+    by_op |= dict.fromkeys(("write", "convert", "same"), missing(asked.converter))
+    by_op["write beyond a file"] = writer
     if asked.library.exists():
         library = Library(asked.library.resolve())
         by_op.update(solve=library.solve, check=library.check)
     if asked.program.exists():
         by_op["program"] = Program(asked.program.resolve()).program
+    if asked.converter.exists():
+        converter = Converter(asked.converter.resolve())
+        by_op.update(write=converter.write, convert=converter.convert, same=converter.same)
     compared = wrong = 0
     for path in files:
         here, bad = replay(path, by_op)

@@ -2,9 +2,10 @@
 """Writes the sample jobs beside this file: P1 of document 01, a four-bar linkage and a clock train, the last two also
 with the centres of their parts.
 
-    python3 samples/make.py
+    python3 samples/make.py [CONVERTER]
 
-The same bytes each time. A job file is little-endian: 248 bytes a row (27 doubles, then 8 words),
+The same bytes each time, in the one written form of document 02, e: rows from byte 0, masses straight after, then
+the trailer. Each file is held to what the converter (by default target/bin/convert, where it is there) writes of it. A job file is little-endian: 248 bytes a row (27 doubles, then 8 words),
 80 bytes a mass, and a trailer of 48 bytes that points back at both sections. Where the trailer's last word
 is 1 a mass has 104 bytes, its centre at its end.
 
@@ -14,6 +15,8 @@ small error of its scan, after which the joints gape by fractions of a millimetr
 
 import pathlib
 import struct
+import subprocess
+import sys
 
 INFINITY = float("inf")
 LINEAR, ANGULAR = 0, 1
@@ -158,9 +161,20 @@ def clock_train(spare=0):
     return job
 
 
+def converted(converter, file, spare):
+    """What the converter writes of a job file, asked for the layout that it has."""
+    run = subprocess.run([converter, ("old", "new")[spare]], input=file, stdout=subprocess.PIPE, check=True)
+    return run.stdout
+
+
 if __name__ == "__main__":
-    here = pathlib.Path(__file__).parent
+    here = pathlib.Path(__file__).resolve().parent
+    converter = pathlib.Path(sys.argv[1] if sys.argv[1:] else here.parent / "target/bin/convert").resolve()
     plain = [("p1", p1()), ("four_bar", four_bar()), ("clock_train", clock_train())]
     for name, job in plain + [("four_bar_centres", four_bar(1)), ("clock_train_centres", clock_train(1))]:
-        (here / f"{name}.job").write_bytes(job.bytes())
-        print(f"{name}.job: {len(job.rows) // 248} rows, {len(job.masses) // 80} bodies, {len(job.bytes())} bytes")
+        file = job.bytes()
+        if converter.exists() and converted(converter, file, job.spare) != file:
+            sys.exit(f"{name}.job is not what the converter writes of it")
+        (here / f"{name}.job").write_bytes(file)
+        print(f"{name}.job: {len(job.rows) // 248} rows, {len(job.masses) // 80} bodies, {len(file)} bytes")
+    print("each as the converter writes it" if converter.exists() else f"not held to the converter: there is no '{converter}'")

@@ -14,7 +14,7 @@ pub fn write(folder: &str, jobs: u64, seed: u64, spare: u32) -> Result<bool, Str
     std::fs::create_dir_all(folder).map_err(|error| error.to_string())?;
     for index in 0..jobs {
         let mut random = Random::of(!seed, index);
-        let file = file(seed, index, spare, &mut random);
+        let file = file(seed, index, spare, &mut random, |_| ());
         let save = |ending: &str, bytes: &[u8]| {
             std::fs::write(folder.join(format!("{index}.{ending}")), bytes)
         };
@@ -27,12 +27,19 @@ pub fn write(folder: &str, jobs: u64, seed: u64, spare: u32) -> Result<bool, Str
 }
 
 /// The choices of a spare of 1 are drawn apart, so that files of spare 0 are what they were.
-fn file(seed: u64, index: u64, spare: u32, random: &mut Random) -> Vec<u8> {
+fn file(
+    seed: u64,
+    index: u64,
+    spare: u32,
+    random: &mut Random,
+    change: impl FnOnce(&mut Job),
+) -> Vec<u8> {
     let sizes = if random.chance(80) { Sizes::Small } else { Sizes::Any };
     let mut job = Job { spare, ..job(seed, index, sizes) };
     if spare == 1 {
         place(&mut job, &mut Random::of(seed ^ 0xce27, index));
     }
+    change(&mut job);
     let mut file = placed(&job, random);
     if random.chance(25) {
         damage(&mut file, random);
@@ -43,8 +50,20 @@ fn file(seed: u64, index: u64, spare: u32, random: &mut Random) -> Vec<u8> {
 /// A file as above, or one damaged anywhere, or bytes at random, now and then with a stored
 /// length that is right.
 pub fn any(seed: u64, index: u64, random: &mut Random) -> Vec<u8> {
+    let mut file = any_with(seed, index, random, |_| ());
+    cut_limit(&mut file);
+    file
+}
+
+/// The same with a change to the job that it is made of, and its limit as it is.
+pub fn any_with(
+    seed: u64,
+    index: u64,
+    random: &mut Random,
+    change: impl FnOnce(&mut Job),
+) -> Vec<u8> {
     let spare = random.below(2) as u32;
-    let mut file = file(seed, index, spare, random);
+    let mut file = file(seed, index, spare, random, change);
     match random.below(4) {
         0 => flip(&mut file, random),
         1 if random.chance(30) => {
@@ -56,7 +75,6 @@ pub fn any(seed: u64, index: u64, random: &mut Random) -> Vec<u8> {
         }
         _ => {}
     }
-    cut_limit(&mut file);
     file
 }
 

@@ -3,6 +3,7 @@
 mod bench;
 mod blocks;
 mod closing_jobs;
+mod convert;
 mod cover;
 mod differences;
 mod driver;
@@ -22,7 +23,10 @@ mod random;
 mod recorded;
 mod tally;
 mod unpacking;
+mod written;
 
+use std::ffi::OsString;
+use std::io::Write;
 use std::path::PathBuf;
 
 const USAGE: &str = "usage: oracle/run COMMAND
@@ -43,6 +47,8 @@ const USAGE: &str = "usage: oracle/run COMMAND
   files FOLDER [JOBS] [SEED] [SPARE]
                                   job files in every placement, with what the program prints
   program PROGRAM [FILES] [SEED]  the job program's own process on generated, damaged and random files
+  converted FILE [ARGUMENT..]     what the converter writes of a job file, to standard output
+  convert PROGRAM [FILES] [SEED]  the converter's own process on such files, both layouts
   inertia record                  makes the recorded matrices in crates/inertia_recorded
   inertia PROGRAM [COUNT] [SEED]  that program, target/bin/inertia_recorded, on drawn matrices
   examples                        document 01's P1 to P9 as job files, in target/examples";
@@ -97,6 +103,14 @@ fn command(words: &[&str]) -> Result<bool, String> {
         ["files", folder, ..] => {
             file_jobs::write(folder, number(2, 1000)?, number(3, 1)?, number(4, 0)? as u32)
         }
+        ["converted", file, asked @ ..] => {
+            let bytes = std::fs::read(file).map_err(|error| format!("{file}: {error}"))?;
+            let asked: Vec<OsString> = asked.iter().map(OsString::from).collect();
+            let text = convert::text(&written::converted(&bytes, convert::layout_of(&asked)));
+            std::io::stdout().write_all(&text).map_err(|error| error.to_string())?;
+            Ok(true)
+        }
+        ["convert", program, ..] => convert::run(program, number(2, 1000)?, number(3, 1)?, &home()),
         ["inertia", "record"] => inertia::record(&home()),
         ["inertia", program, ..] => inertia::drive(program, number(2, 500_000)?, number(3, 1)?),
         ["examples"] => listing::examples(&home()),

@@ -6,6 +6,7 @@ use crate::judge::judge;
 use crate::random::Random;
 use crate::{file_jobs, job_file, listing};
 use std::collections::BTreeMap;
+use std::ffi::OsString;
 use std::io::{Read, Write};
 use std::path::Path;
 use std::process::{Command, Stdio};
@@ -23,20 +24,14 @@ pub fn run(program: &str, files: u64, seed: u64, home: &Path) -> Result<bool, St
         let file = file_jobs::any(seed, index, &mut random);
         let wanted = listing::of_file(&file);
         let disputed = job_file::read(&file).ok().and_then(|job| judge(&job).dispute);
-        let given = printed(program, &file, &mut random)?;
+        let given = printed(program, &[], &file, &mut random)?;
         let refusal = wanted.split(' ').nth(1).unwrap_or_default().to_string();
         *tally.entry(refusal).or_insert(0u64) += 1;
-        if given != Ok(wanted) || disputed.is_some() {
+        if given != Ok(wanted.into_bytes()) || disputed.is_some() {
             mismatches += 1;
-            let name = format!("{seed}-{index}.job");
-            let folder = home.join("target/mismatches");
-            std::fs::create_dir_all(&folder)
-                .and_then(|()| std::fs::write(folder.join(&name), &file))
-                .map_err(|error| error.to_string())?;
-            let disputed = disputed.unwrap_or_default();
-            println!(
-                "file {index}: {given:?} {disputed}, saved as oracle/target/mismatches/{name}"
-            );
+            let name = save(home, seed, index, &file)?;
+            let said = given.map_or_else(|said| said, |text| shown(&text));
+            println!("file {index}: {said} {}, saved as {name}", disputed.unwrap_or_default());
         }
     }
     for (refusal, count) in &tally {
@@ -46,13 +41,31 @@ pub fn run(program: &str, files: u64, seed: u64, home: &Path) -> Result<bool, St
     Ok(mismatches == 0)
 }
 
-/// The text, or how the program failed. The file is written in pieces, so that reads are short.
-fn printed(
+/// Keeps a file that went wrong; where it is.
+pub fn save(home: &Path, seed: u64, index: u64, file: &[u8]) -> Result<String, String> {
+    let name = format!("{seed}-{index}.job");
+    let folder = home.join("target/mismatches");
+    std::fs::create_dir_all(&folder)
+        .and_then(|()| std::fs::write(folder.join(&name), file))
+        .map_err(|error| error.to_string())?;
+    Ok(format!("oracle/target/mismatches/{name}"))
+}
+
+/// The beginning of what a program gave, in one line.
+pub fn shown(text: &[u8]) -> String {
+    let first = &text[..text.len().min(200)];
+    format!("{} bytes, \"{}\"", text.len(), first.escape_ascii())
+}
+
+/// What it gave, or how the program failed. The file is written in pieces, so that reads are short.
+pub fn printed(
     program: &str,
+    arguments: &[OsString],
     file: &[u8],
     random: &mut Random,
-) -> Result<Result<String, String>, String> {
+) -> Result<Result<Vec<u8>, String>, String> {
     let mut child = Command::new(program)
+        .args(arguments)
         .stdin(Stdio::piped())
         .stdout(Stdio::piped())
         .spawn()
@@ -73,9 +86,9 @@ fn printed(
             None => std::thread::sleep(Duration::from_micros(20)),
         }
     };
-    let mut text = String::new();
+    let mut text = Vec::new();
     if let Some(mut output) = child.stdout.take() {
-        output.read_to_string(&mut text).map_err(|error| error.to_string())?;
+        output.read_to_end(&mut text).map_err(|error| error.to_string())?;
     }
     Ok(if status.success() { Ok(text) } else { Err(status.to_string()) })
 }

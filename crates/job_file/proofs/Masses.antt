@@ -1,10 +1,11 @@
 -- Where the numbers of a mass stand in its section, and the centre of a file with centres and of one without. Assumes nothing.
 use Prim.Native.Nat.{ℕ, _+_, _*_, _<_, _≤_}
-use mathlib.Core.Path.{_≡_, refl}
+use mathlib.Core.Path.{_≡_, ap}
 use mathlib.Core.List.{List}
 use mathlib.Core.Logic.{_≢_}
 use native.Mathlib.Nat.{mul-le-mul-left, mul-le-mul-right}
 use native.Mathlib.Omega.{arith}
+use lib.Ieee.{binary64, ofBits}
 use borrow.Author.Tests.{eq-eqb, ne-eqb}
 use Rattle.loops.specs.Cleared.{plusZero}
 use Rattle.job_file.specs.Layout.{massBytes, massPlace, massesEnd}
@@ -25,10 +26,18 @@ pub centre-inside : (offset spare b : ℕ) {n j : ℕ} → spare ≡ 1 → j < 3
 centre-inside offset spare b s g e = let m = rw s at e in omega arith
 
 module _ (file : List ℕ) (offset spare b j : ℕ) where
+  pub bits-there : spare ≡ 1 → massBits file offset 1 b (10 + j) ≡ centreBits file offset spare b j
+  unfolding massBits centreBits
+  bits-there s = rw (eq-eqb spare 1 s)
+
+  pub bits-none : spare ≢ 1 → 0 ≡ centreBits file offset spare b j
+  unfolding centreBits
+  bits-none s = rw (ne-eqb spare 1 s)
+
   pub centre-there : spare ≡ 1 → massNumber file offset 1 b (10 + j) ≡ centreNumber file offset spare b j
-  unfolding massNumber massBits centreNumber centreBits
-  centre-there s = rw (eq-eqb spare 1 s)
+  unfolding massNumber centreNumber
+  centre-there s = ap (ofBits binary64) (bits-there s)
 
   pub centre-none : spare ≢ 1 → plusZero ≡ centreNumber file offset spare b j
-  unfolding centreNumber centreBits
-  centre-none s = rw (ne-eqb spare 1 s)
+  unfolding centreNumber
+  centre-none s = ap (ofBits binary64) (bits-none s)

@@ -1,5 +1,4 @@
 -- `job_file::fit::sections_fit` meets its contract. Assumes nothing.
-use native.Mathlib.Omega.{arith}
 use Rattle.loops.proofs.Loop.{loops}
 use mathlib.Core.Path.{refl}
 use Rattle.job_file.specs.Refusals.{sectionsFit, limitsFit, apart, endsFit}

@@ -1,0 +1,4 @@
+pub mod Bytes
+pub mod Opened
+pub mod Converted
+pub mod Program

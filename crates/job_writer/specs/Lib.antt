@@ -1,0 +1,5 @@
+pub mod Bytes
+pub mod JobBits
+pub mod Written
+pub mod Refusals
+pub mod Fits
