@@ -10,8 +10,9 @@ import os
 import re
 
 ENTRIES = [
-    ("The solve", "pcg/src/prepared.rt"),
-    ("The closing check", "closing_check/src/check.rt"),
+    ("The solve, of positions and of either kind", "pcg/src/prepared.rt"),
+    ("The solve of velocities", "pcg/src/velocity.rt"),
+    ("The closing check", "closing_check/src/entries.rt"),
 ]
 SIGNATURE = re.compile(r"^(\s*)(?:unfoldable |abbrev )?(?:pub )?([^\s:(){}]+) : ")
 TYPE = re.compile(r"^(\s*)(?:pub )?(?:record|data) ([^\s:(){}]+)")

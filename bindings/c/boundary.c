@@ -7,13 +7,16 @@
 
 static unsigned passed, failed;
 
+/* The jobs below are made, solved and checked for velocities where it is 1, else for positions. */
+static int speeds;
+
 static void expect(int holds, const char *what, const char *where)
 {
     if (holds) {
         passed++;
     } else {
         failed++;
-        printf("failed: %s (%s)\n", what, where);
+        printf("failed: %s (%s%s)\n", what, where, speeds ? ", velocities" : "");
     }
 }
 
@@ -94,38 +97,48 @@ static struct rules two_rules(double tolerance)
     return to;
 }
 
-/* So many more numbers of centres and of new centres than three a body are lent: 0 but in
-   lengths_of_centres(). */
+/* What is lent beside rules, answers and work memory; multipliers have the length of a solution. */
+enum { NUMBERS, WORDS, MASSES, CENTRES, RESIDUALS, SOLUTION, IMPULSES, NEW_CENTRES, SLICES };
+
 struct job {
     double numbers[27 * ROWS], masses[10 * BODIES], shift; /* shift 0 but in shifts() */
-    double centres[3 * BODIES + 1];
+    double centres[3 * BODIES + 1], residuals[ROWS + 1];
     struct rules rules;
-    uint32_t words[8 * ROWS], rows, bodies;
-    int more_centres, more_new_centres;
+    uint32_t words[8 * ROWS], rows, bodies, limit;
+    int more[SLICES]; /* so much more of each is lent than the counts call for */
 };
 
 static void set_row(double *row, uint32_t *words, uint32_t a, uint32_t b, uint32_t owner)
 {
-    row[0] = 1.0;                          /* linear_a */
-    row[9] = -1.0;                         /* linear_b */
-    row[20] = from_bits(MINUS | INFINITE); /* min_multiplier */
-    row[21] = from_bits(INFINITE);         /* max_multiplier */
+    double *bounds = row + (speeds ? 22 : 20); /* of the impulse, of the multiplier */
+    row[0] = 1.0;                              /* linear_a */
+    row[9] = -1.0;                             /* linear_b */
+    bounds[0] = from_bits(MINUS | INFINITE);
+    bounds[1] = from_bits(INFINITE);
     words[2] = a;
     words[3] = b;
-    words[5] = 1; /* position_enabled */
+    words[5] = !speeds; /* position_enabled */
     words[6] = owner;
 }
 
-/* Document 01's P1, with this error and tolerance. */
+/* A row's error, for velocities its negated residual, and then any error. */
+static void set_error(double *row, double *residual, double error)
+{
+    row[15] = speeds ? from_bits(0x6970000000000000u) : error; /* 2^664: 18 would not let it pass */
+    *residual = from_bits(MINUS ^ bits_of(error));
+}
+
+/* Document 01's P1, for velocities V1, with this error and tolerance. */
 static struct job p1(double error, double tolerance)
 {
     struct job job;
     memset(&job, 0, sizeof job);
     set_row(job.numbers, job.words, 0, 1, 0);
-    job.numbers[15] = error;
+    set_error(job.numbers, job.residuals, error);
     job.masses[0] = job.masses[10] = 0.5;
     job.rows = 1;
     job.bodies = 2;
+    job.limit = LIMIT;
     job.rules = two_rules(tolerance);
     return job;
 }
@@ -144,12 +157,13 @@ static struct job chain(void)
         row[3] = 0.3; /* angular_a */
         row[9 + i] = -0.9;
         row[13 + i % 2] = 0.6; /* angular_b */
-        row[15] = errors[i];
+        set_error(row, job.residuals + i, errors[i]);
         mass[0] = 0.7;
         mass[1] = mass[5] = mass[9] = 1.1; /* the inertia's diagonal */
     }
     memcpy(job.centres, places, sizeof places);
     job.rows = job.bodies = 3;
+    job.limit = LIMIT;
     job.rules = two_rules(1e-9);
     return job;
 }
@@ -160,7 +174,7 @@ static struct job worn(double shift)
     struct job job = p1(-0.25, 1e-9);
     set_row(job.numbers + 27, job.words + 8, 0, 1, 1);
     job.numbers[27 + 1] = from_bits(0x3e30000000000000u); /* 2^-28 */
-    job.numbers[27 + 15] = -0.25;
+    set_error(job.numbers + 27, job.residuals + 1, -0.25);
     job.rows = 2;
     job.shift = shift;
     return job;
@@ -209,6 +223,43 @@ struct solved {
     uint32_t rule_numbers[ROWS + 1], counts[2], refusal, control;
 };
 
+/* How much of each slice is lent. */
+struct lengths {
+    size_t of[SLICES], rule_numbers;
+};
+
+static struct lengths lengths_of(const struct job *job)
+{
+    const size_t n = job->rows, b = job->bodies;
+    const size_t counted[SLICES] = {27 * n, 8 * n, 10 * b, 3 * b, n, n, 6 * b, 3 * b};
+    struct lengths to;
+    for (int i = 0; i < SLICES; i++)
+        to.of[i] = length(counted[i], job->more[i]);
+    to.rule_numbers = length(n, job->rules.more_numbers);
+    return to;
+}
+
+static uint32_t solve_called(const struct job *job, uint32_t mode, struct solved *to,
+                             size_t doubles_len, size_t words_len)
+{
+    const uint32_t n = job->rows, b = job->bodies;
+    const struct lengths l = lengths_of(job);
+    if (speeds)
+        return kapitsa_solve_velocity_in(
+            to->numbers, l.of[NUMBERS], job->words, l.of[WORDS], job->masses, l.of[MASSES],
+            job->residuals, l.of[RESIDUALS], job->rules.words, job->rules.words_len,
+            job->rules.tolerances, job->rules.tolerances_len, n, b, job->limit, mode, job->shift,
+            to->solution, l.of[SOLUTION], to->impulses, l.of[IMPULSES], to->rule_numbers,
+            l.rule_numbers, to->counts, to->maxima, doubles, doubles_len, words, words_len);
+    return kapitsa_solve_in(
+        to->numbers, l.of[NUMBERS], job->words, l.of[WORDS], job->masses, l.of[MASSES],
+        job->centres, l.of[CENTRES], job->rules.words, job->rules.words_len, job->rules.tolerances,
+        job->rules.tolerances_len, n, b, job->limit, mode, job->shift, to->solution,
+        l.of[SOLUTION], to->impulses, l.of[IMPULSES], to->new_centres, l.of[NEW_CENTRES],
+        to->rule_numbers, l.rule_numbers, to->counts, to->maxima, doubles, doubles_len, words,
+        words_len);
+}
+
 /* A solve in a floating-point mode; .control is the mode that it leaves. */
 static struct solved solve(const struct job *job, uint32_t mode, unsigned control, struct lent lent)
 {
@@ -221,13 +272,7 @@ static struct solved solve(const struct job *job, uint32_t mode, unsigned contro
     fill_work();
     const unsigned before = _mm_getcsr();
     _mm_setcsr(control);
-    to.refusal = kapitsa_solve_in(
-        to.numbers, 27 * n, job->words, 8 * n, job->masses, 10 * b, job->centres,
-        length(3 * b, job->more_centres), job->rules.words, job->rules.words_len,
-        job->rules.tolerances, job->rules.tolerances_len, n, b, LIMIT, mode, job->shift,
-        to.solution, n, to.impulses, 6 * b, to.new_centres, length(3 * b, job->more_new_centres),
-        to.rule_numbers, length(n, job->rules.more_numbers), to.counts, to.maxima, doubles,
-        doubles_len, words, words_len);
+    to.refusal = solve_called(job, mode, &to, doubles_len, words_len);
     to.control = _mm_getcsr();
     _mm_setcsr(before);
     return to;
@@ -237,6 +282,25 @@ struct checked {
     double gap[2];
     uint32_t rule_numbers[ROWS + 1], refusal, verdict, control;
 };
+
+static uint32_t check_called(const struct job *job, const double *multipliers, struct checked *to,
+                             size_t doubles_len, size_t words_len)
+{
+    const uint32_t n = job->rows, b = job->bodies;
+    const struct lengths l = lengths_of(job);
+    if (speeds)
+        return kapitsa_check_velocity_in(
+            job->numbers, l.of[NUMBERS], job->words, l.of[WORDS], job->masses, l.of[MASSES],
+            job->residuals, l.of[RESIDUALS], job->rules.words, job->rules.words_len,
+            job->rules.tolerances, job->rules.tolerances_len, n, b, multipliers, l.of[SOLUTION],
+            to->rule_numbers, l.rule_numbers, &to->verdict, to->gap, doubles, doubles_len, words,
+            words_len);
+    return kapitsa_check_in(
+        job->numbers, l.of[NUMBERS], job->words, l.of[WORDS], job->masses, l.of[MASSES],
+        job->centres, l.of[CENTRES], job->rules.words, job->rules.words_len, job->rules.tolerances,
+        job->rules.tolerances_len, n, b, multipliers, l.of[SOLUTION], to->rule_numbers,
+        l.rule_numbers, &to->verdict, to->gap, doubles, doubles_len, words, words_len);
+}
 
 static struct checked check(const struct job *job, const double *multipliers, unsigned control,
                             struct lent lent)
@@ -249,12 +313,7 @@ static struct checked check(const struct job *job, const double *multipliers, un
     fill_work();
     const unsigned before = _mm_getcsr();
     _mm_setcsr(control);
-    to.refusal = kapitsa_check_in(
-        job->numbers, 27 * n, job->words, 8 * n, job->masses, 10 * b, job->centres,
-        length(3 * b, job->more_centres), job->rules.words, job->rules.words_len,
-        job->rules.tolerances, job->rules.tolerances_len, n, b, multipliers, n, to.rule_numbers,
-        length(n, job->rules.more_numbers), &to.verdict, to.gap, doubles, doubles_len, words,
-        words_len);
+    to.refusal = check_called(job, multipliers, &to, doubles_len, words_len);
     to.control = _mm_getcsr();
     _mm_setcsr(before);
     return to;
@@ -282,13 +341,23 @@ static uint32_t raw_solve(const struct job *job, unsigned control, double *solut
     memcpy(numbers, job->numbers, sizeof numbers);
     const unsigned before = _mm_getcsr();
     _mm_setcsr(control);
-    uint32_t refusal = kapitsa_solve_position(
-        numbers, 27 * n, job->words, 8 * n, job->masses, 10 * b, job->centres, 3 * b,
-        job->rules.words, job->rules.words_len, job->rules.tolerances, job->rules.tolerances_len, n,
-        b, LIMIT, KAPITSA_DIAGONAL, 0.0, solution, n, impulses, 6 * b, new_centres, 3 * b,
-        rule_numbers, n, counts, 2, maxima, 2,
-        jacobians, 12 * n, links, 2 * n, tolerances, n, diagonal, n, residual, n, pending, n,
-        direction, n, product, n, body_impulses, 6 * b, NULL, 0, NULL, 0, NULL, 0);
+    uint32_t refusal;
+    if (speeds)
+        refusal = kapitsa_solve_velocity(
+            numbers, 27 * n, job->words, 8 * n, job->masses, 10 * b, job->residuals, n,
+            job->rules.words, job->rules.words_len, job->rules.tolerances,
+            job->rules.tolerances_len, n, b, LIMIT, KAPITSA_DIAGONAL, 0.0, solution, n, impulses,
+            6 * b, rule_numbers, n, counts, 2, maxima, 2,
+            jacobians, 12 * n, links, 2 * n, tolerances, n, diagonal, n, residual, n, pending, n,
+            direction, n, product, n, body_impulses, 6 * b, NULL, 0, NULL, 0, NULL, 0);
+    else
+        refusal = kapitsa_solve_position(
+            numbers, 27 * n, job->words, 8 * n, job->masses, 10 * b, job->centres, 3 * b,
+            job->rules.words, job->rules.words_len, job->rules.tolerances,
+            job->rules.tolerances_len, n, b, LIMIT, KAPITSA_DIAGONAL, 0.0, solution, n, impulses,
+            6 * b, new_centres, 3 * b, rule_numbers, n, counts, 2, maxima, 2,
+            jacobians, 12 * n, links, 2 * n, tolerances, n, diagonal, n, residual, n, pending, n,
+            direction, n, product, n, body_impulses, 6 * b, NULL, 0, NULL, 0, NULL, 0);
     _mm_setcsr(before);
     return refusal;
 }
@@ -302,8 +371,9 @@ static uint32_t raw_check(const struct job *job, const double *multipliers, unsi
     const uint32_t n = job->rows, b = job->bodies;
     const unsigned before = _mm_getcsr();
     _mm_setcsr(control);
-    uint32_t refusal = kapitsa_closing_check(
-        job->numbers, 27 * n, job->words, 8 * n, job->masses, 10 * b, job->centres, 3 * b,
+    uint32_t refusal = (speeds ? kapitsa_velocity_closing_check : kapitsa_closing_check)(
+        job->numbers, 27 * n, job->words, 8 * n, job->masses, 10 * b,
+        speeds ? job->residuals : job->centres, speeds ? n : 3 * b,
         job->rules.words, job->rules.words_len, job->rules.tolerances, job->rules.tolerances_len, n,
         b, multipliers, n, rule_numbers, n, verdict, verdict_len, gap, gap_len,
         jacobians, 12 * n, links, 2 * n, mass_sizes, 10 * b, multiplier_sizes, n, impulses,
@@ -357,7 +427,7 @@ static void solves_in_all_modes(void)
     for (uint32_t mode = 0; mode < 3; mode++) {
         struct solved found = solve(&sheet, mode, KAPITSA_CONTROL, exactly);
         expect(found.refusal == 0 && found.counts[0] == 1 && found.counts[1] == 1
-               && bits_of(found.numbers[24]) == bits_of(0.25), "P1", names[mode]);
+               && bits_of(found.numbers[24 + speeds]) == bits_of(0.25), "P1", names[mode]);
         found = solve(&rows, mode, KAPITSA_CONTROL, exactly);
         expect(found.refusal == 0 && found.counts[1] == 1, "the chain is solved", names[mode]);
         expect(says(check(&rows, found.solution, KAPITSA_CONTROL, exactly), KAPITSA_CLOSED),
@@ -415,10 +485,11 @@ static void arguments(void)
         const unsigned before = _mm_getcsr();
         _mm_setcsr(KAPITSA_CONTROL | (up ? UP : 0));
         tolerances[0] = less + little;
-        uint32_t refusal = kapitsa_check_in(
-            sheet.numbers, 27, sheet.words, 8, sheet.masses, 20, sheet.centres, 6,
-            sheet.rules.words, 6, tolerances, 2, 1, 2, multiplier, 1, &rule_number, 1, &verdict,
-            gap, doubles, 47, words, 2);
+        uint32_t refusal = (speeds ? kapitsa_check_velocity_in : kapitsa_check_in)(
+            sheet.numbers, 27, sheet.words, 8, sheet.masses, 20,
+            speeds ? sheet.residuals : sheet.centres, speeds ? 1 : 6, sheet.rules.words, 6,
+            tolerances, 2, 1, 2, multiplier, 1, &rule_number, 1, &verdict, gap, doubles, 47, words,
+            2);
         _mm_setcsr(before);
         expect(refusal == 0 && verdict == up && measures(gap, P1_GAP, 0),
                "a sum as argument", up ? "up" : "to nearest");
@@ -655,24 +726,38 @@ static void own_tolerances(void)
            "steps for one row's tolerance", "own rules");
 }
 
-/* Solve, in every mode, and check are refused by this number, and nothing is written. */
-static void refused_by(uint32_t refusal, const char *what, const struct job *job)
+/* The solve, in this mode, is refused by this number, and nothing is written. */
+static void solve_refused_by(uint32_t refusal, const char *what, const struct job *job,
+                             uint32_t mode)
 {
-    const uint32_t n = job->rows, b = job->bodies;
-    const int clears = refusal != KAPITSA_REFUSED_LENGTH;
+    const size_t clears = refusal != KAPITSA_REFUSED_LENGTH;
+    const size_t d = clears * kapitsa_solve_doubles(job->rows, job->bodies, mode);
+    const size_t w = clears * kapitsa_solve_words(job->rows, job->bodies, mode);
     for (size_t i = 0; i < CONTROLS; i++) {
-        for (uint32_t mode = 0; mode < 3; mode++) {
-            const struct solved found = solve(job, mode, controls[i].word, exactly);
-            expect(found.refusal == refusal && nothing_written(job, &found)
-                   && work_clear(clears ? kapitsa_solve_doubles(n, b, mode) : 0,
-                                 clears ? kapitsa_solve_words(n, b, mode) : 0), what, "solve");
-        }
+        const struct solved found = solve(job, mode, controls[i].word, exactly);
+        expect(found.refusal == refusal && nothing_written(job, &found) && work_clear(d, w), what,
+               "solve");
+    }
+}
+
+static void check_refused_by(uint32_t refusal, const char *what, const struct job *job)
+{
+    const size_t clears = refusal != KAPITSA_REFUSED_LENGTH;
+    const size_t d = clears * kapitsa_check_doubles(job->rows, job->bodies);
+    const size_t w = clears * kapitsa_check_words(job->rows, job->bodies);
+    for (size_t i = 0; i < CONTROLS; i++) {
         const struct checked found = check(job, no_multipliers, controls[i].word, exactly);
         expect(found.refusal == refusal && KEPT(found.verdict) && KEPT(found.gap)
-               && KEPT(found.rule_numbers)
-               && work_clear(clears ? kapitsa_check_doubles(n, b) : 0,
-                             clears ? kapitsa_check_words(n, b) : 0), what, "check");
+               && KEPT(found.rule_numbers) && work_clear(d, w), what, "check");
     }
+}
+
+/* Solve, in every mode, and check. */
+static void refused_by(uint32_t refusal, const char *what, const struct job *job)
+{
+    for (uint32_t mode = 0; mode < 3; mode++)
+        solve_refused_by(refusal, what, job, mode);
+    check_refused_by(refusal, what, job);
 }
 
 /* The job with this rule behind those that it has. */
@@ -889,15 +974,244 @@ static void lengths_of_centres(void)
     static const int more[] = {-1, 1, -3, NONE};
     for (size_t i = 0; i < sizeof more / sizeof more[0]; i++) {
         struct job job = chain();
-        job.more_centres = more[i];
+        job.more[CENTRES] = more[i];
         refused_by(KAPITSA_REFUSED_LENGTH, "centres of another length", &job);
-        job.more_centres = 0;
-        job.more_new_centres = more[i];
-        for (uint32_t mode = 0; mode < 3; mode++) {
-            const struct solved found = solve(&job, mode, KAPITSA_CONTROL, exactly);
-            expect(found.refusal == KAPITSA_REFUSED_LENGTH && nothing_written(&job, &found)
-                   && work_clear(0, 0), "new centres of another length", "solve");
+        job.more[CENTRES] = 0;
+        job.more[NEW_CENTRES] = more[i];
+        for (uint32_t mode = 0; mode < 3; mode++)
+            solve_refused_by(KAPITSA_REFUSED_LENGTH, "new centres of another length", &job, mode);
+    }
+}
+
+/* Two rows of the chain and their two bodies; the memory behind is there. */
+static struct job two_of_the_chain(void)
+{
+    struct job job = chain();
+    job.rows = job.bodies = 2;
+    return job;
+}
+
+/* Each slice by itself too short by one, or too long: 3 by all calls that take it. */
+static void lengths_of_slices(void)
+{
+    static const char *const names[SLICES] = {"numbers", "words", "masses", "centres", "residuals",
+                                              "solution", "impulses", "new centres"};
+    const struct job fitting = two_of_the_chain();
+    for (uint32_t mode = 0; mode < 3; mode++)
+        expect(solve(&fitting, mode, KAPITSA_CONTROL, exactly).refusal == 0, "two rows", "solve");
+    for (int slice = 0; slice < SLICES; slice++)
+        for (int more = -1; more < 2; more += 2) {
+            struct job job = fitting;
+            if (speeds ? slice == CENTRES || slice == NEW_CENTRES : slice == RESIDUALS)
+                continue;
+            job.more[slice] = more;
+            for (uint32_t mode = 0; mode < 3; mode++)
+                solve_refused_by(KAPITSA_REFUSED_LENGTH, names[slice], &job, mode);
+            if (slice != IMPULSES && slice != NEW_CENTRES)
+                check_refused_by(KAPITSA_REFUSED_LENGTH, names[slice], &job);
         }
+}
+
+/* ---- velocities: document 02, a */
+
+/* Every number but the accumulated impulses is as it was, and each of those, 0 before, is now the
+   solution's. */
+static int impulses_alone(const struct job *job, const struct solved *found)
+{
+    struct solved wanted;
+    memcpy(wanted.numbers, job->numbers, sizeof wanted.numbers);
+    for (uint32_t i = 0; i < job->rows; i++)
+        wanted.numbers[27 * i + 25] = found->solution[i];
+    return !memcmp(found->numbers, wanted.numbers, sizeof wanted.numbers);
+}
+
+static struct job chosen(int velocities, int which)
+{
+    speeds = velocities;
+    return which == 0 ? p1(-0.25, 0.001) : which == 1 ? chain() : worn(SMALL_SHIFT);
+}
+
+/* The numbers of a job of positions, bit for bit, -residual in the error's place. */
+static void as_positions(void)
+{
+    for (int which = 0; which < 3; which++)
+        for (uint32_t mode = 0; mode < 3; mode++) {
+            struct job job = chosen(0, which);
+            const struct solved places = solve(&job, mode, KAPITSA_CONTROL, exactly);
+            const struct checked verdict = check(&job, places.solution, KAPITSA_CONTROL, exactly);
+            job = chosen(1, which);
+            for (uint32_t i = 0; i < job.rows; i++)
+                job.numbers[27 * i + 24] = 3.5; /* accumulated_multiplier */
+            const struct job before = job;
+            const struct solved found = solve(&job, mode, KAPITSA_CONTROL, exactly);
+            const struct checked checked = check(&job, found.solution, KAPITSA_CONTROL, exactly);
+            expect(found.refusal == 0 && places.refusal == 0
+                   && !memcmp(found.solution, places.solution, sizeof found.solution)
+                   && !memcmp(found.impulses, places.impulses, sizeof found.impulses)
+                   && !memcmp(found.maxima, places.maxima, sizeof found.maxima)
+                   && !memcmp(found.counts, places.counts, sizeof found.counts)
+                   && !memcmp(found.rule_numbers, places.rule_numbers, sizeof found.rule_numbers),
+                   "the bits of the position solve", "solve");
+            expect(impulses_alone(&job, &found) && KEPT(found.new_centres),
+                   "accumulated impulses alone", "solve");
+            expect(!memcmp(&checked, &verdict, sizeof checked), "the bits of the position check",
+                   "check");
+            expect(!memcmp(job.residuals, before.residuals, sizeof job.residuals),
+                   "residuals are only read", "both");
+        }
+}
+
+/* A second row, and its residual and the first one's. */
+static struct job two_speeds(double first, double second, uint32_t owner)
+{
+    struct job job = p1(0.0, 0.001);
+    set_row(job.numbers + 27, job.words + 8, 0, 1, owner);
+    job.residuals[0] = first;
+    job.residuals[1] = second;
+    job.rows = 2;
+    return job;
+}
+
+/* Within tolerance: with count 0 in modes below `refusing`, and by 13 from it on. */
+static void within_tolerance(const char *what, const struct job *job, uint32_t refusing)
+{
+    for (uint32_t mode = 0; mode < refusing; mode++) {
+        const struct solved found = solve(job, mode, KAPITSA_CONTROL, exactly);
+        expect(found.refusal == 0 && found.counts[0] == 0 && found.counts[1] == 1
+               && bits_of(found.maxima[0]) == bits_of(0.001) && bits_of(found.maxima[1]) == 0
+               && all(0, found.solution, job->rows * sizeof(double))
+               && all(0, found.impulses, 6 * job->bodies * sizeof(double))
+               && !memcmp(found.numbers, job->numbers, sizeof found.numbers), what, "count 0");
+        alike(what, job, mode);
+    }
+    for (uint32_t mode = refusing; mode < 3; mode++)
+        solve_refused_by(KAPITSA_REFUSED_PIVOT, what, job, mode);
+}
+
+/* V2 to V4; V1 is P1 above. */
+static void sheets(void)
+{
+    struct job job = two_speeds(0.001, -0.001, 0);
+    job.numbers[25] = from_bits(MINUS); /* with count 0 these bits stay */
+    job.numbers[27 + 25] = 0.1;
+    within_tolerance("V2: two equal rows", &job, 1);
+    job = two_speeds(0.001, 0.001, 1);
+    job.numbers[27] = job.numbers[27 + 9] = 0.0;
+    within_tolerance("V3: a row of zeros", &job, 2);
+    job.words[8 + 1] = KAPITSA_ANGULAR; /* its residual becomes 0, and so its maximum */
+    within_tolerance("V3: an angular row of zeros", &job, 2);
+    job.residuals[1] = from_bits(bits_of(0.001) + 1);
+    for (uint32_t mode = 0; mode < 3; mode++)
+        solve_refused_by(KAPITSA_REFUSED_IMMOVABLE, "9 for a row of zeros", &job, mode);
+    job = chain();
+    job.numbers[0] = job.numbers[3] = job.numbers[9] = job.numbers[13] = 0.0; /* 9 */
+    for (uint32_t mode = 0; mode < 3; mode++)
+        solve_refused_by(KAPITSA_REFUSED_IMMOVABLE, "9 alone", &job, mode);
+    job.words[8 * 2 + 3] = 7; /* body_b */
+    refused_by(KAPITSA_REFUSED_ROW, "V4: 7 of the last row before 9 of the first", &job);
+}
+
+/* 20: whatever is not finite, in any row, by solve and check; and its place, V5. */
+static void odd_residuals(void)
+{
+    static const uint64_t odd[] = {INFINITE, MINUS | INFINITE, 0x7ff8000000000000u,
+                                   0x7ff0000000000001u, 0xfff8000000000007u};
+    for (uint32_t row = 0; row < 3; row++)
+        for (size_t i = 0; i < sizeof odd / sizeof odd[0]; i++) {
+            struct job job = chain();
+            job.residuals[row] = from_bits(odd[i]);
+            refused_by(KAPITSA_REFUSED_SPEED, "a residual that is not finite", &job);
+        }
+    struct job job = p1(0.0, 0.001);
+    job.residuals[0] = from_bits(0x7ff8000000000000u);
+    job.numbers[25] = from_bits(0x7ff8000000000000u);
+    refused_by(KAPITSA_REFUSED_SPEED, "V5: 20 before 7", &job);
+    job.masses[13] = from_bits(0x7ff8000000000000u);
+    refused_by(KAPITSA_REFUSED_MASS, "V5: 6 before 20", &job);
+    job.limit = 0;
+    for (uint32_t mode = 0; mode < 3; mode++)
+        solve_refused_by(KAPITSA_REFUSED_OPENING, "V5: 5 before 20", &job, mode);
+    job.rules.words[2] = 0;
+    job.words[0] = 1; /* key */
+    refused_by(KAPITSA_REFUSED_RULES_OF_ROW, "28 before 20", &job);
+    job.rules.tolerances[1] = -1.0;
+    refused_by(KAPITSA_REFUSED_RULE, "27 before 20", &job);
+    job.words[5] = 2; /* position_enabled */
+    refused_by(KAPITSA_REFUSED_WORD, "4 before 20, by position_enabled too", &job);
+    job.more[RESIDUALS] = 1;
+    refused_by(KAPITSA_REFUSED_LENGTH, "3 before 20", &job);
+    job = p1(0.0, 0.001);
+    job.residuals[0] = from_bits(INFINITE);
+    job.rows = 0;
+    expect(solve(&job, 0, KAPITSA_CONTROL, exactly).refusal == 0, "no row, no 20", "solve");
+    expect(says(check(&job, no_multipliers, KAPITSA_CONTROL, exactly), KAPITSA_CLOSED),
+           "no row, no 20", "check");
+}
+
+/* The opening test reads these numbers of a row and no others: 5, or the bits of the plain row. */
+static void opening(void)
+{
+    static const struct {
+        int number;
+        uint64_t bits;
+        uint32_t refusal;
+    } rows[] = {
+        {18, 0x3ff0000000000000u, KAPITSA_REFUSED_OPENING}, /* compliance */
+        {19, 0x3ff0000000000000u, KAPITSA_REFUSED_OPENING}, /* damping */
+        {22, MINUS | LARGEST, KAPITSA_REFUSED_OPENING},     /* min_impulse */
+        {23, LARGEST, KAPITSA_REFUSED_OPENING},             /* max_impulse */
+        {23, 0x7ff8000000000000u, KAPITSA_REFUSED_OPENING},
+        {15, LARGEST, KAPITSA_ACCEPTED},            /* error */
+        {16, LARGEST, KAPITSA_ACCEPTED},            /* target_velocity */
+        {20, MINUS | INFINITE, KAPITSA_ACCEPTED},   /* min_multiplier */
+        {21, INFINITE, KAPITSA_ACCEPTED},           /* max_multiplier */
+        {20, 0x3ff0000000000000u, KAPITSA_REFUSED_ROW}, /* above the other bound */
+        {21, 0x7ff8000000000000u, KAPITSA_REFUSED_ROW},
+        {15, INFINITE, KAPITSA_REFUSED_ROW},
+    };
+    const struct job plain = chain();
+    for (uint32_t mode = 0; mode < 3; mode++) {
+        const struct solved wanted = solve(&plain, mode, KAPITSA_CONTROL, exactly);
+        struct job job = plain;
+        for (size_t i = 0; i < sizeof rows / sizeof rows[0]; i++) {
+            job = plain;
+            job.numbers[27 + rows[i].number] = from_bits(rows[i].bits);
+            if (rows[i].refusal) {
+                solve_refused_by(rows[i].refusal, "a number of a row", &job, mode);
+                continue;
+            }
+            const struct solved found = solve(&job, mode, KAPITSA_CONTROL, exactly);
+            expect(found.refusal == 0 && impulses_alone(&job, &found)
+                   && !memcmp(found.solution, wanted.solution, sizeof found.solution),
+                   "a number of a row that nothing reads", "solve");
+        }
+        job = plain;
+        job.words[8 + 5] = 1; /* position_enabled */
+        const struct solved found = solve(&job, mode, KAPITSA_CONTROL, exactly);
+        expect(!memcmp(&found, &wanted, sizeof found), "position on", "solve");
+        job.words[8 + 4] = 1; /* force_driven */
+        solve_refused_by(KAPITSA_REFUSED_OPENING, "5 for force_driven", &job, mode);
+    }
+}
+
+/* The second row's accumulated impulse is the largest double and gains a unit: 17, and the first
+   row is not written either. An eighth of a unit is rounded away. */
+static void largest_impulse(void)
+{
+    struct job job = two_speeds(1.0, 1.0, 1);
+    job.numbers[27] = job.numbers[27 + 9] = 0.0;
+    job.numbers[27 + 1] = 1.0; /* along y */
+    job.numbers[27 + 10] = -1.0;
+    job.numbers[27 + 25] = from_bits(LARGEST);
+    job.masses[0] = job.masses[10] = from_bits(0x0330000000000000u); /* 2^-972 */
+    for (uint32_t mode = 0; mode < 3; mode++) {
+        job.residuals[1] = 1.0;
+        solve_refused_by(KAPITSA_REFUSED_RESULT, "17 by an accumulated impulse", &job, mode);
+        job.residuals[1] = 0.125;
+        const struct solved found = solve(&job, mode, KAPITSA_CONTROL, exactly);
+        expect(found.refusal == 0 && bits_of(found.numbers[27 + 25]) == LARGEST
+               && bits_of(found.numbers[25]) == bits_of(found.solution[0]), "no 17", "solve");
+        alike("the largest impulse", &job, mode);
     }
 }
 
@@ -975,10 +1289,13 @@ static int solve_of_nothing(uint32_t rows, uint32_t bodies, uint32_t mode, doubl
     double maxima[2];
     memset(counts, PATTERN, sizeof counts);
     memset(maxima, PATTERN, sizeof maxima);
-    const uint32_t found = kapitsa_solve_in(NULL, 0, NULL, 0, NULL, 0, NULL, 0, NULL, 0, NULL, 0,
-                                            rows, bodies, 0, mode, 0.0, NULL, 0, NULL, 0, NULL, 0,
-                                            NULL, 0, counts, maxima, work, work_len, more,
-                                            more_len);
+    const uint32_t found = speeds
+        ? kapitsa_solve_velocity_in(NULL, 0, NULL, 0, NULL, 0, NULL, 0, NULL, 0, NULL, 0, rows,
+                                    bodies, 0, mode, 0.0, NULL, 0, NULL, 0, NULL, 0, counts,
+                                    maxima, work, work_len, more, more_len)
+        : kapitsa_solve_in(NULL, 0, NULL, 0, NULL, 0, NULL, 0, NULL, 0, NULL, 0, rows, bodies, 0,
+                           mode, 0.0, NULL, 0, NULL, 0, NULL, 0, NULL, 0, counts, maxima, work,
+                           work_len, more, more_len);
     return found == refusal
         && (found ? KEPT(counts) && KEPT(maxima)
                   : counts[0] == 0 && counts[1] == 1 && all(0, maxima, sizeof maxima));
@@ -990,9 +1307,9 @@ static int check_of_nothing(uint32_t rows, uint32_t bodies, double *work, size_t
     uint32_t verdict = 9;
     double gap[2];
     memset(gap, PATTERN, sizeof gap);
-    const uint32_t found = kapitsa_check_in(NULL, 0, NULL, 0, NULL, 0, NULL, 0, NULL, 0, NULL, 0,
-                                            rows, bodies, NULL, 0, NULL, 0, &verdict, gap, work,
-                                            work_len, more, more_len);
+    const uint32_t found = (speeds ? kapitsa_check_velocity_in : kapitsa_check_in)(
+        NULL, 0, NULL, 0, NULL, 0, NULL, 0, NULL, 0, NULL, 0, rows, bodies, NULL, 0, NULL, 0,
+        &verdict, gap, work, work_len, more, more_len);
     return found == refusal && verdict == (found ? 9 : KAPITSA_CLOSED)
         && (found ? KEPT(gap) : measures(gap, 0, 0));
 }
@@ -1030,9 +1347,10 @@ static void at_the_limits(void)
 {
     enum { N = KAPITSA_MAX_ROWS, B = KAPITSA_MAX_BODIES, R = KAPITSA_MAX_RULES };
     static double numbers[27 * N], masses[10 * B], solution[N], impulses[6 * B], maxima[2];
-    static double centres[3 * B], new_places[3 * B];
+    static double centres[3 * B], new_places[3 * B], residuals[N];
     static uint32_t row_words[8 * N], rule_numbers[N], counts[2];
     struct rules rules = no_rules();
+    memset(numbers, 0, sizeof numbers);
     for (uint32_t i = 0; i < N; i++) {
         set_row(numbers + 27 * i, row_words + 8 * i, i / 2, (i / 2 + 1) % B, i);
         row_words[8 * i] = i % 256; /* key */
@@ -1043,22 +1361,29 @@ static void at_the_limits(void)
         masses[10 * j] = 0.5;
     for (uint32_t k = 0; k < 3 * B; k++)
         centres[k] = 0.125 * k;
-    numbers[15] = 0.01; /* the first row's error */
+    set_error(numbers, residuals, 0.01);
     for (uint32_t mode = 0; mode < 3; mode++) {
         const size_t d = kapitsa_solve_doubles(N, B, mode), w = kapitsa_solve_words(N, B, mode);
         fill_work();
         for (uint32_t i = 0; i < N; i++)
             rule_numbers[i] = 999;
-        const uint32_t refusal = kapitsa_solve_in(
-            numbers, 27 * N, row_words, 8 * N, masses, 10 * B, centres, 3 * B, rules.words, 3 * R,
-            rules.tolerances, R, N, B, 1, mode, 0.0, solution, N, impulses, 6 * B, new_places,
-            3 * B, rule_numbers, N, counts, maxima, doubles, d, words, w);
+        uint32_t refusal;
+        if (speeds)
+            refusal = kapitsa_solve_velocity_in(
+                numbers, 27 * N, row_words, 8 * N, masses, 10 * B, residuals, N, rules.words,
+                3 * R, rules.tolerances, R, N, B, 1, mode, 0.0, solution, N, impulses, 6 * B,
+                rule_numbers, N, counts, maxima, doubles, d, words, w);
+        else
+            refusal = kapitsa_solve_in(
+                numbers, 27 * N, row_words, 8 * N, masses, 10 * B, centres, 3 * B, rules.words,
+                3 * R, rules.tolerances, R, N, B, 1, mode, 0.0, solution, N, impulses, 6 * B,
+                new_places, 3 * B, rule_numbers, N, counts, maxima, doubles, d, words, w);
         expect(refusal == (mode == 1 ? KAPITSA_REFUSED_PIVOT : KAPITSA_ACCEPTED)
                && work_clear(d, w), "512 rows", "solve");
         for (uint32_t i = 0; i < N; i++)
             expect(rule_numbers[i] == (mode == 1 ? 999 : i % 256 / 4),
                    "the rule of each of 512 rows", "solve");
-        for (uint32_t k = 0; k < 3 * B && mode != 1; k++)
+        for (uint32_t k = 0; k < 3 * B && mode != 1 && !speeds; k++)
             expect((bits_of(new_places[k]) == bits_of(centres[k]))
                        == (bits_of(impulses[6 * (k / 3) + k % 3]) == 0),
                    "which of 256 bodies move", "solve");
@@ -1068,10 +1393,10 @@ static void at_the_limits(void)
     double gap[2];
     fill_work();
     memset(rule_numbers, PATTERN, sizeof rule_numbers);
-    const uint32_t refusal = kapitsa_check_in(
-        numbers, 27 * N, row_words, 8 * N, masses, 10 * B, centres, 3 * B, rules.words, 3 * R,
-        rules.tolerances, R, N, B, solution, N, rule_numbers, N, &verdict, gap, doubles, d, words,
-        w);
+    const uint32_t refusal = (speeds ? kapitsa_check_velocity_in : kapitsa_check_in)(
+        numbers, 27 * N, row_words, 8 * N, masses, 10 * B, speeds ? residuals : centres,
+        speeds ? N : 3 * B, rules.words, 3 * R, rules.tolerances, R, N, B, solution, N,
+        rule_numbers, N, &verdict, gap, doubles, d, words, w);
     for (uint32_t i = 0; i < N; i++)
         expect(rule_numbers[i] == i % 256 / 4, "the rule of each of 512 rows", "check");
     expect(refusal == 0 && verdict == KAPITSA_OPEN && bits_of(gap[0]) > bits_of(1e-9)
@@ -1087,26 +1412,36 @@ int main(void)
 #else
     expect(start == KAPITSA_CONTROL, "the default mode at the start", "start");
 #endif
-    solves_in_all_modes();
-    checks_in_all_modes();
-    arguments();
-    raw_modes();
-    verdicts();
-    lengths_told();
-    shifts();
-    sound_rules();
-    own_tolerances();
-    odd_rules();
-    rules_of_rows();
-    lengths_of_rules();
+    for (speeds = 0; speeds < 2; speeds++) {
+        solves_in_all_modes();
+        checks_in_all_modes();
+        arguments();
+        raw_modes();
+        verdicts();
+        lengths_told();
+        shifts();
+        sound_rules();
+        own_tolerances();
+        odd_rules();
+        rules_of_rows();
+        lengths_of_rules();
+        lengths_of_slices();
+        work_memory();
+        empty_jobs();
+        beyond_the_limits();
+        at_the_limits();
+    }
+    speeds = 0;
     new_centres();
     odd_centres();
     lengths_of_centres();
     sizes();
-    work_memory();
-    empty_jobs();
-    beyond_the_limits();
-    at_the_limits();
+    as_positions();
+    speeds = 1;
+    sheets();
+    odd_residuals();
+    opening();
+    largest_impulse();
     expect(_mm_getcsr() == start, "the mode at the start is left as it was", "end");
     printf("%u passed, %u failed\n", passed, failed);
     return failed != 0;

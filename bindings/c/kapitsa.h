@@ -1,9 +1,9 @@
-/* Zapekuri for C and C++: the position solve, the closing check and the inverse of a local inertia
-   of `rt staticlib kapitsa_c`, an archive for x86-64.
+/* Zapekuri for C and C++: the position solve and the velocity solve, the closing check of each and
+   the inverse of a local inertia of `rt staticlib kapitsa_c`, an archive for x86-64.
 
    A slice is a pointer, then its length; where the length is 0 the pointer may be NULL. For n rows
    and b bodies numbers has 27 n doubles, words 8 n, masses 10 b, centres and new_centres 3 b each;
-   solution, multipliers and rule_numbers have n, impulses 6 b. Row i has its doubles from
+   residuals, solution, multipliers and rule_numbers have n, impulses 6 b. Row i has its doubles from
    numbers[27 * i]: linear_a (3), angular_a (3), position_angular_a (3), linear_b (3), angular_b
    (3), error, target_velocity, force_bias, compliance, damping, min_multiplier, max_multiplier,
    min_impulse, max_impulse, accumulated_multiplier, accumulated_impulse,
@@ -13,24 +13,31 @@
    centres[3 * j]: where no centre is known, lend zeros, and what new_centres gets is by how much
    each body moves.
 
+   Velocities take the same rows and masses, no centres, and residuals, which are only read: for
+   each row the speed that it should have less the one that it has, in m/s or rad/s. Nothing but
+   refusals 4 and 7 then reads error, position_enabled and the bounds of the multiplier. Instead of
+   those the bounds of the impulse must be -infinity and +infinity.
+
    Tolerances are given by rules, at most KAPITSA_MAX_RULES: for r rules rule_words has 3 r,
    rule_tolerances r. Rule i has dimension, first key and last key from rule_words[3 * i] and its
-   tolerance, in metres or radians, at rule_tolerances[i]. It applies to the rows of its dimension
-   whose key is from the first to the last. Each row must be under one rule and no second; keys that
-   no row bears need none, and there rules may overlap. rule_numbers gets the number of each row's
-   rule, from 0. One tolerance for each dimension is KAPITSA_TWO_RULES.
+   tolerance at rule_tolerances[i], in metres or radians, for velocities in m/s or rad/s. It applies
+   to the rows of its dimension whose key is from the first to the last. Each row must be under one
+   rule and no second; keys that no row bears need none, and there rules may overlap. rule_numbers
+   gets the number of each row's rule, from 0. One tolerance for each dimension is
+   KAPITSA_TWO_RULES.
 
    Every call returns 0 or the number of a refusal; what it finds it writes into lent memory, and
    only where it returns 0. The work memory is 0 after every call but one refused by 3, which
    writes nothing at all.
 
-   kapitsa_solve_in and kapitsa_check_in, at the end, work in one piece of doubles and one of words,
-   and as kapitsa_inverse_in, in whatever floating-point mode the caller is. They ask of a caller that a pointer and its
-   length belong together and that no two slices overlap; all else is tested, and refused where it
-   does not fit. The raw functions, kapitsa_solve_position, kapitsa_closing_check and
-   kapitsa_inverse_spd, take each work slice by itself and assume besides that the control word MXCSR is KAPITSA_CONTROL: in
-   another mode their answers, "closed" too, mean nothing. A program starts in that mode, unless it
-   was linked with -ffast-math. */
+   kapitsa_solve_in, kapitsa_check_in, kapitsa_solve_velocity_in and kapitsa_check_velocity_in, at
+   the end, work in one piece of doubles and one of words and, as kapitsa_inverse_in, in whatever
+   floating-point mode the caller is. They ask of a caller that a pointer and its length belong
+   together and that no two slices overlap; all else is tested, and refused where it does not fit.
+   The raw functions, kapitsa_solve_position, kapitsa_closing_check, kapitsa_solve_velocity,
+   kapitsa_velocity_closing_check and kapitsa_inverse_spd, take each work slice by itself and assume
+   besides that the control word MXCSR is KAPITSA_CONTROL: in another mode their answers, "closed"
+   too, mean nothing. A program starts in that mode, unless it was linked with -ffast-math. */
 #ifndef KAPITSA_H
 #define KAPITSA_H
 
@@ -87,11 +94,13 @@ enum kapitsa_refusal {
     KAPITSA_ACCEPTED = 0,
     KAPITSA_REFUSED_LENGTH = 3,     /* a count, the mode or a slice's length does not fit; 65 rules */
     KAPITSA_REFUSED_WORD = 4,       /* a row has a key, dimension, flag or spare that there is not */
-    KAPITSA_REFUSED_OPENING = 5,    /* rows and limit 0, or a row off, soft, driven or bounded */
+    KAPITSA_REFUSED_OPENING = 5,    /* rows and limit 0, or a row off (positions alone), soft, driven
+                                       or bounded */
     KAPITSA_REFUSED_MASS = 6,       /* a mass number, or one of a centre, is not finite */
     KAPITSA_REFUSED_ROW = 7,        /* a row is not valid, or names a body that there is not */
     KAPITSA_REFUSED_DIAGONAL = 8,   /* a row's diagonal overflows */
-    KAPITSA_REFUSED_IMMOVABLE = 9,  /* a row's diagonal is at most MIN, its error above tolerance */
+    KAPITSA_REFUSED_IMMOVABLE = 9,  /* a row's diagonal is at most MIN, its error or residual above
+                                       tolerance */
     KAPITSA_REFUSED_PAIRS = 10,     /* mode 1: more than 16,384 pairs of rows share a body */
     KAPITSA_REFUSED_BLOCK = 11,     /* mode 2: a joint has over six rows, or differing bodies */
     KAPITSA_REFUSED_VALUE = 12,     /* a pair's, a block's or an inverse's value is not finite */
@@ -101,6 +110,7 @@ enum kapitsa_refusal {
     KAPITSA_REFUSED_STEP = 16,      /* a number in the steps is not finite */
     KAPITSA_REFUSED_RESULT = 17,    /* a final impulse, multiplier or centre is not finite */
     KAPITSA_REFUSED_RANGE = 18,     /* check: a number neither 0 nor from 2^-150 to 2^150 in size */
+    KAPITSA_REFUSED_SPEED = 20,     /* velocities: a lent residual is not finite; right after 6 */
     KAPITSA_REFUSED_NUMBER = 21,    /* inverse: a number is not finite */
     KAPITSA_REFUSED_SYMMETRY = 22,  /* inverse: two numbers are farther apart than 2^-47 allows */
     KAPITSA_REFUSED_DEFINITE = 23,  /* inverse: not positive definite */
@@ -193,13 +203,43 @@ KAPITSA_MUST_USE uint32_t kapitsa_closing_check(
     uint32_t *verdict, size_t verdict_len, double *gap, size_t gap_len
     KAPITSA_CHECK_WORK(KAPITSA_TAKES_DOUBLES, KAPITSA_TAKES_WORDS));
 
+/* Refusals 3, 25, 4, 27, 28, 5, 6, 20 and 7 to 17, judged in this order, where all rows pass 7
+   before 8 and 9 judge the first. The factor of modes 1 and 2 is built before the tolerance is
+   tested: 10 to 13 turn back residuals that are within it, too. As kapitsa_solve_position it writes
+   solution, impulses, rule_numbers, counts and maxima, and of numbers the accumulated impulses
+   alone: each gains its solution number, and with count 0 keeps its bits. */
+KAPITSA_MUST_USE uint32_t kapitsa_solve_velocity(
+    double *numbers, size_t numbers_len, const uint32_t *words, size_t words_len,
+    const double *masses, size_t masses_len, const double *residuals, size_t residuals_len,
+    const uint32_t *rule_words, size_t rule_words_len,
+    const double *rule_tolerances, size_t rule_tolerances_len,
+    uint32_t rows, uint32_t bodies, uint32_t limit, uint32_t mode, double shift,
+    double *solution, size_t solution_len, double *impulses, size_t impulses_len,
+    uint32_t *rule_numbers, size_t rule_numbers_len,
+    uint32_t *counts, size_t counts_len, double *maxima, size_t maxima_len
+    KAPITSA_SOLVE_WORK(KAPITSA_TAKES_DOUBLES, KAPITSA_TAKES_WORDS));
+
+/* Refusals 3, 4, 27, 28, 6, 20, 7 and 18. kapitsa_closing_check with -residual in the error's place:
+   multipliers are the gains since the residuals were measured, gap is in m/s and rad/s, and 18
+   judges residuals instead of errors. */
+KAPITSA_MUST_USE uint32_t kapitsa_velocity_closing_check(
+    const double *numbers, size_t numbers_len, const uint32_t *words, size_t words_len,
+    const double *masses, size_t masses_len, const double *residuals, size_t residuals_len,
+    const uint32_t *rule_words, size_t rule_words_len,
+    const double *rule_tolerances, size_t rule_tolerances_len,
+    uint32_t rows, uint32_t bodies, const double *multipliers, size_t multipliers_len,
+    uint32_t *rule_numbers, size_t rule_numbers_len,
+    uint32_t *verdict, size_t verdict_len, double *gap, size_t gap_len
+    KAPITSA_CHECK_WORK(KAPITSA_TAKES_DOUBLES, KAPITSA_TAKES_WORDS));
+
 /* Refusals 3, 21, 22, 23 and 12, judged in this order. inertia and inverse have 9 doubles each, by
    columns, as a mass has its inverse inertia; inverse is written where 0 is returned. */
 KAPITSA_MUST_USE uint32_t kapitsa_inverse_spd(
     const double *inertia, size_t inertia_len, double *inverse, size_t inverse_len);
 
-/* ---- how much work memory a call needs, exactly: more may be lent, less is refused by 3.
-   0 too where a count or the mode is beyond the limits: whatever is lent, such a call is refused. */
+/* ---- how much work memory a call needs, exactly, the same for positions and for velocities: more
+   may be lent, less is refused by 3. 0 too where a count or the mode is beyond the limits: whatever
+   is lent, such a call is refused. */
 
 static inline int kapitsa_within(uint32_t rows, uint32_t bodies, uint32_t mode)
 {
@@ -269,6 +309,31 @@ static inline uint32_t *kapitsa_carve_words(uint32_t **rest, size_t length)
     return carved;
 }
 
+/* The work slices of a solve and of a check, or 3 where what is lent is too short for them. */
+#define KAPITSA_SOLVE_ROOM                                                \
+    size_t n = rows, b = bodies, p = kapitsa_pairs(rows);                 \
+    if (!kapitsa_within(rows, bodies, mode)                               \
+        || work_doubles_len < kapitsa_solve_doubles(rows, bodies, mode)   \
+        || work_words_len < kapitsa_solve_words(rows, bodies, mode))      \
+        return KAPITSA_REFUSED_LENGTH;                                    \
+    KAPITSA_SOLVE_WORK(KAPITSA_CARVE_DOUBLES, KAPITSA_CARVE_WORDS)
+
+#define KAPITSA_CHECK_ROOM                                                \
+    size_t n = rows, b = bodies;                                          \
+    if (!kapitsa_within(rows, bodies, 0)                                  \
+        || work_doubles_len < kapitsa_check_doubles(rows, bodies)         \
+        || work_words_len < kapitsa_check_words(rows, bodies))            \
+        return KAPITSA_REFUSED_LENGTH;                                    \
+    KAPITSA_CHECK_WORK(KAPITSA_CARVE_DOUBLES, KAPITSA_CARVE_WORDS)
+
+/* What the call of a raw function answers under KAPITSA_CONTROL. */
+#define KAPITSA_RETURN_CONTROLLED(call)                                   \
+    unsigned control = _mm_getcsr();                                      \
+    _mm_setcsr(KAPITSA_CONTROL);                                          \
+    uint32_t refusal = call;                                              \
+    _mm_setcsr(control);                                                  \
+    return refusal;
+
 KAPITSA_APART uint32_t kapitsa_solve_in(
     double *numbers, size_t numbers_len, const uint32_t *words, size_t words_len,
     const double *masses, size_t masses_len, const double *centres, size_t centres_len,
@@ -280,25 +345,36 @@ KAPITSA_APART uint32_t kapitsa_solve_in(
     uint32_t *rule_numbers, size_t rule_numbers_len, uint32_t counts[2], double maxima[2],
     double *work_doubles, size_t work_doubles_len, uint32_t *work_words, size_t work_words_len)
 {
-    if (!kapitsa_within(rows, bodies, mode)
-        || work_doubles_len < kapitsa_solve_doubles(rows, bodies, mode)
-        || work_words_len < kapitsa_solve_words(rows, bodies, mode))
-        return KAPITSA_REFUSED_LENGTH;
-    size_t n = rows, b = bodies, p = kapitsa_pairs(rows);
-    KAPITSA_SOLVE_WORK(KAPITSA_CARVE_DOUBLES, KAPITSA_CARVE_WORDS)
-    unsigned control = _mm_getcsr();
-    _mm_setcsr(KAPITSA_CONTROL);
-    uint32_t refusal = kapitsa_solve_position(
+    KAPITSA_SOLVE_ROOM
+    KAPITSA_RETURN_CONTROLLED(kapitsa_solve_position(
         numbers, numbers_len, words, words_len, masses, masses_len, centres, centres_len,
         rule_words, rule_words_len, rule_tolerances, rule_tolerances_len,
         rows, bodies, limit, mode, shift, solution, solution_len, impulses, impulses_len,
         new_centres, new_centres_len, rule_numbers, rule_numbers_len, counts, 2, maxima, 2
-        KAPITSA_SOLVE_WORK(KAPITSA_LEND, KAPITSA_LEND));
-    _mm_setcsr(control);
-    return refusal;
+        KAPITSA_SOLVE_WORK(KAPITSA_LEND, KAPITSA_LEND)))
 }
 
-/* Read *verdict, gap and rule_numbers only where 0 was returned: a refusal leaves there what was there. */
+KAPITSA_APART uint32_t kapitsa_solve_velocity_in(
+    double *numbers, size_t numbers_len, const uint32_t *words, size_t words_len,
+    const double *masses, size_t masses_len, const double *residuals, size_t residuals_len,
+    const uint32_t *rule_words, size_t rule_words_len,
+    const double *rule_tolerances, size_t rule_tolerances_len,
+    uint32_t rows, uint32_t bodies, uint32_t limit, uint32_t mode, double shift,
+    double *solution, size_t solution_len, double *impulses, size_t impulses_len,
+    uint32_t *rule_numbers, size_t rule_numbers_len, uint32_t counts[2], double maxima[2],
+    double *work_doubles, size_t work_doubles_len, uint32_t *work_words, size_t work_words_len)
+{
+    KAPITSA_SOLVE_ROOM
+    KAPITSA_RETURN_CONTROLLED(kapitsa_solve_velocity(
+        numbers, numbers_len, words, words_len, masses, masses_len, residuals, residuals_len,
+        rule_words, rule_words_len, rule_tolerances, rule_tolerances_len,
+        rows, bodies, limit, mode, shift, solution, solution_len, impulses, impulses_len,
+        rule_numbers, rule_numbers_len, counts, 2, maxima, 2
+        KAPITSA_SOLVE_WORK(KAPITSA_LEND, KAPITSA_LEND)))
+}
+
+/* Of both checks read *verdict, gap and rule_numbers only where 0 was returned: a refusal leaves
+   there what was there. */
 KAPITSA_APART uint32_t kapitsa_check_in(
     const double *numbers, size_t numbers_len, const uint32_t *words, size_t words_len,
     const double *masses, size_t masses_len, const double *centres, size_t centres_len,
@@ -308,31 +384,36 @@ KAPITSA_APART uint32_t kapitsa_check_in(
     uint32_t *rule_numbers, size_t rule_numbers_len, uint32_t *verdict, double gap[2],
     double *work_doubles, size_t work_doubles_len, uint32_t *work_words, size_t work_words_len)
 {
-    if (!kapitsa_within(rows, bodies, 0)
-        || work_doubles_len < kapitsa_check_doubles(rows, bodies)
-        || work_words_len < kapitsa_check_words(rows, bodies))
-        return KAPITSA_REFUSED_LENGTH;
-    size_t n = rows, b = bodies;
-    KAPITSA_CHECK_WORK(KAPITSA_CARVE_DOUBLES, KAPITSA_CARVE_WORDS)
-    unsigned control = _mm_getcsr();
-    _mm_setcsr(KAPITSA_CONTROL);
-    uint32_t refusal = kapitsa_closing_check(
+    KAPITSA_CHECK_ROOM
+    KAPITSA_RETURN_CONTROLLED(kapitsa_closing_check(
         numbers, numbers_len, words, words_len, masses, masses_len, centres, centres_len,
         rule_words, rule_words_len, rule_tolerances, rule_tolerances_len,
         rows, bodies, multipliers, multipliers_len, rule_numbers, rule_numbers_len,
         verdict, 1, gap, 2
-        KAPITSA_CHECK_WORK(KAPITSA_LEND, KAPITSA_LEND));
-    _mm_setcsr(control);
-    return refusal;
+        KAPITSA_CHECK_WORK(KAPITSA_LEND, KAPITSA_LEND)))
+}
+
+KAPITSA_APART uint32_t kapitsa_check_velocity_in(
+    const double *numbers, size_t numbers_len, const uint32_t *words, size_t words_len,
+    const double *masses, size_t masses_len, const double *residuals, size_t residuals_len,
+    const uint32_t *rule_words, size_t rule_words_len,
+    const double *rule_tolerances, size_t rule_tolerances_len,
+    uint32_t rows, uint32_t bodies, const double *multipliers, size_t multipliers_len,
+    uint32_t *rule_numbers, size_t rule_numbers_len, uint32_t *verdict, double gap[2],
+    double *work_doubles, size_t work_doubles_len, uint32_t *work_words, size_t work_words_len)
+{
+    KAPITSA_CHECK_ROOM
+    KAPITSA_RETURN_CONTROLLED(kapitsa_velocity_closing_check(
+        numbers, numbers_len, words, words_len, masses, masses_len, residuals, residuals_len,
+        rule_words, rule_words_len, rule_tolerances, rule_tolerances_len,
+        rows, bodies, multipliers, multipliers_len, rule_numbers, rule_numbers_len,
+        verdict, 1, gap, 2
+        KAPITSA_CHECK_WORK(KAPITSA_LEND, KAPITSA_LEND)))
 }
 
 KAPITSA_APART uint32_t kapitsa_inverse_in(const double inertia[9], double inverse[9])
 {
-    unsigned control = _mm_getcsr();
-    _mm_setcsr(KAPITSA_CONTROL);
-    uint32_t refusal = kapitsa_inverse_spd(inertia, 9, inverse, 9);
-    _mm_setcsr(control);
-    return refusal;
+    KAPITSA_RETURN_CONTROLLED(kapitsa_inverse_spd(inertia, 9, inverse, 9))
 }
 
 #undef KAPITSA_SOLVE_WORK
@@ -345,6 +426,9 @@ KAPITSA_APART uint32_t kapitsa_inverse_in(const double inertia[9], double invers
 #undef KAPITSA_CARVE_DOUBLES
 #undef KAPITSA_CARVE_WORDS
 #undef KAPITSA_LEND
+#undef KAPITSA_SOLVE_ROOM
+#undef KAPITSA_CHECK_ROOM
+#undef KAPITSA_RETURN_CONTROLLED
 #undef KAPITSA_MUST_USE
 #undef KAPITSA_APART
 

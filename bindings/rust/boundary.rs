@@ -1,5 +1,6 @@
-//! The boundary between the port and Rust, as bindings/c/boundary.c has it for C: floating-point
-//! modes, 18, rules, centres, lengths, empty jobs and the limits. The last line is `N passed, 0 failed`.
+//! The boundary between the port and Rust, as bindings/c/boundary.c has it for C, for positions and
+//! for velocities: floating-point modes, 18, rules, centres, residuals, lengths, empty jobs and the
+//! limits. The last line is `N passed, 0 failed`.
 //! Rust itself assumes the default mode: in another one nothing is computed here.
 
 #[allow(dead_code)] // the limits of pairs
@@ -33,6 +34,30 @@ struct Job {
     centres: Vec<f64>,
     rules: Rules,
     shift: f64,
+    limit: u32,
+    /// A velocity job where there are some.
+    residuals: Option<Vec<f64>>,
+}
+
+/// What makes a job of positions one of the kind that is tried.
+type Kind = fn(Job) -> Job;
+
+fn of_positions(job: Job) -> Job {
+    job
+}
+
+/// The same job for velocities: -residual in the error's place, any error, position off, and the
+/// impulse's bounds infinite instead of the multiplier's.
+fn of_velocities(mut job: Job) -> Job {
+    let mut residuals = vec![];
+    for (row, words) in job.numbers.chunks_mut(27).zip(job.words.chunks_mut(8)) {
+        residuals.push(-row[15]);
+        row[15] = 2f64.powi(664); // 18 would not let it pass
+        row[20..24].copy_from_slice(&[0.0, 0.0, f64::NEG_INFINITY, f64::INFINITY]);
+        words[5] = 0;
+    }
+    job.residuals = Some(residuals);
+    job
 }
 
 impl Job {
@@ -57,7 +82,7 @@ impl Job {
 
 /// Document 01's P1, with another error and tolerance.
 fn p1(error: f64, tolerance: f64) -> Job {
-    let mut job = Job { rules: Rules::two(tolerance, tolerance), ..Job::default() };
+    let mut job = Job { rules: Rules::two(tolerance, tolerance), limit: 50, ..Job::default() };
     job.row(0, 1, 0, error);
     (0..2).for_each(|_| job.mass(0.5, 0.0));
     job
@@ -65,7 +90,7 @@ fn p1(error: f64, tolerance: f64) -> Job {
 
 /// Three rows of two joints on three bodies, with numbers that nothing divides evenly.
 fn chain() -> Job {
-    let mut job = Job { rules: Rules::two(1e-9, 1e-9), ..Job::default() };
+    let mut job = Job { rules: Rules::two(1e-9, 1e-9), limit: 50, ..Job::default() };
     for (i, (a, error)) in [(0, 0.1), (0, -0.03), (1, 0.07)].into_iter().enumerate() {
         let row = job.row(a, a + 1, a, error);
         row[i] = 0.9;
@@ -79,7 +104,7 @@ fn chain() -> Job {
 
 /// Two rows that say the same but for 2^-28 in one number: mode 1 finds a pivot of 0.
 fn worn(shift: f64) -> Job {
-    let mut job = Job { rules: Rules::two(1e-9, 1e-9), shift, ..Job::default() };
+    let mut job = Job { rules: Rules::two(1e-9, 1e-9), limit: 50, shift, ..Job::default() };
     job.row(0, 1, 0, -0.25);
     job.row(0, 1, 1, -0.25)[1] = 1.0 / 268_435_456.0; // 2^-28
     (0..2).for_each(|_| job.mass(0.5, 0.0));
@@ -115,8 +140,8 @@ fn within<T>(mode: u32, call: impl FnOnce() -> T) -> (T, u32) {
 /// of both, and the new centres, `KEPT` where nothing was written.
 #[derive(Debug, PartialEq)]
 struct Outcome {
-    solved: Result<(bool, u32, [u64; 2]), Refusal>,
-    checked: Result<(Verdict, [u64; 2]), Refusal>,
+    solved: Solved,
+    checked: Told,
     numbers: Vec<u64>,
     new_centres: Vec<u64>,
     rules: [Vec<u32>; 2],
@@ -125,38 +150,79 @@ struct Outcome {
 const KEPT: u32 = 0x5eed;
 const KEPT_BITS: u64 = 0x5eed_5eed_5eed_5eed;
 
-fn outcome(job: &Job, mode: Mode, work: &mut Work) -> Outcome {
-    let mut numbers = job.numbers.clone();
-    let rows = job.words.len() / 8;
-    let mut solution = vec![0.0; rows];
-    let bodies = job.masses.len() / 10;
-    let mut impulses = vec![0.0; 6 * bodies];
-    let mut new_centres = vec![f64::from_bits(KEPT_BITS); 3 * bodies];
-    let mut rules = [vec![KEPT; rows], vec![KEPT; rows]];
-    let Job { words, masses, centres, .. } = job;
-    let mut tables = Tables { numbers: &mut numbers, words, masses, centres };
-    let to = Delivered {
-        solution: &mut solution,
-        impulses: &mut impulses,
-        new_centres: &mut new_centres,
-        rule_numbers: &mut rules[0],
+type Solved = Result<(bool, u32, [u64; 2]), Refusal>;
+type Told = Result<(Verdict, [u64; 2]), Refusal>;
+
+/// What is lent of a job to write into.
+struct Lent {
+    numbers: Vec<f64>,
+    solution: Vec<f64>,
+    impulses: Vec<f64>,
+    new_centres: Vec<f64>,
+    rules: [Vec<u32>; 2],
+}
+
+fn positions(job: &Job, mode: Mode, to: &mut Lent, work: &mut Work) -> (Solved, Told) {
+    let Job { words, masses, centres, rules, limit, shift, .. } = job;
+    let mut tables = Tables { numbers: &mut to.numbers, words, masses, centres };
+    let delivered = Delivered {
+        solution: &mut to.solution,
+        impulses: &mut to.impulses,
+        new_centres: &mut to.new_centres,
+        rule_numbers: &mut to.rules[0],
     };
-    let solved = solve_position(&mut tables, &job.rules, 50, mode, job.shift, to, work);
-    let checked = closing_check(&tables, &job.rules, &solution, &mut rules[1], work);
-    let lists = numbers.iter().chain(&solution).chain(&impulses);
-    Outcome {
-        solved: solved.map(|answer| {
-            let maxima = [answer.linear_residual_m, answer.angular_residual_rad];
-            (answer.converged, answer.iterations, maxima.map(f64::to_bits))
-        }),
-        checked: checked.map(|found| {
-            let gap = [found.linear_gap_m, found.angular_gap_rad];
-            (found.verdict, gap.map(f64::to_bits))
-        }),
-        numbers: lists.map(|number| number.to_bits()).collect(),
-        new_centres: new_centres.iter().map(|number| number.to_bits()).collect(),
-        rules,
-    }
+    let solved = solve_position(&mut tables, rules, *limit, mode, *shift, delivered, work);
+    let checked = closing_check(&tables, rules, &to.solution, &mut to.rules[1], work);
+    let solved = solved.map(|answer| {
+        let maxima = [answer.linear_residual_m, answer.angular_residual_rad];
+        (answer.converged, answer.iterations, maxima.map(f64::to_bits))
+    });
+    let gap = |found: Checked| [found.linear_gap_m, found.angular_gap_rad].map(f64::to_bits);
+    (solved, checked.map(|found| (found.verdict, gap(found))))
+}
+
+fn velocities(
+    job: &Job,
+    residuals: &[f64],
+    mode: Mode,
+    to: &mut Lent,
+    work: &mut Work,
+) -> (Solved, Told) {
+    let Job { words, masses, rules, limit, shift, .. } = job;
+    let mut tables = VelocityTables { numbers: &mut to.numbers, words, masses, residuals };
+    let delivered = VelocityDelivered {
+        solution: &mut to.solution,
+        impulses: &mut to.impulses,
+        rule_numbers: &mut to.rules[0],
+    };
+    let solved = solve_velocity(&mut tables, rules, *limit, mode, *shift, delivered, work);
+    let checked = velocity_closing_check(&tables, rules, &to.solution, &mut to.rules[1], work);
+    let solved = solved.map(|answer| {
+        let maxima = [answer.linear_residual_mps, answer.angular_residual_radps];
+        (answer.converged, answer.iterations, maxima.map(f64::to_bits))
+    });
+    let gap = |found: VelocityChecked| [found.linear_gap_mps, found.angular_gap_radps];
+    (solved, checked.map(|found| (found.verdict, gap(found).map(f64::to_bits))))
+}
+
+fn outcome(job: &Job, mode: Mode, work: &mut Work) -> Outcome {
+    let rows = job.words.len() / 8;
+    let bodies = job.masses.len() / 10;
+    let mut to = Lent {
+        numbers: job.numbers.clone(),
+        solution: vec![0.0; rows],
+        impulses: vec![0.0; 6 * bodies],
+        new_centres: vec![f64::from_bits(KEPT_BITS); 3 * bodies],
+        rules: [vec![KEPT; rows], vec![KEPT; rows]],
+    };
+    let (solved, checked) = match &job.residuals {
+        None => positions(job, mode, &mut to, work),
+        Some(residuals) => velocities(job, residuals, mode, &mut to, work),
+    };
+    let Lent { numbers, solution, impulses, new_centres, rules } = to;
+    let bits = |list: Vec<f64>| list.iter().map(|number| number.to_bits()).collect();
+    let numbers = bits([numbers, solution, impulses].concat());
+    Outcome { solved, checked, numbers, new_centres: bits(new_centres), rules }
 }
 
 /// The bits of 17 · 2^-52 and of +0.0.
@@ -169,21 +235,28 @@ fn closed((verdict, [linear, angular]): (Verdict, [u64; 2])) -> bool {
 
 const ALL: [Mode; 3] = [Mode::Diagonal, Mode::IncompleteCholesky, Mode::BlockJacobi];
 
-fn floating_point_modes(tests: &mut Tests) {
-    let tiny = p1(f64::from_bits(1), 0.0);
-    let below_zero = p1(0.0, -f64::from_bits(1));
+/// Document 01's P1, and V1 for velocities, among others.
+fn floating_point_modes(tests: &mut Tests, of: Kind) {
+    let tiny = of(p1(f64::from_bits(1), 0.0));
+    let below_zero = of(p1(0.0, -f64::from_bits(1)));
     let mut work = Work::default();
     for mode in ALL {
-        let found = outcome(&p1(-0.25, 0.001), mode, &mut work);
+        let sheet = of(p1(-0.25, 0.001));
+        let grows = if sheet.residuals.is_some() { 25 } else { 24 };
+        let found = outcome(&sheet, mode, &mut work);
         tests.expect(found.solved == Ok((true, 1, [0; 2])), "P1");
         tests.expect(found.checked == Ok((Verdict::Closed, P1_GAP)), "P1 is closed");
-        tests.expect(found.numbers[24] == 0.25f64.to_bits(), "P1's multiplier");
-        let found = outcome(&chain(), mode, &mut work);
+        tests.expect(found.numbers[grows] == 0.25f64.to_bits(), "P1's multiplier");
+        for (exponent, verdict) in [(-47, Verdict::Closed), (-48, Verdict::Open)] {
+            let found = outcome(&of(p1(-0.25, 2f64.powi(exponent))), mode, &mut work);
+            tests.expect(found.checked == Ok((verdict, P1_GAP)), "closed at 2^-47, open at 2^-48");
+        }
+        let found = outcome(&of(chain()), mode, &mut work);
         tests.expect(found.solved.is_ok_and(|(flag, ..)| flag), "the chain is solved");
         tests.expect(found.checked.is_ok_and(closed), "the chain is closed");
-        let found = outcome(&p1(-0.25, f64::EPSILON), mode, &mut work);
+        let found = outcome(&of(p1(-0.25, f64::EPSILON)), mode, &mut work);
         tests.expect(found.checked == Ok((Verdict::Open, P1_GAP)), "P1 is open, its gap the same");
-        let mut angular = p1(-0.25, 0.001);
+        let mut angular = sheet.clone();
         angular.words[1] = 1;
         let found = outcome(&angular, mode, &mut work);
         let turned = [P1_GAP[1], P1_GAP[0]];
@@ -194,7 +267,7 @@ fn floating_point_modes(tests: &mut Tests) {
         let found = outcome(&below_zero, mode, &mut work);
         tests.expect(found.solved == Err(Refusal::Rule), "27 for a tolerance below zero");
         tests.expect(found.checked == Err(Refusal::Rule), "27 by the check too");
-        for job in [p1(-0.25, 0.001), chain(), tiny.clone(), below_zero.clone()] {
+        for job in [sheet, of(chain()), tiny.clone(), below_zero.clone()] {
             let wanted = outcome(&job, mode, &mut work);
             for (name, control) in MODES {
                 let (found, after) = within(control, || outcome(&job, mode, &mut work));
@@ -205,20 +278,20 @@ fn floating_point_modes(tests: &mut Tests) {
     }
 }
 
-fn shifts(tests: &mut Tests) {
+fn shifts(tests: &mut Tests, of: Kind) {
     let mut work = Work::default();
     let cholesky = Mode::IncompleteCholesky;
     for shift in [0.0, -0.0] {
-        let found = outcome(&worn(shift), cholesky, &mut work);
+        let found = outcome(&of(worn(shift)), cholesky, &mut work);
         tests.expect(found.solved == Err(Refusal::Pivot), "13 for near-equal rows");
     }
-    let found = outcome(&worn(1.0 / 1_048_576.0), cholesky, &mut work); // 2^-20
+    let found = outcome(&of(worn(1.0 / 1_048_576.0)), cholesky, &mut work); // 2^-20
     tests.expect(found.solved.is_ok_and(|(flag, ..)| flag), "near-equal rows with a shift");
     tests.expect(found.checked.is_ok_and(closed), "near-equal rows are closed");
     for mode in ALL {
-        let plain = outcome(&chain(), mode, &mut work);
+        let plain = outcome(&of(chain()), mode, &mut work);
         for shift in [-0.0, 0.5, 1.0] {
-            let found = outcome(&Job { shift, ..chain() }, mode, &mut work);
+            let found = outcome(&of(Job { shift, ..chain() }), mode, &mut work);
             let same = mode != cholesky || shift == 0.0;
             tests.expect((found == plain) == same, "the bits of shift 0 but in mode 1");
         }
@@ -226,7 +299,7 @@ fn shifts(tests: &mut Tests) {
         let below = -f64::from_bits(1);
         for shift in [above, below, -1.0, f64::INFINITY, f64::NEG_INFINITY, f64::NAN] {
             for job in [chain(), Job::default()] {
-                let job = Job { shift, ..job };
+                let job = of(Job { shift, ..job });
                 for (name, control) in MODES {
                     let (found, _) = within(control, || outcome(&job, mode, &mut work));
                     tests.expect(found.solved == Err(Refusal::Shift), &format!("25, {name}"));
@@ -255,36 +328,36 @@ fn three([first, second, third]: [f64; 3]) -> Rules {
         .with(Dimension::Linear, 0, 10, first)
 }
 
-fn rules(tests: &mut Tests) {
+fn rules(tests: &mut Tests, of: Kind) {
     let mut work = Work::default();
     for mode in ALL {
-        let plain = outcome(&kinds(Rules::two(1e-9, 1e-9)), mode, &mut work);
+        let plain = outcome(&of(kinds(Rules::two(1e-9, 1e-9))), mode, &mut work);
         tests.expect(plain.solved.is_ok_and(|(flag, ..)| flag), "two rules");
         tests.expect(plain.checked.is_ok_and(|(verdict, _)| verdict == Verdict::Closed), "closed");
         tests.expect(plain.rules == [[0, 0, 1], [0, 0, 1]], "the rule numbers of two rules");
         let aside = three([1e-9; 3]).with(Dimension::Angular, 0, 29, 0.0);
         for rules in [three([1e-9; 3]), aside] {
-            let found = outcome(&kinds(rules), mode, &mut work);
+            let found = outcome(&of(kinds(rules)), mode, &mut work);
             tests.expect(found.rules == [[2, 1, 0], [2, 1, 0]], "a rule a row");
             tests.expect(found.numbers == plain.numbers, "the bits of two rules");
             let same = found.solved == plain.solved && found.checked == plain.checked;
             tests.expect(same, "the answers of two rules");
         }
-        let at_once = outcome(&kinds(three([1.0; 3])), mode, &mut work);
+        let at_once = outcome(&of(kinds(three([1.0; 3]))), mode, &mut work);
         tests.expect(at_once.solved.is_ok_and(|(flag, count, _)| flag && count == 0), "count 0");
         tests.expect(at_once.rules[0] == [2, 1, 0], "rule numbers at count 0");
         for row in 0..3 {
             let mut tolerances = [1.0; 3];
             tolerances[row] = 1e-9;
-            let found = outcome(&kinds(three(tolerances)), mode, &mut work);
+            let found = outcome(&of(kinds(three(tolerances))), mode, &mut work);
             tests.expect(found.solved.is_ok_and(|(_, count, _)| count > 0), "steps for one row");
         }
     }
-    refused_rules(tests, &mut work);
+    refused_rules(tests, of, &mut work);
 }
 
 /// 27 and 28 by solve and check, in every mode: nothing is written.
-fn refused_rules(tests: &mut Tests, work: &mut Work) {
+fn refused_rules(tests: &mut Tests, of: Kind, work: &mut Work) {
     let two = || Rules::two(1e-9, 1e-9);
     let words = |words: [u32; 3]| {
         let mut rules = two();
@@ -307,7 +380,7 @@ fn refused_rules(tests: &mut Tests, work: &mut Work) {
         (linear, Refusal::RulesOfRow, "no rule for a row"),
         (Rules::default(), Refusal::RulesOfRow, "no rule at all"),
     ] {
-        let job = kinds(rules.clone());
+        let job = of(kinds(rules.clone()));
         for (mode, (name, control)) in ALL.iter().flat_map(|mode| MODES.map(|two| (mode, two))) {
             let (found, _) = within(control, || outcome(&job, *mode, work));
             let told = (found.solved, found.checked);
@@ -316,20 +389,20 @@ fn refused_rules(tests: &mut Tests, work: &mut Work) {
             let mut numbers = found.numbers.iter().zip(&job.numbers);
             tests.expect(numbers.all(|(l, r)| *l == r.to_bits()), "multipliers stay");
         }
-        let empty = outcome(&Job { rules, ..Job::default() }, Mode::Diagonal, work);
+        let empty = outcome(&of(Job { rules, ..Job::default() }), Mode::Diagonal, work);
         let wanted = if refusal == Refusal::Rule { Some(refusal) } else { None };
         let told = [empty.solved.err(), empty.checked.err()];
         tests.expect(told == [wanted; 2], "27 without rows, and no 28");
     }
     let mut many = two();
     (2..MAX_RULES).for_each(|_| many = many.clone().with(Dimension::Linear, 40, 40, 0.5));
-    let most = outcome(&kinds(many.clone()), Mode::Diagonal, work);
+    let most = outcome(&of(kinds(many.clone())), Mode::Diagonal, work);
     tests.expect(most.solved.is_ok() && most.checked.is_ok(), "64 rules");
     let [mut longer, mut shorter] = [two(), two()];
     longer.words.push(0);
     shorter.tolerances.pop();
     for rules in [many.with(Dimension::Linear, 40, 40, 0.5), longer, shorter] {
-        let found = outcome(&kinds(rules), Mode::Diagonal, work);
+        let found = outcome(&of(kinds(rules)), Mode::Diagonal, work);
         let told = (found.solved, found.checked);
         tests.expect(
             told == (Err(Refusal::Length), Err(Refusal::Length)),
@@ -401,39 +474,214 @@ fn centres(tests: &mut Tests) {
     }
 }
 
-type Tried = (Result<u32, Refusal>, Result<Checked, Refusal>);
+/// What the solve is refused by, in this mode, and the check: neither writes anything then.
+fn refused(tests: &mut Tests, job: &Job, mode: Mode, told: [Option<Refusal>; 2], what: &str) {
+    let mut work = Work::default();
+    for (name, control) in MODES {
+        let (found, _) = within(control, || outcome(job, mode, &mut work));
+        let refusals = [found.solved.err(), found.checked.err()];
+        tests.expect(refusals == told, &format!("{what}, {mode:?}, {name}"));
+        let mut numbers = found.numbers.iter().zip(&job.numbers);
+        tests.expect(numbers.all(|(l, r)| *l == r.to_bits()), "the rows stay");
+        let written = &found.numbers[job.numbers.len()..];
+        tests.expect(written.iter().all(|bits| *bits == 0), "solution and impulses stay");
+        for (refusal, rules) in told.iter().zip(&found.rules) {
+            let kept = rules.iter().all(|number| *number == KEPT);
+            tests.expect(kept == refusal.is_some(), "rule numbers stay");
+        }
+    }
+}
+
+/// The same in every mode.
+fn all_refused(tests: &mut Tests, job: &Job, told: [Option<Refusal>; 2], what: &str) {
+    for mode in ALL {
+        refused(tests, job, mode, told, what);
+    }
+}
+
+fn both_refused(tests: &mut Tests, job: &Job, refusal: Refusal, what: &str) {
+    all_refused(tests, job, [Some(refusal); 2], what);
+}
+
+/// The numbers of a job of positions, bit for bit, but that the accumulated impulses grow.
+fn as_positions(tests: &mut Tests) {
+    let mut work = Work::default();
+    for job in [p1(-0.25, 0.001), chain(), worn(1.0 / 1_048_576.0)] {
+        for mode in ALL {
+            let places = outcome(&job, mode, &mut work);
+            let mut moving = of_velocities(job.clone());
+            moving.numbers.chunks_mut(27).for_each(|row| row[24] = 3.5); // accumulated_multiplier
+            let found = outcome(&moving, mode, &mut work);
+            tests.expect(found.solved.is_ok() && found.solved == places.solved, "solved alike");
+            tests.expect(found.checked.is_ok() && found.checked == places.checked, "checked alike");
+            tests.expect(found.rules == places.rules, "the same rules");
+            let rows = job.numbers.len();
+            let same = found.numbers[rows..] == places.numbers[rows..];
+            tests.expect(same, "solution and impulses alike");
+            let mut wanted: Vec<u64> = moving.numbers.iter().map(|n| n.to_bits()).collect();
+            for row in 0..rows / 27 {
+                wanted[27 * row + 25] = found.numbers[rows + row];
+            }
+            tests.expect(found.numbers[..rows] == wanted, "accumulated impulses alone");
+            let kept = found.new_centres.iter().all(|bits| *bits == KEPT_BITS);
+            tests.expect(kept, "no centres");
+        }
+    }
+}
+
+/// P1's row and one more on the same bodies, with these residuals.
+fn two_speeds(residuals: [f64; 2], owner: u32) -> Job {
+    let mut job = p1(0.0, 0.001);
+    job.row(0, 1, owner, 0.0);
+    Job { residuals: Some(residuals.to_vec()), ..of_velocities(job) }
+}
+
+/// V2 to V4; V1 is P1 above.
+fn sheets(tests: &mut Tests) {
+    let mut work = Work::default();
+    let mut equal = two_speeds([0.001, -0.001], 0);
+    (equal.numbers[25], equal.numbers[27 + 25]) = (-0.0, 0.1); // with count 0 these bits stay
+    let mut zeros = two_speeds([0.001, 0.001], 1);
+    (zeros.numbers[27], zeros.numbers[27 + 9]) = (0.0, 0.0);
+    let mut angular = zeros.clone();
+    angular.words[8 + 1] = Dimension::Angular as u32; // its residual becomes 0, and so its maximum
+    for (job, refusing, what) in [
+        (&equal, 1, "V2, equal rows"),
+        (&zeros, 2, "V3, a row of zeros"),
+        (&angular, 2, "V3, an angular row of zeros"),
+    ] {
+        for (number, mode) in ALL.into_iter().enumerate() {
+            if number >= refusing {
+                refused(tests, job, mode, [Some(Refusal::Pivot), None], what);
+                continue;
+            }
+            let found = outcome(job, mode, &mut work);
+            tests.expect(found.solved == Ok((true, 0, [0.001f64.to_bits(), 0])), what);
+            let mut numbers = found.numbers.iter().zip(&job.numbers);
+            tests.expect(numbers.all(|(l, r)| *l == r.to_bits()), "the rows stay at count 0");
+        }
+    }
+    zeros.residuals = Some(vec![0.001, 0.001f64.next_up()]);
+    let immovable = [Some(Refusal::Immovable), None];
+    all_refused(tests, &zeros, immovable, "9 for zeros");
+    let mut order = of_velocities(chain());
+    for number in [0, 3, 9, 13] {
+        order.numbers[number] = 0.0;
+    }
+    all_refused(tests, &order, immovable, "9 alone");
+    order.words[8 * 2 + 3] = 7; // body_b
+    both_refused(tests, &order, Refusal::Row, "V4, 7 of the last row before 9 of the first");
+}
+
+/// 20 and its place, V5.
+fn odd_residuals(tests: &mut Tests) {
+    for (row, odd) in [f64::NAN, f64::INFINITY, f64::NEG_INFINITY].into_iter().enumerate() {
+        let mut job = of_velocities(chain());
+        job.residuals.as_mut().expect("of velocities")[row] = odd;
+        both_refused(tests, &job, Refusal::Speed, "20 by a residual");
+    }
+    let mut job = of_velocities(p1(f64::NAN, 0.001));
+    job.numbers[25] = f64::NAN;
+    both_refused(tests, &job, Refusal::Speed, "V5, 20 before 7");
+    job.masses[13] = f64::NAN;
+    both_refused(tests, &job, Refusal::Mass, "V5, 6 before 20");
+    job.limit = 0;
+    let told = [Some(Refusal::Opening), Some(Refusal::Mass)];
+    all_refused(tests, &job, told, "V5, 5 before 20");
+    job.words[5] = 2;
+    both_refused(tests, &job, Refusal::Word, "4 before 20, by position_enabled too");
+    for length in [0, 2] {
+        job.residuals = Some(vec![f64::NAN; length]);
+        both_refused(tests, &job, Refusal::Length, "3 by the length of residuals");
+    }
+}
+
+/// The opening test reads the bounds of the impulse, and none of the multiplier.
+fn opening(tests: &mut Tests) {
+    let mut work = Work::default();
+    let opening = [Some(Refusal::Opening), None];
+    let row = [Some(Refusal::Row); 2];
+    for (number, value, told) in [
+        (18, 1.0, opening),
+        (19, 1.0, opening),
+        (22, f64::MIN, opening),
+        (23, f64::MAX, opening),
+        (20, f64::NEG_INFINITY, [None; 2]),
+        (21, f64::INFINITY, [None; 2]),
+        (20, 1.0, row),
+        (21, f64::NAN, row),
+        (15, f64::INFINITY, row),
+    ] {
+        let mut job = of_velocities(chain());
+        job.numbers[27 + number] = value;
+        if told != [None; 2] {
+            all_refused(tests, &job, told, "5 and 7 by a number of a row");
+            continue;
+        }
+        for mode in ALL {
+            let found = outcome(&job, mode, &mut work);
+            tests.expect(found.checked.is_ok_and(closed), "no bound of the multiplier is read");
+        }
+    }
+}
+
+/// The second row's accumulated impulse is the largest double and gains a unit: 17, and the first
+/// row is not written either.
+fn largest_impulse(tests: &mut Tests) {
+    let mut job = two_speeds([1.0, 1.0], 1);
+    for (number, value) in [(0, 0.0), (1, 1.0), (9, 0.0), (10, -1.0), (25, f64::MAX)] {
+        job.numbers[27 + number] = value;
+    }
+    (job.masses[0], job.masses[10]) = (2f64.powi(-972), 2f64.powi(-972));
+    let told = [Some(Refusal::Result), Some(Refusal::Range)];
+    all_refused(tests, &job, told, "17 by an accumulated impulse");
+    job.residuals = Some(vec![1.0, 0.125]); // an eighth of a unit is rounded away
+    for mode in ALL {
+        let found = outcome(&job, mode, &mut Work::default());
+        tests.expect(found.solved.is_ok_and(|(flag, ..)| flag), "no 17");
+        tests.expect(found.numbers[27 + 25] == f64::MAX.to_bits(), "the largest impulse");
+    }
+}
+
+type Tried = (Result<u32, Refusal>, Told);
 
 /// A solve in each mode, its count, and a check over zeros: numbers, words, masses, solution,
-/// impulses, new centres and rule numbers of these lengths, and three centre numbers a mass.
+/// impulses, new centres or residuals, and rule numbers of these lengths, and three centre numbers
+/// a mass.
 fn tried(
-    [numbers, words, masses, solution, impulses, moved, rules]: [usize; 7],
+    [numbers, words, masses, solution, impulses, beside, rules]: [usize; 7],
     shift: f64,
+    speeds: bool,
 ) -> [Tried; 3] {
-    let mut numbers = vec![0.0; numbers];
-    let centres = vec![0.0; 3 * (masses / 10)];
-    let (words, masses) = (vec![0; words], vec![0.0; masses]);
-    let (mut solution, mut impulses) = (vec![0.0; solution], vec![0.0; impulses]);
-    let (mut new_centres, mut rule_numbers) = (vec![0.0; moved], vec![0; rules]);
-    let mut tables =
-        Tables { numbers: &mut numbers, words: &words, masses: &masses, centres: &centres };
-    let rules = Rules::two(1.0, 1.0);
+    let job = Job {
+        words: vec![0; words],
+        masses: vec![0.0; masses],
+        centres: vec![0.0; 3 * (masses / 10)],
+        rules: Rules::two(1.0, 1.0),
+        shift,
+        limit: 1,
+        ..Job::default()
+    };
+    let mut to = Lent {
+        numbers: vec![0.0; numbers],
+        solution: vec![0.0; solution],
+        impulses: vec![0.0; impulses],
+        new_centres: vec![0.0; beside],
+        rules: [vec![0; rules], vec![0; rules]],
+    };
     let mut work = Work::default();
     ALL.map(|mode| {
-        let to = Delivered {
-            solution: &mut solution,
-            impulses: &mut impulses,
-            new_centres: &mut new_centres,
-            rule_numbers: &mut rule_numbers,
+        let (solved, checked) = if speeds {
+            velocities(&job, &vec![0.0; beside], mode, &mut to, &mut work)
+        } else {
+            positions(&job, mode, &mut to, &mut work)
         };
-        let solved = solve_position(&mut tables, &rules, 1, mode, shift, to, &mut work);
-        let checked = closing_check(&tables, &rules, &solution, &mut rule_numbers, &mut work);
-        (solved.map(|answer| answer.iterations), checked)
+        (solved.map(|(_, count, _)| count), checked)
     })
 }
 
 fn lengths(tests: &mut Tests) {
-    let closed = Checked { verdict: Verdict::Closed, linear_gap_m: 0.0, angular_gap_rad: 0.0 };
-    let accepted = (Ok(0), Ok(closed));
+    let accepted = (Ok(0), Ok((Verdict::Closed, [0; 2])));
     let refused = (Err(Refusal::Length), Err(Refusal::Length));
     let fitting = (Err(Refusal::Opening), Err(Refusal::Row)); // zeros make no row
     for (lengths, wanted, what) in [
@@ -450,32 +698,57 @@ fn lengths(tests: &mut Tests) {
         ([27, 8, 20, 1, 12, 6, 2], refused, "rule numbers too long"),
         ([27, 8, 20, 1, 12, 6, 1], fitting, "one row"),
     ] {
-        tests.expect(tried(lengths, 0.0) == [wanted; 3], what);
-        // 25 is right after 3.
-        let solved = if wanted == refused { refused.0 } else { Err(Refusal::Shift) };
-        tests.expect(tried(lengths, f64::NAN) == [(solved, wanted.1); 3], what);
+        for speeds in [false, true] {
+            let mut lengths = lengths;
+            if speeds {
+                lengths[5] = lengths[1] / 8; // a residual a row
+            }
+            tests.expect(tried(lengths, 0.0, speeds) == [wanted; 3], what);
+            // 25 is right after 3.
+            let solved = if wanted == refused { refused.0 } else { Err(Refusal::Shift) };
+            tests.expect(tried(lengths, f64::NAN, speeds) == [(solved, wanted.1); 3], what);
+        }
     }
     for shift in [0.0, f64::NAN] {
-        let found = tried([27, 8, 20, 1, 11, 6, 1], shift)[0].0;
-        tests.expect(found == Err(Refusal::Length), "impulses too short");
+        for (beside, speeds) in [(6, false), (1, true)] {
+            let found = tried([27, 8, 20, 1, 11, beside, 1], shift, speeds)[0].0;
+            tests.expect(found == Err(Refusal::Length), "impulses too short");
+        }
         for moved in [0, 5, 7] {
-            let found = tried([27, 8, 20, 1, 12, moved, 1], shift)[0].0;
+            let found = tried([27, 8, 20, 1, 12, moved, 1], shift, false)[0].0;
             tests.expect(found == Err(Refusal::Length), "new centres of another length");
+        }
+        for residuals in [0, 2, 6] {
+            let found = tried([27, 8, 20, 1, 12, residuals, 1], shift, true);
+            tests.expect(found == [refused; 3], "residuals of another length");
         }
     }
 }
 
 fn main() {
     let mut tests = Tests::default();
-    floating_point_modes(&mut tests);
-    shifts(&mut tests);
-    rules(&mut tests);
+    for of in [of_positions as Kind, of_velocities as Kind] {
+        floating_point_modes(&mut tests, of);
+        shifts(&mut tests, of);
+        rules(&mut tests, of);
+    }
     centres(&mut tests);
+    as_positions(&mut tests);
+    sheets(&mut tests);
+    odd_residuals(&mut tests);
+    opening(&mut tests);
+    largest_impulse(&mut tests);
     lengths(&mut tests);
-    let refusals =
-        [Refusal::Length, Refusal::Range, Refusal::Shift, Refusal::Rule, Refusal::RulesOfRow];
+    let refusals = [
+        Refusal::Length,
+        Refusal::Range,
+        Refusal::Speed,
+        Refusal::Shift,
+        Refusal::Rule,
+        Refusal::RulesOfRow,
+    ];
     let numbers = refusals.map(|refusal| refusal as u32);
-    tests.expect(numbers == [3, 18, 25, 27, 28], "the numbers of refusals");
+    tests.expect(numbers == [3, 18, 20, 25, 27, 28], "the numbers of refusals");
     println!("{} passed, {} failed", tests.passed, tests.failed);
     std::process::exit(i32::from(tests.failed != 0));
 }

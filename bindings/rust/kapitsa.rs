@@ -1,7 +1,8 @@
-//! Zapekuri for Rust: safe calls of the position solve, of the closing check and of the inverse of
-//! a local inertia in `libkapitsa_c.a` (`rt staticlib kapitsa_c`), an archive for x86-64. The archive tests every
-//! count, length and number itself. Here stands what it cannot see to: that the work memory is
-//! there and carved without overlap, and that the processor is in the mode that it assumes.
+//! Zapekuri for Rust: safe calls of the position solve and of the velocity solve, of the closing
+//! check of each and of the inverse of a local inertia in `libkapitsa_c.a` (`rt staticlib
+//! kapitsa_c`), an archive for x86-64. The archive tests every count, length and number itself.
+//! Here stands what it cannot see to: that the work memory is there and carved without overlap, and
+//! that the processor is in the mode that it assumes.
 
 use std::arch::asm;
 use std::fmt;
@@ -41,7 +42,7 @@ pub enum Verdict {
 
 macro_rules! refusals {
     ($($name:ident = $number:literal, $meaning:literal;)*) => {
-        /// Document 01's refusal. `as u32` is its number.
+        /// A refusal of documents 01 and 02. `as u32` is its number.
         #[derive(Clone, Copy, Debug, PartialEq, Eq)]
         #[repr(u32)]
         pub enum Refusal {
@@ -69,11 +70,11 @@ macro_rules! refusals {
 refusals! {
     Length = 3, "a count, the mode or a slice's length does not fit, or more than 64 rules";
     Word = 4, "a row has a key, dimension, flag or spare that there is not";
-    Opening = 5, "rows and limit 0, or a row off, soft, driven or bounded";
+    Opening = 5, "rows and limit 0, or a row off (positions alone), soft, driven or bounded";
     Mass = 6, "a mass number, or one of a centre, is not finite";
     Row = 7, "a row is not valid, or names a body that there is not";
     Diagonal = 8, "a row's diagonal overflows";
-    Immovable = 9, "a row's diagonal is at most MIN, its error above tolerance";
+    Immovable = 9, "a row's diagonal is at most MIN, its error or residual above tolerance";
     Pairs = 10, "mode 1: more than 16,384 pairs of rows share a body";
     Block = 11, "mode 2: a joint has over six rows, or differing bodies";
     Value = 12, "a pair's, a block's or an inverse's value is not finite";
@@ -83,6 +84,7 @@ refusals! {
     Step = 16, "a number in the steps is not finite";
     Result = 17, "a final impulse, multiplier or centre is not finite";
     Range = 18, "check: a number neither 0 nor from 2^-150 to 2^150 in size";
+    Speed = 20, "velocities: a lent residual is not finite";
     Number = 21, "inverse: a number is not finite";
     Symmetry = 22, "inverse: two numbers are farther apart than 2^-47 allows";
     Definite = 23, "inverse: not positive definite";
@@ -100,9 +102,10 @@ impl fmt::Display for Refusal {
 impl std::error::Error for Refusal {}
 
 /// Tolerances by kind of joint, at most `MAX_RULES`, numbered from 0: three words a rule
-/// (dimension, first key, last key), and its tolerance in metres or radians. A rule applies to the
-/// rows of its dimension whose key is from the first to the last. Each row must be under one rule
-/// and no second; keys that no row bears need none, and there rules may overlap.
+/// (dimension, first key, last key), and its tolerance, in metres or radians, for velocities in m/s
+/// or rad/s. A rule applies to the rows of its dimension whose key is from the first to the last.
+/// Each row must be under one rule and no second; keys that no row bears need none, and there rules
+/// may overlap.
 #[derive(Clone, Debug, Default)]
 pub struct Rules {
     pub words: Vec<u32>,
@@ -111,9 +114,9 @@ pub struct Rules {
 
 impl Rules {
     /// One tolerance for each dimension, over all keys.
-    pub fn two(linear_m: f64, angular_rad: f64) -> Self {
-        let linear = Self::default().with(Dimension::Linear, 0, MAX_KEY, linear_m);
-        linear.with(Dimension::Angular, 0, MAX_KEY, angular_rad)
+    pub fn two(linear: f64, angular: f64) -> Self {
+        let first = Self::default().with(Dimension::Linear, 0, MAX_KEY, linear);
+        first.with(Dimension::Angular, 0, MAX_KEY, angular)
     }
 
     /// With one rule more, behind the others.
@@ -132,6 +135,14 @@ pub struct Answer {
     pub angular_residual_rad: f64,
 }
 
+#[derive(Clone, Copy, Debug, PartialEq)]
+pub struct VelocityAnswer {
+    pub converged: bool,
+    pub iterations: u32,
+    pub linear_residual_mps: f64,
+    pub angular_residual_radps: f64,
+}
+
 /// The verdict of the check and the measured gap of the linear rows and of the angular ones: no
 /// row's exact gap is larger, and 0 stands where there is no such row.
 #[derive(Clone, Copy, Debug, PartialEq)]
@@ -139,6 +150,14 @@ pub struct Checked {
     pub verdict: Verdict,
     pub linear_gap_m: f64,
     pub angular_gap_rad: f64,
+}
+
+/// The same of speeds: by how much each row still misses the speed that it should have.
+#[derive(Clone, Copy, Debug, PartialEq)]
+pub struct VelocityChecked {
+    pub verdict: Verdict,
+    pub linear_gap_mps: f64,
+    pub angular_gap_radps: f64,
 }
 
 /// Rows (27 doubles and 8 words each) and masses (10 doubles each), as document 01 has them, and the
@@ -150,15 +169,23 @@ pub struct Tables<'a> {
     pub centres: &'a [f64],
 }
 
-impl Tables<'_> {
-    /// Rows and bodies, within the limits. The archive compares the lengths.
-    fn counts(&self) -> Result<(usize, usize), Refusal> {
-        let (rows, bodies) = (self.words.len() / 8, self.masses.len() / 10);
-        if rows > MAX_ROWS || bodies > MAX_BODIES {
-            return Err(Refusal::Length);
-        }
-        Ok((rows, bodies))
+/// The same rows and masses for velocities, and a residual a row, the speed that it should have less
+/// the one that it has, in m/s or rad/s. Nothing but refusals 4 and 7 reads a row's error,
+/// position_enabled and bounds of the multiplier; its bounds of the impulse must be infinite.
+pub struct VelocityTables<'a> {
+    pub numbers: &'a mut [f64],
+    pub words: &'a [u32],
+    pub masses: &'a [f64],
+    pub residuals: &'a [f64],
+}
+
+/// Rows and bodies, within the limits. The archive compares the lengths.
+fn counts(words: &[u32], masses: &[f64]) -> Result<(usize, usize), Refusal> {
+    let (rows, bodies) = (words.len() / 8, masses.len() / 10);
+    if rows > MAX_ROWS || bodies > MAX_BODIES {
+        return Err(Refusal::Length);
     }
+    Ok((rows, bodies))
 }
 
 /// The work memory, kept from call to call; it grows to what a call needs.
@@ -213,11 +240,75 @@ pub struct Delivered<'a> {
     pub rule_numbers: &'a mut [u32],
 }
 
+/// What a velocity solve delivers besides the accumulated impulses, which it writes into the rows.
+pub struct VelocityDelivered<'a> {
+    pub solution: &'a mut [f64],
+    pub impulses: &'a mut [f64],
+    pub rule_numbers: &'a mut [u32],
+}
+
+/// A solve of the archive, in the default mode: counts and maxima. `$lent` is what it reads beside
+/// rows, masses and rules, `$moved` what it writes beside the rest, if anything.
+#[rustfmt::skip]
+macro_rules! solve {
+    ($function:ident, $tables:ident, $lent:expr, $rules:ident, $limit:ident, $mode:ident,
+     $shift:ident, $to:ident, [$($moved:expr)?], $work:ident) => {{
+        let (n, b) = counts($tables.words, $tables.masses)?;
+        let (pattern_len, order_len, values_len) = factor_lengths(n, $mode);
+        let (mut doubles, mut words) =
+            $work.lend(18 * n + 6 * b + values_len, 2 * n + pattern_len + order_len);
+        let jacobians = carve(&mut doubles, 12 * n);
+        let links = carve(&mut words, 2 * n);
+        let tolerances = carve(&mut doubles, n);
+        let diagonal = carve(&mut doubles, n);
+        let residual = carve(&mut doubles, n);
+        let pending = carve(&mut doubles, n);
+        let direction = carve(&mut doubles, n);
+        let product = carve(&mut doubles, n);
+        let body_impulses = carve(&mut doubles, 6 * b);
+        let pattern = carve(&mut words, pattern_len);
+        let order = carve(&mut words, order_len);
+        let values = carve(&mut doubles, values_len);
+        let mut counts = [0; 2];
+        let mut maxima = [0.0; 2];
+        let control = DefaultControl::set();
+        // SAFETY: each pointer and length is of one slice, and no two of the slices overlap.
+        let refusal = unsafe {
+            $function(
+                $tables.numbers.as_mut_ptr(), $tables.numbers.len(),
+                $tables.words.as_ptr(), $tables.words.len(),
+                $tables.masses.as_ptr(), $tables.masses.len(),
+                $lent.as_ptr(), $lent.len(),
+                $rules.words.as_ptr(), $rules.words.len(),
+                $rules.tolerances.as_ptr(), $rules.tolerances.len(),
+                n as u32, b as u32, $limit, $mode as u32, $shift,
+                $to.solution.as_mut_ptr(), $to.solution.len(),
+                $to.impulses.as_mut_ptr(), $to.impulses.len(),
+                $($moved.as_mut_ptr(), $moved.len(),)?
+                $to.rule_numbers.as_mut_ptr(), $to.rule_numbers.len(),
+                counts.as_mut_ptr(), counts.len(), maxima.as_mut_ptr(), maxima.len(),
+                jacobians.as_mut_ptr(), jacobians.len(), links.as_mut_ptr(), links.len(),
+                tolerances.as_mut_ptr(), tolerances.len(), diagonal.as_mut_ptr(), diagonal.len(),
+                residual.as_mut_ptr(), residual.len(), pending.as_mut_ptr(), pending.len(),
+                direction.as_mut_ptr(), direction.len(), product.as_mut_ptr(), product.len(),
+                body_impulses.as_mut_ptr(), body_impulses.len(),
+                pattern.as_mut_ptr(), pattern.len(), order.as_mut_ptr(), order.len(),
+                values.as_mut_ptr(), values.len(),
+            )
+        };
+        drop(control);
+        if refusal != 0 {
+            return Err(Refusal::of(refusal));
+        }
+        (counts, maxima)
+    }};
+}
+
 /// Solves; multipliers (in `tables.numbers`) and what is delivered are written only where the
-/// answer is `Ok`. In mode 1 each pivot starts from diagonal ×
-/// (1 + shift): 0 is the plain factor, a little more lets rows pass that say almost the same. The
-/// other modes use no shift, but it must be from 0 to 1 there too. Not inlined, as the check: a
-/// compiler may move its caller's arithmetic past a change of the control word.
+/// answer is `Ok`. In mode 1 each pivot starts from diagonal × (1 + shift): 0 is the plain factor, a
+/// little more lets rows pass that say almost the same. The other modes use no shift, but it must be
+/// from 0 to 1 there too. Not inlined, as all calls: a compiler may move its caller's arithmetic past
+/// a change of the control word.
 #[inline(never)]
 pub fn solve_position(
     tables: &mut Tables,
@@ -228,59 +319,87 @@ pub fn solve_position(
     to: Delivered,
     work: &mut Work,
 ) -> Result<Answer, Refusal> {
-    let (n, b) = tables.counts()?;
-    let Delivered { solution, impulses, new_centres, rule_numbers } = to;
-    let (pattern_len, order_len, values_len) = factor_lengths(n, mode);
-    let (mut doubles, mut words) =
-        work.lend(18 * n + 6 * b + values_len, 2 * n + pattern_len + order_len);
-    let jacobians = carve(&mut doubles, 12 * n);
-    let links = carve(&mut words, 2 * n);
-    let tolerances = carve(&mut doubles, n);
-    let diagonal = carve(&mut doubles, n);
-    let residual = carve(&mut doubles, n);
-    let pending = carve(&mut doubles, n);
-    let direction = carve(&mut doubles, n);
-    let product = carve(&mut doubles, n);
-    let body_impulses = carve(&mut doubles, 6 * b);
-    let pattern = carve(&mut words, pattern_len);
-    let order = carve(&mut words, order_len);
-    let values = carve(&mut doubles, values_len);
-    let mut counts = [0; 2];
-    let mut maxima = [0.0; 2];
-    let control = DefaultControl::set();
-    // SAFETY: each pointer and length is of one slice, and no two of the slices overlap.
     #[rustfmt::skip]
-    let refusal = unsafe {
-        kapitsa_solve_position(
-            tables.numbers.as_mut_ptr(), tables.numbers.len(),
-            tables.words.as_ptr(), tables.words.len(),
-            tables.masses.as_ptr(), tables.masses.len(),
-            tables.centres.as_ptr(), tables.centres.len(),
-            rules.words.as_ptr(), rules.words.len(),
-            rules.tolerances.as_ptr(), rules.tolerances.len(),
-            n as u32, b as u32, limit, mode as u32, shift,
-            solution.as_mut_ptr(), solution.len(), impulses.as_mut_ptr(), impulses.len(),
-            new_centres.as_mut_ptr(), new_centres.len(),
-            rule_numbers.as_mut_ptr(), rule_numbers.len(),
-            counts.as_mut_ptr(), counts.len(), maxima.as_mut_ptr(), maxima.len(),
-            jacobians.as_mut_ptr(), jacobians.len(), links.as_mut_ptr(), links.len(),
-            tolerances.as_mut_ptr(), tolerances.len(), diagonal.as_mut_ptr(), diagonal.len(),
-            residual.as_mut_ptr(), residual.len(), pending.as_mut_ptr(), pending.len(),
-            direction.as_mut_ptr(), direction.len(), product.as_mut_ptr(), product.len(),
-            body_impulses.as_mut_ptr(), body_impulses.len(), pattern.as_mut_ptr(), pattern.len(),
-            order.as_mut_ptr(), order.len(), values.as_mut_ptr(), values.len(),
-        )
-    };
-    drop(control);
-    match refusal {
-        0 => Ok(Answer {
-            converged: counts[1] == 1,
-            iterations: counts[0],
-            linear_residual_m: maxima[0],
-            angular_residual_rad: maxima[1],
-        }),
-        number => Err(Refusal::of(number)),
-    }
+    let (counts, maxima) = solve!(
+        kapitsa_solve_position, tables, tables.centres, rules, limit, mode, shift, to,
+        [to.new_centres], work
+    );
+    Ok(Answer {
+        converged: counts[1] == 1,
+        iterations: counts[0],
+        linear_residual_m: maxima[0],
+        angular_residual_rad: maxima[1],
+    })
+}
+
+/// Solves for speeds, as `solve_position` for places: of `tables.numbers` each row's accumulated
+/// impulse gains its solution number, and nothing else changes. The factor of modes 1 and 2 is built
+/// before the tolerance is tested, and may be refused where every residual is within it.
+#[inline(never)]
+pub fn solve_velocity(
+    tables: &mut VelocityTables,
+    rules: &Rules,
+    limit: u32,
+    mode: Mode,
+    shift: f64,
+    to: VelocityDelivered,
+    work: &mut Work,
+) -> Result<VelocityAnswer, Refusal> {
+    #[rustfmt::skip]
+    let (counts, maxima) = solve!(
+        kapitsa_solve_velocity, tables, tables.residuals, rules, limit, mode, shift, to, [], work
+    );
+    Ok(VelocityAnswer {
+        converged: counts[1] == 1,
+        iterations: counts[0],
+        linear_residual_mps: maxima[0],
+        angular_residual_radps: maxima[1],
+    })
+}
+
+/// A closing check of the archive, in the default mode: the verdict and the measured gap. `$lent` is
+/// what it reads beside rows, masses and rules.
+#[rustfmt::skip]
+macro_rules! check {
+    ($function:ident, $tables:ident, $lent:expr, $rules:ident, $multipliers:ident,
+     $rule_numbers:ident, $work:ident) => {{
+        let (n, b) = counts($tables.words, $tables.masses)?;
+        let (mut doubles, mut words) = $work.lend(15 * n + 16 * b, 2 * n);
+        let jacobians = carve(&mut doubles, 12 * n);
+        let links = carve(&mut words, 2 * n);
+        let mass_sizes = carve(&mut doubles, 10 * b);
+        let multiplier_sizes = carve(&mut doubles, n);
+        let impulses = carve(&mut doubles, 6 * b);
+        let values = carve(&mut doubles, n);
+        let sizes = carve(&mut doubles, n);
+        let mut verdict = [Verdict::Open as u32];
+        let mut gap = [0.0; 2];
+        let control = DefaultControl::set();
+        // SAFETY: each pointer and length is of one slice, and what is written overlaps no other.
+        let refusal = unsafe {
+            $function(
+                $tables.numbers.as_ptr(), $tables.numbers.len(),
+                $tables.words.as_ptr(), $tables.words.len(),
+                $tables.masses.as_ptr(), $tables.masses.len(),
+                $lent.as_ptr(), $lent.len(),
+                $rules.words.as_ptr(), $rules.words.len(),
+                $rules.tolerances.as_ptr(), $rules.tolerances.len(), n as u32, b as u32,
+                $multipliers.as_ptr(), $multipliers.len(),
+                $rule_numbers.as_mut_ptr(), $rule_numbers.len(),
+                verdict.as_mut_ptr(), verdict.len(), gap.as_mut_ptr(), gap.len(),
+                jacobians.as_mut_ptr(), jacobians.len(), links.as_mut_ptr(), links.len(),
+                mass_sizes.as_mut_ptr(), mass_sizes.len(),
+                multiplier_sizes.as_mut_ptr(), multiplier_sizes.len(),
+                impulses.as_mut_ptr(), impulses.len(),
+                values.as_mut_ptr(), values.len(), sizes.as_mut_ptr(), sizes.len(),
+            )
+        };
+        drop(control);
+        if refusal != 0 {
+            return Err(Refusal::of(refusal));
+        }
+        (if verdict == [1] { Verdict::Closed } else { Verdict::Open }, gap)
+    }};
 }
 
 /// Measures every joint's gap from `multipliers`, the gains since the errors were measured, and
@@ -294,47 +413,29 @@ pub fn closing_check(
     rule_numbers: &mut [u32],
     work: &mut Work,
 ) -> Result<Checked, Refusal> {
-    let (n, b) = tables.counts()?;
-    let (mut doubles, mut words) = work.lend(15 * n + 16 * b, 2 * n);
-    let jacobians = carve(&mut doubles, 12 * n);
-    let links = carve(&mut words, 2 * n);
-    let mass_sizes = carve(&mut doubles, 10 * b);
-    let multiplier_sizes = carve(&mut doubles, n);
-    let impulses = carve(&mut doubles, 6 * b);
-    let values = carve(&mut doubles, n);
-    let sizes = carve(&mut doubles, n);
-    let mut verdict = [Verdict::Open as u32];
-    let mut gap = [0.0; 2];
-    let control = DefaultControl::set();
-    // SAFETY: each pointer and length is of one slice, and what is written overlaps no other.
     #[rustfmt::skip]
-    let refusal = unsafe {
-        kapitsa_closing_check(
-            tables.numbers.as_ptr(), tables.numbers.len(),
-            tables.words.as_ptr(), tables.words.len(),
-            tables.masses.as_ptr(), tables.masses.len(),
-            tables.centres.as_ptr(), tables.centres.len(),
-            rules.words.as_ptr(), rules.words.len(),
-            rules.tolerances.as_ptr(), rules.tolerances.len(), n as u32, b as u32,
-            multipliers.as_ptr(), multipliers.len(),
-            rule_numbers.as_mut_ptr(), rule_numbers.len(), verdict.as_mut_ptr(), verdict.len(),
-            gap.as_mut_ptr(), gap.len(),
-            jacobians.as_mut_ptr(), jacobians.len(), links.as_mut_ptr(), links.len(),
-            mass_sizes.as_mut_ptr(), mass_sizes.len(),
-            multiplier_sizes.as_mut_ptr(), multiplier_sizes.len(),
-            impulses.as_mut_ptr(), impulses.len(),
-            values.as_mut_ptr(), values.len(), sizes.as_mut_ptr(), sizes.len(),
-        )
-    };
-    drop(control);
-    match refusal {
-        0 => Ok(Checked {
-            verdict: if verdict == [1] { Verdict::Closed } else { Verdict::Open },
-            linear_gap_m: gap[0],
-            angular_gap_rad: gap[1],
-        }),
-        number => Err(Refusal::of(number)),
-    }
+    let (verdict, gap) = check!(
+        kapitsa_closing_check, tables, tables.centres, rules, multipliers, rule_numbers, work
+    );
+    Ok(Checked { verdict, linear_gap_m: gap[0], angular_gap_rad: gap[1] })
+}
+
+/// The same of speeds, -residual in the error's place: `multipliers` are the gains since the
+/// residuals were measured.
+#[inline(never)]
+pub fn velocity_closing_check(
+    tables: &VelocityTables,
+    rules: &Rules,
+    multipliers: &[f64],
+    rule_numbers: &mut [u32],
+    work: &mut Work,
+) -> Result<VelocityChecked, Refusal> {
+    #[rustfmt::skip]
+    let (verdict, gap) = check!(
+        kapitsa_velocity_closing_check, tables, tables.residuals, rules, multipliers,
+        rule_numbers, work
+    );
+    Ok(VelocityChecked { verdict, linear_gap_mps: gap[0], angular_gap_radps: gap[1] })
 }
 
 /// The inverse of a link's 3 by 3 local inertia, both by columns, as a mass has its inverse inertia.
@@ -401,6 +502,23 @@ unsafe extern "C" {
         order: *mut u32, order_len: usize, values: *mut f64, values_len: usize,
     ) -> u32;
 
+    fn kapitsa_solve_velocity(
+        numbers: *mut f64, numbers_len: usize, words: *const u32, words_len: usize,
+        masses: *const f64, masses_len: usize, residuals: *const f64, residuals_len: usize,
+        rule_words: *const u32, rule_words_len: usize,
+        rule_tolerances: *const f64, rule_tolerances_len: usize,
+        rows: u32, bodies: u32, limit: u32, mode: u32, shift: f64,
+        solution: *mut f64, solution_len: usize, impulses: *mut f64, impulses_len: usize,
+        rule_numbers: *mut u32, rule_numbers_len: usize,
+        counts: *mut u32, counts_len: usize, maxima: *mut f64, maxima_len: usize,
+        jacobians: *mut f64, jacobians_len: usize, links: *mut u32, links_len: usize,
+        tolerances: *mut f64, tolerances_len: usize, diagonal: *mut f64, diagonal_len: usize,
+        residual: *mut f64, residual_len: usize, pending: *mut f64, pending_len: usize,
+        direction: *mut f64, direction_len: usize, product: *mut f64, product_len: usize,
+        body_impulses: *mut f64, body_impulses_len: usize, pattern: *mut u32, pattern_len: usize,
+        order: *mut u32, order_len: usize, values: *mut f64, values_len: usize,
+    ) -> u32;
+
     fn kapitsa_inverse_spd(
         inertia: *const f64, inertia_len: usize, inverse: *mut f64, inverse_len: usize,
     ) -> u32;
@@ -408,6 +526,21 @@ unsafe extern "C" {
     fn kapitsa_closing_check(
         numbers: *const f64, numbers_len: usize, words: *const u32, words_len: usize,
         masses: *const f64, masses_len: usize, centres: *const f64, centres_len: usize,
+        rule_words: *const u32, rule_words_len: usize,
+        rule_tolerances: *const f64, rule_tolerances_len: usize, rows: u32, bodies: u32,
+        multipliers: *const f64, multipliers_len: usize,
+        rule_numbers: *mut u32, rule_numbers_len: usize, verdict: *mut u32, verdict_len: usize,
+        gap: *mut f64, gap_len: usize,
+        jacobians: *mut f64, jacobians_len: usize, links: *mut u32, links_len: usize,
+        mass_sizes: *mut f64, mass_sizes_len: usize,
+        multiplier_sizes: *mut f64, multiplier_sizes_len: usize,
+        impulses: *mut f64, impulses_len: usize,
+        values: *mut f64, values_len: usize, sizes: *mut f64, sizes_len: usize,
+    ) -> u32;
+
+    fn kapitsa_velocity_closing_check(
+        numbers: *const f64, numbers_len: usize, words: *const u32, words_len: usize,
+        masses: *const f64, masses_len: usize, residuals: *const f64, residuals_len: usize,
         rule_words: *const u32, rule_words_len: usize,
         rule_tolerances: *const f64, rule_tolerances_len: usize, rows: u32, bodies: u32,
         multipliers: *const f64, multipliers_len: usize,

@@ -95,11 +95,16 @@ class Sheet:
         sizes = self.values(lambda x: abs(Fraction(x)), rounded)
         exact = self.values(Fraction, lambda x: x)
         found = []
-        for row, value, size, whole in zip(self.numbers, values, sizes, exact):
-            error = Fraction(row[ERROR])
+        for error, value, size, whole in zip(map(Fraction, self.errors()), values, sizes, exact):
             radius = rounded(rounded(abs(error) + size) * factor)
             found.append((abs(rounded(-error - value)), radius, abs(error + whole)))
         return found
+
+    def errors(self):
+        return [row[ERROR] for row in self.numbers]
+
+    def passes_20(self):
+        return True
 
     def tolerance(self, row):
         return self.tolerances[self.words[row][1]]
@@ -136,9 +141,9 @@ def in_range(x):
 
 
 def passes_18(sheet):
-    listed = list(sheet.multipliers)
+    listed = sheet.multipliers + sheet.errors()
     for row in sheet.numbers:
-        listed += row[0:6] + row[9:16]
+        listed += row[0:6] + row[9:15]
     for mass in sheet.masses:
         listed += mass
     return all(map(in_range, listed))
@@ -165,6 +170,8 @@ def refusal(sheet):
         return 27
     if not all(math.isfinite(x) for listed in sheet.masses + sheet.centres for x in listed):
         return 6
+    if not sheet.passes_20():
+        return 20
     if not all(passes_7(row, word, bodies) for row, word in zip(sheet.numbers, sheet.words)):
         return 7
     if not passes_18(sheet):

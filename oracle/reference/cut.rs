@@ -22,8 +22,6 @@ const CUTS: [(&str, &str, &[&str]); 7] = [
             "struct IncompleteCholeskyPreconditioner",
             "impl IncompleteCholeskyPreconditioner",
             "struct VelocityRowTerm",
-            "pub(super) fn row_velocity<",
-            "fn solver_bodies_at<",
             "pub(super) fn map_rigid_body_error(",
         ],
     ),

@@ -23,13 +23,10 @@ pub mod mass {
 
 /// Solver bodies: the record and its access, cut; what it hands out, stand-in.
 pub mod constraint {
-    use crate::rigid_body::{BodyState, BodyType, RigidBody};
+    use crate::rigid_body::{BodyType, RigidBody};
     include!(concat!(env!("ORACLE_CUT"), "/constraint_items.rs"));
 
     impl SolverBody {
-        pub(crate) fn state(&self) -> BodyState {
-            BodyState
-        }
         pub(crate) fn body(&self) -> &RigidBody {
             &self.body
         }

@@ -25,29 +25,18 @@ pub enum BodyError {
     StaticBodyCannotHaveVelocity,
 }
 
-/// A body at rest: the velocity side then has the target velocity as residual.
-#[derive(Clone, Copy)]
-pub struct BodyState;
-
-impl BodyState {
-    pub fn linear_velocity(&self) -> Vec3 {
-        Vec3::ZERO
-    }
-    pub fn angular_velocity(&self) -> Vec3 {
-        Vec3::ZERO
-    }
-}
-
-/// A given mass, and the impulse that was applied last.
+/// A given mass, the impulse that was applied last, and what `row_velocity` gives of rows whose body_a
+/// this is.
 #[derive(Clone, Copy)]
 pub struct RigidBody {
     mass: SolverMass,
     pub(crate) applied: Option<(Vec3, Vec3)>,
+    pub(crate) row_velocity: f64,
 }
 
 impl RigidBody {
     pub(crate) fn of(mass: SolverMass) -> Self {
-        Self { mass, applied: None }
+        Self { mass, applied: None, row_velocity: 0.0 }
     }
     /// A body that nothing was applied to stays where it is; None where the Rust overflows.
     pub(crate) fn next_center(&self) -> Option<Vec3> {

@@ -4,7 +4,8 @@
    slices gets an adapter of its own (oracle/wrap ARCHIVE OUTPUT ADAPTER).
 
    A slice is a pointer, then its length. centres has three doubles a body, new_centres gets
-   where each ends up. rule_words has dimension, first key and last key of each rule,
+   where each ends up; for velocities residuals has one double a row, in the centres' place.
+   rule_words has dimension, first key and last key of each rule,
    rule_tolerances its tolerance; rule_numbers gets each row's rule. `answer` is refusal
    (0: accepted), count, flag, bits of the linear maximum, bits of the angular maximum; for the
    check: refusal, verdict (1: closed), bits of the linear gap, bits of the angular gap. Where a
@@ -22,9 +23,26 @@ void kapitsa_solve_position(
     double *new_centres, size_t new_centres_len,
     uint32_t *rule_numbers, size_t rule_numbers_len, uint64_t *answer, size_t answer_len);
 
+void kapitsa_solve_velocity(
+    double *numbers, size_t numbers_len, const uint32_t *words, size_t words_len,
+    const double *masses, size_t masses_len, const double *residuals, size_t residuals_len,
+    const uint32_t *rule_words, size_t rule_words_len,
+    const double *rule_tolerances, size_t rule_tolerances_len,
+    uint32_t rows, uint32_t bodies, uint32_t limit, uint32_t mode, double shift,
+    double *solution, size_t solution_len, double *impulses, size_t impulses_len,
+    uint32_t *rule_numbers, size_t rule_numbers_len, uint64_t *answer, size_t answer_len);
+
 void kapitsa_closing_check(
     const double *numbers, size_t numbers_len, const uint32_t *words, size_t words_len,
     const double *masses, size_t masses_len, const double *centres, size_t centres_len,
+    const uint32_t *rule_words, size_t rule_words_len,
+    const double *rule_tolerances, size_t rule_tolerances_len,
+    uint32_t rows, uint32_t bodies, const double *multipliers, size_t multipliers_len,
+    uint32_t *rule_numbers, size_t rule_numbers_len, uint64_t *answer, size_t answer_len);
+
+void kapitsa_velocity_closing_check(
+    const double *numbers, size_t numbers_len, const uint32_t *words, size_t words_len,
+    const double *masses, size_t masses_len, const double *residuals, size_t residuals_len,
     const uint32_t *rule_words, size_t rule_words_len,
     const double *rule_tolerances, size_t rule_tolerances_len,
     uint32_t rows, uint32_t bodies, const double *multipliers, size_t multipliers_len,
@@ -59,4 +77,35 @@ void oracle_closing_check(
                           centres_len, rule_words, rule_words_len, rule_tolerances,
                           rule_tolerances_len, rows, bodies, multipliers, multipliers_len,
                           rule_numbers, rule_numbers_len, answer, answer_len);
+}
+
+void oracle_solve_velocity(
+    double *numbers, size_t numbers_len, const uint32_t *words, size_t words_len,
+    const double *masses, size_t masses_len, const double *residuals, size_t residuals_len,
+    const uint32_t *rule_words, size_t rule_words_len,
+    const double *rule_tolerances, size_t rule_tolerances_len,
+    uint32_t rows, uint32_t bodies, uint32_t limit, uint32_t mode, double shift,
+    double *solution, size_t solution_len, double *impulses, size_t impulses_len,
+    uint32_t *rule_numbers, size_t rule_numbers_len, uint64_t *answer, size_t answer_len)
+{
+    kapitsa_solve_velocity(numbers, numbers_len, words, words_len, masses, masses_len, residuals,
+                           residuals_len, rule_words, rule_words_len, rule_tolerances,
+                           rule_tolerances_len, rows, bodies, limit, mode, shift, solution,
+                           solution_len, impulses, impulses_len, rule_numbers, rule_numbers_len,
+                           answer, answer_len);
+}
+
+void oracle_velocity_closing_check(
+    const double *numbers, size_t numbers_len, const uint32_t *words, size_t words_len,
+    const double *masses, size_t masses_len, const double *residuals, size_t residuals_len,
+    const uint32_t *rule_words, size_t rule_words_len,
+    const double *rule_tolerances, size_t rule_tolerances_len,
+    uint32_t rows, uint32_t bodies, const double *multipliers, size_t multipliers_len,
+    uint32_t *rule_numbers, size_t rule_numbers_len, uint64_t *answer, size_t answer_len)
+{
+    kapitsa_velocity_closing_check(numbers, numbers_len, words, words_len, masses, masses_len,
+                                   residuals, residuals_len, rule_words, rule_words_len,
+                                   rule_tolerances, rule_tolerances_len, rows, bodies, multipliers,
+                                   multipliers_len, rule_numbers, rule_numbers_len, answer,
+                                   answer_len);
 }

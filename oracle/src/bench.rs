@@ -1,6 +1,6 @@
-//! Times of a solve: the reference as published and without its timer lines, and an
-//! implementation if one is given; and of an implementation's closing check. Buffers stay
-//! warm; nothing but the solve or the check is timed.
+//! Times of a solve, of positions and of velocities: the reference as published and without its timer
+//! lines, and an implementation if one is given; and of an implementation's closing check. Buffers
+//! stay warm; nothing but the solve or the check is timed.
 
 use crate::generator::{Shape, joined, split};
 use crate::implementation::{Implementation, Outputs};
@@ -50,6 +50,19 @@ fn mechanism(shape: Shape, joints: usize, rows_a_joint: usize, mode: u32) -> Job
         }
     }
     job
+}
+
+/// The same for speeds, its errors turned into residuals.
+fn in_motion(job: Job) -> Job {
+    let residuals = job.numbers.chunks_exact(ROW_NUMBERS).map(|row| -row[ERROR]).collect();
+    Job { kind: Kind::Velocity, residuals, centres: Vec::new(), ..job }
+}
+
+fn of_kind(kind: Kind, job: Job) -> Job {
+    match kind {
+        Kind::Position => job,
+        Kind::Velocity => in_motion(job),
+    }
 }
 
 fn negated(vector: [f64; 3]) -> [f64; 3] {
@@ -115,24 +128,30 @@ fn summary(mut times: Vec<f64>) -> Times {
     Times { minimum: times[0], median: times[times.len() / 2] }
 }
 
-/// Multipliers go on growing from run to run; nothing that a solve does depends on them.
-fn published(job: &Job) -> Solve<'_> {
-    let mut prepared =
-        reference::Prepared::new(&job.numbers, &job.words, &job.masses, &job.centres);
-    let cholesky = job.mode == INCOMPLETE_CHOLESKY;
-    Box::new(move || {
-        black_box(prepared.solve(job.limit as usize, job.tolerances, cholesky));
-    })
+/// The solve of a reference. What gains the solution goes on growing from run to run; nothing that a
+/// solve does depends on it. A velocity solve begins with a fresh scratch, whose buffers are warm.
+macro_rules! of_reference {
+    ($name:ident, $reference:ident) => {
+        fn $name(job: &Job) -> Solve<'_> {
+            let mut prepared =
+                $reference::Prepared::new(&job.numbers, &job.words, &job.masses, &job.centres);
+            prepared.lend(&job.residuals);
+            let (limit, mode) = (job.limit as usize, job.mode);
+            match job.kind {
+                Kind::Position => Box::new(move || {
+                    let cholesky = mode == INCOMPLETE_CHOLESKY;
+                    black_box(prepared.solve(limit, job.tolerances, cholesky));
+                }),
+                Kind::Velocity => Box::new(move || {
+                    black_box(prepared.solve_velocity(limit, job.tolerances, mode));
+                }),
+            }
+        }
+    };
 }
 
-fn untimed(job: &Job) -> Solve<'_> {
-    let mut prepared =
-        reference_untimed::Prepared::new(&job.numbers, &job.words, &job.masses, &job.centres);
-    let cholesky = job.mode == INCOMPLETE_CHOLESKY;
-    Box::new(move || {
-        black_box(prepared.solve(job.limit as usize, job.tolerances, cholesky));
-    })
-}
+of_reference!(published, reference);
+of_reference!(untimed, reference_untimed);
 
 fn implemented<'a>(implementation: &'a Implementation, job: &Job) -> Solve<'a> {
     let (mut job, rules) = (job.clone(), job.rules());
@@ -165,22 +184,31 @@ fn under_64_rules(job: Job) -> Job {
 const HEAD: &str = "| job | rows | mode | count | published min | median | untimed min | median |";
 const OWN_HEAD: &str = " port min | median | port / published | port / untimed |";
 
+/// Of positions a table in modes 0 and 1, which the Rust has, and of velocities one in all modes.
+pub fn tables(library: Option<&str>) -> Result<bool, String> {
+    println!("positions");
+    table(library, Kind::Position, &[0, INCOMPLETE_CHOLESKY])?;
+    println!("velocities");
+    table(library, Kind::Velocity, &[0, INCOMPLETE_CHOLESKY, BLOCK_JACOBI])?;
+    Ok(true)
+}
+
 /// One table: minimum and median in µs for each, and ratios of minima.
-pub fn table(library: Option<&str>) -> Result<bool, String> {
-    let implementation = library.map(Implementation::open).transpose()?;
+fn table(library: Option<&str>, kind: Kind, modes: &[u32]) -> Result<(), String> {
+    let implementation = library.map(|path| Implementation::open(path, kind)).transpose()?;
     if implementation.as_ref().is_some_and(|own| !own.solves()) {
-        return Err("the library has no function oracle_solve_position".to_string());
+        return Err("the library has no function that solves".to_string());
     }
     let head = format!("{HEAD}{}", implementation.as_ref().map_or("", |_| OWN_HEAD));
     println!("{head}\n|{}", "---|".repeat(head.matches('|').count() - 1));
-    for mode in [0, INCOMPLETE_CHOLESKY] {
+    for &mode in modes {
         for (name, shape, joints, rows_a_joint) in FAMILIES {
-            let job = mechanism(shape, joints, rows_a_joint, mode);
+            let job = of_kind(kind, mechanism(shape, joints, rows_a_joint, mode));
             let label = format!("{name} {joints}×{rows_a_joint}");
             print_row(&label, &job, implementation.as_ref());
         }
         // 512 rows under 64 rules; at tolerance 1 no step is made, and the rules weigh most.
-        let job = mechanism(Shape::Chain, 128, 4, mode);
+        let job = of_kind(kind, mechanism(Shape::Chain, 128, 4, mode));
         let met = Job { tolerances: [1.0; 2], ..job.clone() };
         for (label, job) in [
             ("chain 128×4, 64 rules", under_64_rules(job)),
@@ -190,7 +218,7 @@ pub fn table(library: Option<&str>) -> Result<bool, String> {
             print_row(label, &job, implementation.as_ref());
         }
     }
-    Ok(true)
+    Ok(())
 }
 
 fn print_row(label: &str, job: &Job, implementation: Option<&Implementation>) {
@@ -219,7 +247,7 @@ fn short(value: f64) -> String {
 /// The closing check of 512 rows on 256 bodies, with the solve's own multipliers, under two rules
 /// and under 64, beside three products of the reference's operator on the same table and list.
 pub fn closing(library: &str) -> Result<bool, String> {
-    let own = Implementation::open(library)?;
+    let own = Implementation::open(library, Kind::Position)?;
     let job = mechanism(Shape::Loop, 256, 2, INCOMPLETE_CHOLESKY);
     let list = crate::model::solve(&job).solution;
     let ruled = under_64_rules(job.clone());

@@ -8,7 +8,7 @@ use crate::model;
 use reference::collision::CollisionError;
 use reference::{Outcome, Prepared};
 
-/// The velocity side starts from the target velocity of a body at rest, reads the
+/// The velocity side of the harness starts from the target velocity, reads the
 /// impulse bounds, and adds to the accumulated impulse.
 fn as_velocity_rows(job: &Job) -> Vec<f64> {
     let mut numbers = job.numbers.clone();
@@ -32,7 +32,7 @@ fn comparable(answer: &Answer) -> bool {
 
 fn agrees(job: &Job, solved: &Solved) -> bool {
     let mut prepared = Prepared::new(&as_velocity_rows(job), &job.words, &job.masses, &job.centres);
-    let outcome = prepared.solve_velocity_blocks(job.limit as usize, job.tolerances);
+    let outcome = prepared.solve_velocity(job.limit as usize, job.tolerances, BLOCK_JACOBI);
     let told = |by| rust_outcome(solved.answer.refusal()) == Some(by);
     match outcome {
         Outcome::Accepted { count, converged, linear, angular } => {

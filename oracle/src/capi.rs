@@ -7,11 +7,99 @@ mod job;
 mod judge;
 mod model;
 
-use job::{Answer, Job, MULTIPLIER, ROW_NUMBERS, Rules};
+use job::{Answer, CENTRE_NUMBERS, IMPULSE_NUMBERS, Job, Kind, ROW_NUMBERS, Rules};
 use std::slice::{from_raw_parts, from_raw_parts_mut};
 
 /// The reference and the model differ: an answer that no job has.
 const DISPUTED: u64 = 1000;
+
+/// A slice as C lends it.
+type Lent<T> = (*const T, usize);
+
+/// # Safety
+/// The pointer is followed by the number of elements that it lends.
+unsafe fn copied<T: Copy>((pointer, length): Lent<T>) -> Vec<T> {
+    unsafe { from_raw_parts(pointer, length) }.to_vec()
+}
+
+/// What every call lends: rows, masses, what stands in the centres' place, and rules.
+struct Tables {
+    numbers: Lent<f64>,
+    words: Lent<u32>,
+    masses: Lent<f64>,
+    lent: Lent<f64>,
+    rule_words: Lent<u32>,
+    rule_tolerances: Lent<f64>,
+}
+
+impl Tables {
+    /// # Safety
+    /// Every pointer is followed by the number of elements that it lends.
+    unsafe fn job(self, kind: Kind, rows: u32, bodies: u32) -> Job {
+        let rules = Rules {
+            words: unsafe { copied(self.rule_words) },
+            tolerances: unsafe { copied(self.rule_tolerances) },
+        };
+        let lent = unsafe { copied(self.lent) };
+        let (centres, residuals) = match kind {
+            Kind::Position => (lent, Vec::new()),
+            Kind::Velocity => (Vec::new(), lent),
+        };
+        Job {
+            kind,
+            numbers: unsafe { copied(self.numbers) },
+            words: unsafe { copied(self.words) },
+            masses: unsafe { copied(self.masses) },
+            centres,
+            residuals,
+            rules: Some(rules),
+            rows,
+            bodies,
+            ..Job::default()
+        }
+    }
+}
+
+struct Outputs<'a> {
+    solution: &'a mut [f64],
+    impulses: &'a mut [f64],
+    new_centres: &'a mut [f64],
+    rule_numbers: &'a mut [u32],
+}
+
+fn solve(job: &Job, numbers: &mut [f64], to: Outputs) -> [u64; 5] {
+    let (rows, bodies) = (job.rows as usize, job.bodies as usize);
+    let Outputs { solution, impulses, new_centres, rule_numbers } = to;
+    let lengths = [solution.len(), impulses.len(), new_centres.len(), rule_numbers.len()];
+    let centres = if job.kind == Kind::Position { CENTRE_NUMBERS * bodies } else { 0 };
+    if lengths != [rows, IMPULSE_NUMBERS * bodies, centres, rows] {
+        return Answer::Refused(3).words();
+    }
+    let judged = judge::judge(job);
+    if judged.dispute.is_some() {
+        return [DISPUTED, 0, 0, 0, 0];
+    }
+    let solved = judged.solved;
+    if let Answer::Accepted { .. } = solved.answer {
+        solution.copy_from_slice(&solved.solution);
+        impulses.copy_from_slice(&solved.impulses);
+        new_centres.copy_from_slice(&solved.centres);
+        rule_numbers.copy_from_slice(&solved.rules);
+        for (row, sum) in numbers.chunks_exact_mut(ROW_NUMBERS).zip(solved.accumulated) {
+            row[job.kind.gains()] = sum;
+        }
+    }
+    solved.answer.words()
+}
+
+fn check(job: &Job, list: &[f64], rule_numbers: &mut [u32]) -> [u64; 4] {
+    let fits = rule_numbers.len() == job.rows as usize;
+    let checked = if fits { model::closing_check(job, list) } else { Err(3) };
+    if let Ok(found) = &checked {
+        rule_numbers.copy_from_slice(&found.rules);
+    }
+    model::check_words(&checked)
+}
 
 /// # Safety
 /// Every pointer is followed by the number of elements that it lends.
@@ -32,59 +120,21 @@ pub unsafe extern "C" fn kapitsa_solve_position(
     rule_numbers: *mut u32, rule_numbers_len: usize,
     answer: *mut u64, answer_len: usize,
 ) {
-    let numbers = unsafe { from_raw_parts_mut(numbers, numbers_len) };
+    let tables = Tables {
+        numbers: (numbers, numbers_len), words: (words, words_len), masses: (masses, masses_len),
+        lent: (centres, centres_len), rule_words: (rule_words, rule_words_len),
+        rule_tolerances: (rule_tolerances, rule_tolerances_len),
+    };
+    let job = unsafe { tables.job(Kind::Position, rows, bodies) };
     let to = Outputs {
         solution: unsafe { from_raw_parts_mut(solution, solution_len) },
         impulses: unsafe { from_raw_parts_mut(impulses, impulses_len) },
         new_centres: unsafe { from_raw_parts_mut(new_centres, new_centres_len) },
         rule_numbers: unsafe { from_raw_parts_mut(rule_numbers, rule_numbers_len) },
     };
-    let answer = unsafe { from_raw_parts_mut(answer, answer_len) };
-    let rules = Rules {
-        words: unsafe { from_raw_parts(rule_words, rule_words_len) }.to_vec(),
-        tolerances: unsafe { from_raw_parts(rule_tolerances, rule_tolerances_len) }.to_vec(),
-    };
-    let job = Job {
-        numbers: numbers.to_vec(),
-        words: unsafe { from_raw_parts(words, words_len) }.to_vec(),
-        masses: unsafe { from_raw_parts(masses, masses_len) }.to_vec(),
-        centres: unsafe { from_raw_parts(centres, centres_len) }.to_vec(),
-        rules: Some(rules),
-        rows, bodies, limit, mode, shift,
-        ..Job::default()
-    };
-    answer.copy_from_slice(&solve(&job, numbers, to));
-}
-
-struct Outputs<'a> {
-    solution: &'a mut [f64],
-    impulses: &'a mut [f64],
-    new_centres: &'a mut [f64],
-    rule_numbers: &'a mut [u32],
-}
-
-fn solve(job: &Job, numbers: &mut [f64], to: Outputs) -> [u64; 5] {
-    let (rows, bodies) = (job.rows as usize, job.bodies as usize);
-    let Outputs { solution, impulses, new_centres, rule_numbers } = to;
-    let lengths = [solution.len(), impulses.len(), new_centres.len(), rule_numbers.len()];
-    if lengths != [rows, 6 * bodies, 3 * bodies, rows] {
-        return Answer::Refused(3).words();
-    }
-    let judged = judge::judge(job);
-    if judged.dispute.is_some() {
-        return [DISPUTED, 0, 0, 0, 0];
-    }
-    let solved = judged.solved;
-    if let Answer::Accepted { .. } = solved.answer {
-        solution.copy_from_slice(&solved.solution);
-        impulses.copy_from_slice(&solved.impulses);
-        new_centres.copy_from_slice(&solved.centres);
-        rule_numbers.copy_from_slice(&solved.rules);
-        for (row, multiplier) in numbers.chunks_exact_mut(ROW_NUMBERS).zip(solved.multipliers) {
-            row[MULTIPLIER] = multiplier;
-        }
-    }
-    solved.answer.words()
+    let numbers = unsafe { from_raw_parts_mut(numbers, numbers_len) };
+    let found = solve(&Job { limit, mode, shift, ..job }, numbers, to);
+    unsafe { from_raw_parts_mut(answer, answer_len) }.copy_from_slice(&found);
 }
 
 /// # Safety
@@ -92,38 +142,70 @@ fn solve(job: &Job, numbers: &mut [f64], to: Outputs) -> [u64; 5] {
 #[unsafe(no_mangle)]
 #[allow(clippy::too_many_arguments)]
 #[rustfmt::skip]
-pub unsafe extern "C" fn kapitsa_closing_check(
-    numbers: *const f64, numbers_len: usize,
+pub unsafe extern "C" fn kapitsa_solve_velocity(
+    numbers: *mut f64, numbers_len: usize,
     words: *const u32, words_len: usize,
     masses: *const f64, masses_len: usize,
-    centres: *const f64, centres_len: usize,
+    residuals: *const f64, residuals_len: usize,
     rule_words: *const u32, rule_words_len: usize,
     rule_tolerances: *const f64, rule_tolerances_len: usize,
-    rows: u32, bodies: u32,
-    multipliers: *const f64, multipliers_len: usize,
+    rows: u32, bodies: u32, limit: u32, mode: u32, shift: f64,
+    solution: *mut f64, solution_len: usize,
+    impulses: *mut f64, impulses_len: usize,
     rule_numbers: *mut u32, rule_numbers_len: usize,
     answer: *mut u64, answer_len: usize,
 ) {
-    let rules = Rules {
-        words: unsafe { from_raw_parts(rule_words, rule_words_len) }.to_vec(),
-        tolerances: unsafe { from_raw_parts(rule_tolerances, rule_tolerances_len) }.to_vec(),
+    let tables = Tables {
+        numbers: (numbers, numbers_len), words: (words, words_len), masses: (masses, masses_len),
+        lent: (residuals, residuals_len), rule_words: (rule_words, rule_words_len),
+        rule_tolerances: (rule_tolerances, rule_tolerances_len),
     };
-    let job = Job {
-        numbers: unsafe { from_raw_parts(numbers, numbers_len) }.to_vec(),
-        words: unsafe { from_raw_parts(words, words_len) }.to_vec(),
-        masses: unsafe { from_raw_parts(masses, masses_len) }.to_vec(),
-        centres: unsafe { from_raw_parts(centres, centres_len) }.to_vec(),
-        rules: Some(rules),
-        rows, bodies,
-        ..Job::default()
+    let job = unsafe { tables.job(Kind::Velocity, rows, bodies) };
+    let to = Outputs {
+        solution: unsafe { from_raw_parts_mut(solution, solution_len) },
+        impulses: unsafe { from_raw_parts_mut(impulses, impulses_len) },
+        new_centres: &mut [],
+        rule_numbers: unsafe { from_raw_parts_mut(rule_numbers, rule_numbers_len) },
     };
-    let list = unsafe { from_raw_parts(multipliers, multipliers_len) };
-    let rule_numbers = unsafe { from_raw_parts_mut(rule_numbers, rule_numbers_len) };
-    let answer = unsafe { from_raw_parts_mut(answer, answer_len) };
-    let fits = rule_numbers.len() == rows as usize;
-    let checked = if fits { model::closing_check(&job, list) } else { Err(3) };
-    if let Ok(found) = &checked {
-        rule_numbers.copy_from_slice(&found.rules);
-    }
-    answer.copy_from_slice(&model::check_words(&checked));
+    let numbers = unsafe { from_raw_parts_mut(numbers, numbers_len) };
+    let found = solve(&Job { limit, mode, shift, ..job }, numbers, to);
+    unsafe { from_raw_parts_mut(answer, answer_len) }.copy_from_slice(&found);
 }
+
+/// A check by this name, of this kind of job.
+macro_rules! checks {
+    ($name:ident, $kind:expr) => {
+        /// # Safety
+        /// Every pointer is followed by the number of elements that it lends.
+        #[unsafe(no_mangle)]
+        #[allow(clippy::too_many_arguments)]
+        #[rustfmt::skip]
+        pub unsafe extern "C" fn $name(
+            numbers: *const f64, numbers_len: usize,
+            words: *const u32, words_len: usize,
+            masses: *const f64, masses_len: usize,
+            lent: *const f64, lent_len: usize,
+            rule_words: *const u32, rule_words_len: usize,
+            rule_tolerances: *const f64, rule_tolerances_len: usize,
+            rows: u32, bodies: u32,
+            multipliers: *const f64, multipliers_len: usize,
+            rule_numbers: *mut u32, rule_numbers_len: usize,
+            answer: *mut u64, answer_len: usize,
+        ) {
+            let tables = Tables {
+                numbers: (numbers, numbers_len), words: (words, words_len),
+                masses: (masses, masses_len), lent: (lent, lent_len),
+                rule_words: (rule_words, rule_words_len),
+                rule_tolerances: (rule_tolerances, rule_tolerances_len),
+            };
+            let job = unsafe { tables.job($kind, rows, bodies) };
+            let list = unsafe { from_raw_parts(multipliers, multipliers_len) };
+            let rule_numbers = unsafe { from_raw_parts_mut(rule_numbers, rule_numbers_len) };
+            let found = check(&job, list, rule_numbers);
+            unsafe { from_raw_parts_mut(answer, answer_len) }.copy_from_slice(&found);
+        }
+    };
+}
+
+checks!(kapitsa_closing_check, Kind::Position);
+checks!(kapitsa_velocity_closing_check, Kind::Velocity);

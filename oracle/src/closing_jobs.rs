@@ -1,6 +1,6 @@
 //! Lists of multipliers, and tolerances, for the closing check.
 
-use crate::job::{Job, ROW_NUMBERS, Solved, two};
+use crate::job::{Job, Kind, ROW_NUMBERS, Solved, two};
 use crate::model::{self, Checked};
 use crate::random::Random;
 
@@ -20,6 +20,10 @@ pub fn closing_job(job: &Job, solved: &Solved, random: &mut Random) -> (Job, Vec
         }
         4 | 5 => at_reach(&mut job, &list, random),
         6 if random.chance(20) => list.push(0.0),
+        7 if job.kind == Kind::Velocity && !job.residuals.is_empty() => {
+            let at = random.below(job.residuals.len());
+            job.residuals[at] = edge(random);
+        }
         7 if !job.centres.is_empty() && random.chance(40) => {
             let at = random.below(job.centres.len());
             job.centres[at] = edge(random);

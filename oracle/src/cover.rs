@@ -3,12 +3,14 @@
 
 mod items;
 mod slip;
+mod speeds;
 mod worked;
 
-use crate::job::{Answer, BLOCK_JACOBI, INCOMPLETE_CHOLESKY, Job, Solved};
+use crate::job::{Answer, BLOCK_JACOBI, INCOMPLETE_CHOLESKY, Job, Kind, Solved};
 use crate::model::{Begun, Table, at_factor, delivered, solve, tolerances_fit};
 use items::{Item, items};
 use slip::{SLIPS, Slip};
+use speeds::Speeds;
 use std::collections::BTreeSet;
 use worked::{Turned, Work, diagonal_found, runs, shared};
 
@@ -26,6 +28,7 @@ struct Seen {
     /// A tolerance is −0.0, and the job is not refused.
     minus_zero: bool,
     centres: Centres,
+    speeds: Speeds,
     accepted: bool,
     changed: Vec<Slip>,
     not_finite: &'static str,
@@ -89,7 +92,10 @@ impl Seen {
         if refusal == 27 {
             seen.else_by = solve(&Job { tolerances: [0.0; 2], ..job.clone() }).answer.refusal();
         }
-        seen.centres = Centres::of(job, solved);
+        match job.kind {
+            Kind::Position => seen.centres = Centres::of(job, solved),
+            Kind::Velocity => seen.speeds = Speeds::of(job, solved),
+        }
         if let Some((table, begun)) = at_factor(job) {
             seen.at_factor(job, solved, &table, &begun)?;
         }
@@ -109,6 +115,7 @@ impl Seen {
             return Err(format!("worked once more, a job is not {:?}", solved.answer));
         }
         self.accepted = plain.is_ok();
+        self.speeds.at_factor(self.refusal, table, begun);
         self.not_finite = plain.err().map_or("", |turned| turned.what);
         self.replaced =
             table.rows.iter().any(|row| diagonal_found(table, row) <= f64::MIN_POSITIVE);
@@ -156,8 +163,8 @@ pub struct Cover {
 }
 
 impl Cover {
-    pub fn new() -> Self {
-        let items = items();
+    pub fn new(kind: Kind) -> Self {
+        let items = items(kind);
         Self { counts: vec![0; items.len()], items }
     }
 
@@ -183,6 +190,10 @@ impl Cover {
 
     pub fn full(&self, centred: bool) -> bool {
         (0..self.items.len()).all(|at| self.items[at].centred != centred || !self.short(at))
+    }
+
+    pub fn complete(&self) -> bool {
+        self.full(false) && self.full(true)
     }
 
     /// A line for each name, with its count in each mode that is asked for.

@@ -1,9 +1,11 @@
 //! docs/DIFFERENCES.md's inputs, run on the reference.
 
+mod velocities;
+
 use crate::generator::{chain_along_x, from_the_origin, push_x_row, star};
 use crate::inertia;
 use crate::job::*;
-use crate::judge::run_reference;
+use crate::judge::{gained, run_reference};
 use crate::model::{self, Checked};
 use reference::Outcome;
 
@@ -123,16 +125,17 @@ fn methods() -> Vec<Difference> {
 }
 
 pub fn run() -> bool {
-    for difference in refusals().iter().chain(&methods()) {
+    for difference in refusals().iter().chain(&velocities::refusals()).chain(&methods()) {
         println!("{}: {}", difference.name, difference.input);
         println!("  Rust:        {}", rust(&difference.job));
         // Neither the Rust nor document 01 has a shift or rules, or judges a tolerance or a centre.
         let Job { rules, shift, .. } = &difference.job;
         let same = rules.is_none() && *shift == 0.0 && model::tolerances_fit(&difference.job);
-        let same = same && !placed(&difference.job);
+        let same = same && difference.job.kind == Kind::Position && !placed(&difference.job);
         let measure = if same { "01" } else { "02" };
         println!("  document {measure}: {}", document(&difference.job));
     }
+    velocities::reuse();
     inertia::differences();
     true
 }
@@ -145,13 +148,13 @@ fn placed(job: &Job) -> bool {
 
 /// What a caller that lends rules is told, and without rules what the job program prints.
 fn document(job: &Job) -> String {
-    let solve = if job.rules.is_some() { model::solve } else { model::solve_file };
-    let solved = solve(job);
+    let by_file = job.rules.is_none() && job.kind == Kind::Position;
+    let solved = if by_file { model::solve_file(job) } else { model::solve(job) };
     match solved.answer {
         Answer::Refused(number) => format!("refusal {number}, nothing written"),
         Answer::Accepted { flag, count, linear, angular } => {
             let mut text = accepted(flag, count as usize, linear, angular, &solved.solution);
-            if placed(job) {
+            if job.kind == Kind::Position && placed(job) {
                 text += &format!(", body 0 at {:e}", solved.centres[0]);
             }
             format!("{text}; {}", check(job, &solved.solution))
@@ -174,20 +177,31 @@ fn check(job: &Job, list: &[f64]) -> String {
 
 fn rust(job: &Job) -> String {
     let (outcome, prepared) = run_reference(job, job.tolerances);
-    let told = match outcome {
+    let told = told(outcome, prepared.solution());
+    if let Outcome::Accepted { .. } = outcome {
+        let beyond = prepared.next_centers().iter().position(Option::is_none);
+        let beyond = beyond.filter(|_| job.kind == Kind::Position);
+        return told + &beyond.map_or(String::new(), overflows);
+    }
+    let moved = prepared.applied().iter().filter(|applied| applied.is_some()).count();
+    let changed = |(old, new): (&f64, &f64)| old.to_bits() != new.to_bits();
+    let (old, new) = (job.accumulated(), gained(job, &prepared));
+    let written = old.iter().zip(&new).filter(|pair| changed(*pair)).count();
+    let what = match job.kind {
+        Kind::Position => "multipliers",
+        Kind::Velocity => "accumulated impulses",
+    };
+    format!("{told}, {moved} bodies moved, {written} {what} written")
+}
+
+fn told(outcome: Outcome, solution: &[f64]) -> String {
+    match outcome {
         Outcome::Accepted { count, converged, linear, angular } => {
-            let text = accepted(converged, count, linear, angular, prepared.solution());
-            let beyond = prepared.next_centers().iter().position(Option::is_none);
-            return text + &beyond.map_or(String::new(), overflows);
+            accepted(converged, count, linear, angular, solution)
         }
         Outcome::NotAvailable => "Ok(None)".to_string(),
         Outcome::Error(error) => format!("Err({error:?})"),
-    };
-    let moved = prepared.applied().iter().filter(|applied| applied.is_some()).count();
-    let changed = |(old, new): (&f64, &f64)| old.to_bits() != new.to_bits();
-    let (old, new) = (job.multipliers(), prepared.multipliers());
-    let written = old.iter().zip(&new).filter(|pair| changed(*pair)).count();
-    format!("{told}, {moved} bodies moved, {written} multipliers written")
+    }
 }
 
 /// What the two statements for a new centre say of a body.

@@ -1,13 +1,16 @@
 //! The differential driver: an implementation against the judge, job by job.
 
+mod effect;
+
 use crate::closing_jobs::closing_job;
-use crate::generator::{Sizes, centred, job, ruled, shifted};
+use crate::generator::{Sizes, centred, driven, job, ruled, shifted};
 use crate::implementation::{Implementation, Outputs};
-use crate::job::{Answer, INCOMPLETE_CHOLESKY, Job, MULTIPLIER, ROW_NUMBERS, Solved, same_bits};
+use crate::job::{Answer, CENTRE_NUMBERS, Job, Kind, ROW_NUMBERS, Solved, same_bits};
 use crate::judge::judge;
 use crate::random::Random;
 use crate::tally::Tally;
 use crate::{job_file, model};
+use effect::Effect;
 use std::collections::BTreeMap;
 use std::path::Path;
 
@@ -36,6 +39,11 @@ pub fn centres(library: &str, jobs: u64, seed: u64, home: &Path) -> Result<bool,
     drive(library, jobs, seed, home, centred)
 }
 
+/// Velocity jobs, some under rules and some with a shift, and their closing checks.
+pub fn velocities(library: &str, jobs: u64, seed: u64, home: &Path) -> Result<bool, String> {
+    drive(library, jobs, seed, home, driven)
+}
+
 /// The jobs of a seed, each as `draw` has it.
 fn drive(
     library: &str,
@@ -44,9 +52,10 @@ fn drive(
     home: &Path,
     draw: fn(u64, u64) -> Job,
 ) -> Result<bool, String> {
-    let implementation = Implementation::open(library)?;
+    let kind = draw(seed, 0).kind;
+    let implementation = Implementation::open(library, kind)?;
     if !implementation.solves() {
-        println!("no function oracle_solve_position: closing checks alone");
+        println!("no function that solves: closing checks alone");
     }
     let mut mismatches = 0;
     let mut verdicts = BTreeMap::new();
@@ -61,16 +70,15 @@ fn drive(
         let name = format!("{seed}-{index}");
         if !found.is_empty() {
             println!("job {name}, shift {:e}, {:?}: {}", job.shift, job.rules, found.join("; "));
-            save(home, &format!("{name}.job"), &with_centres(&job))?;
+            save_job(home, &name, &job)?;
         }
         let (closing, list) = closing_job(&job, &solved, &mut random);
         let (told, differ) = compare_check(&implementation, &closing, &list, &mut random);
         *verdicts.entry(told).or_insert(0) += 1;
         if !differ.is_empty() {
             println!("closing check {name}, {:?}: {}", closing.rules, differ.join("; "));
-            let listed: Vec<u8> = list.iter().flat_map(|value| value.to_le_bytes()).collect();
-            save(home, &format!("{name}-closing.job"), &with_centres(&closing))?;
-            save(home, &format!("{name}-closing.list"), &listed)?;
+            save_job(home, &format!("{name}-closing"), &closing)?;
+            save(home, &format!("{name}-closing.list"), &doubles(&list))?;
         }
         mismatches += u64::from(!found.is_empty() || !differ.is_empty());
     }
@@ -81,75 +89,6 @@ fn drive(
     print_verdicts(&verdicts);
     println!("{jobs} jobs, {mismatches} mismatches");
     Ok(mismatches == 0)
-}
-
-/// What the shifts, the rules and the centres of the jobs come to.
-#[derive(Default)]
-struct Effect {
-    shifted: u64,
-    changed: u64,
-    instead_of_13: u64,
-    ruled: u64,
-    agreeing: u64,
-    by_rules: u64,
-    placed: u64,
-    moved: u64,
-    beyond: u64,
-}
-
-impl Effect {
-    fn add(&mut self, job: &Job, solved: &Solved) {
-        self.add_centres(job, solved);
-        if job.rules.is_some() && !matches!(solved.answer.refusal(), 3 | 25 | 4 | 27 | 28) {
-            let plain = model::solve(&Job { rules: None, ..job.clone() });
-            self.ruled += 1;
-            self.agreeing += u64::from(model::agreed(job).is_some());
-            self.by_rules += u64::from(plain.answer.words() != solved.answer.words());
-        }
-        if job.shift == 0.0 {
-            return;
-        }
-        self.shifted += 1;
-        let refusal = solved.answer.refusal();
-        if job.mode != INCOMPLETE_CHOLESKY || matches!(refusal, 3 | 25) {
-            return;
-        }
-        let plain = model::solve(&Job { shift: 0.0, ..job.clone() });
-        self.changed += u64::from(!plain.same(solved));
-        self.instead_of_13 += u64::from(refusal == 0 && plain.answer.refusal() == 13);
-    }
-
-    /// Of jobs that 6 lets pass with a centre other than +0.0.
-    fn add_centres(&mut self, job: &Job, solved: &Solved) {
-        let refusal = solved.answer.refusal();
-        if job.centres.iter().any(|part| part.to_bits() != 0) && !matches!(refusal, 3..=6 | 25..) {
-            self.placed += 1;
-            self.moved += u64::from(refusal == 0 && !same_bits(&job.centres, &solved.centres));
-            let by_centre = refusal == 17 && model::delivered(job).answer.refusal() == 0;
-            self.beyond += u64::from(by_centre);
-        }
-    }
-
-    fn print(&self) {
-        if self.placed > 0 {
-            println!(
-                "centres: {} jobs with centres that 6 lets pass, {} accepted with one moved, {} refused by 17 for a new one alone",
-                self.placed, self.moved, self.beyond
-            );
-        }
-        if self.shifted > 0 {
-            println!(
-                "shifts: {} other than 0, {} with another outcome than at 0, {} accepted instead of 13",
-                self.shifted, self.changed, self.instead_of_13
-            );
-        }
-        if self.ruled > 0 {
-            println!(
-                "rules: {} tables let pass, {} of them agreeing, {} with another answer than at the two tolerances",
-                self.ruled, self.agreeing, self.by_rules
-            );
-        }
-    }
 }
 
 /// A check: refusal and verdict as the model has them, and every difference from it, the bits of
@@ -222,6 +161,7 @@ fn compare_solve(
 /// The outputs of a solve, one of them now and then too short; and whether all fit.
 fn outputs(job: &Job, random: &mut Random) -> (Outputs, bool) {
     let which = if random.below(200) == 0 { random.below(4) } else { 4 };
+    let each = if job.kind == Kind::Position { CENTRE_NUMBERS } else { 0 };
     let lent = |place: usize, count: u32, each: usize| {
         (each * count.min(600) as usize).saturating_sub(usize::from(place == which))
     };
@@ -229,12 +169,12 @@ fn outputs(job: &Job, random: &mut Random) -> (Outputs, bool) {
         solution: vec![UNTOUCHED; lent(0, job.rows, 1)],
         impulses: vec![UNTOUCHED; lent(1, job.bodies, 6)],
         rule_numbers: vec![UNTOUCHED_WORD; lent(2, job.rows, 1)],
-        centres: vec![UNTOUCHED; lent(3, job.bodies, 3)],
+        centres: vec![UNTOUCHED; lent(3, job.bodies, each)],
     };
     let (rows, bodies) = (job.rows as usize, job.bodies as usize);
     let Outputs { solution, impulses, centres, rule_numbers } = &to;
     let lengths = [solution.len(), impulses.len(), centres.len(), rule_numbers.len()];
-    (to, lengths == [rows, 6 * bodies, 3 * bodies, rows])
+    (to, lengths == [rows, 6 * bodies, each * bodies, rows])
 }
 
 fn differences(
@@ -252,7 +192,7 @@ fn differences(
     };
     let words = wanted.answer.words();
     hold(answer == words, &format!("answer {answer:x?}, wanted {words:x?}"));
-    hold(same_bits(&given.numbers, &after(job, wanted)), "multipliers or row numbers");
+    hold(same_bits(&given.numbers, &after(job, wanted)), "row numbers");
     if let Answer::Accepted { .. } = wanted.answer {
         hold(same_bits(&to.solution, &wanted.solution), "solution");
         hold(same_bits(&to.impulses, &wanted.impulses), "impulses");
@@ -274,14 +214,24 @@ fn untouched(values: &[f64]) -> bool {
 /// The rows' numbers as the solve must leave them.
 fn after(job: &Job, wanted: &Solved) -> Vec<f64> {
     let mut numbers = job.numbers.clone();
-    for (row, multiplier) in numbers.chunks_exact_mut(ROW_NUMBERS).zip(&wanted.multipliers) {
-        row[MULTIPLIER] = *multiplier;
+    for (row, sum) in numbers.chunks_exact_mut(ROW_NUMBERS).zip(&wanted.accumulated) {
+        row[job.kind.gains()] = *sum;
     }
     numbers
 }
 
-fn with_centres(job: &Job) -> Vec<u8> {
-    job_file::write(&Job { spare: 1, ..job.clone() })
+/// The job as a file with centres; of a velocity job, which has none, the residuals beside it.
+fn save_job(home: &Path, name: &str, job: &Job) -> Result<(), String> {
+    let spare = u32::from(job.kind == Kind::Position);
+    save(home, &format!("{name}.job"), &job_file::write(&Job { spare, ..job.clone() }))?;
+    match job.kind {
+        Kind::Position => Ok(()),
+        Kind::Velocity => save(home, &format!("{name}.residuals"), &doubles(&job.residuals)),
+    }
+}
+
+fn doubles(values: &[f64]) -> Vec<u8> {
+    values.iter().flat_map(|value| value.to_le_bytes()).collect()
 }
 
 /// A saved job has the program's layout; the program itself takes 128 rows at most.

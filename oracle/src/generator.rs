@@ -13,6 +13,7 @@ mod pins;
 mod rules;
 mod shifts;
 mod thresholds;
+mod velocities;
 
 pub use centres::{centred, centred_pin, fixed_centres, from_the_origin, place};
 pub use examples::{chain_along_x, examples, push_x_row};
@@ -22,6 +23,9 @@ pub use mechanism::{Shape, joined};
 pub use pins::pin;
 pub use rules::{ruled, split};
 pub use shifts::shifted;
+pub use velocities::{
+    driven, fixed_velocities, moving, push_velocity_row, sheets, v1, velocity_chain, velocity_pin,
+};
 
 use crate::job::Job;
 use crate::random::Random;

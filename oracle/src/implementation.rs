@@ -1,16 +1,24 @@
-//! An implementation under test: its C functions, out of a shared library. It may lack the
-//! solve, and may tell whether its work memory is cleared.
+//! An implementation under test: its C functions for one kind of job, out of a shared library. It may
+//! lack the solve, and may tell whether its work memory is cleared.
 
-use crate::job::{Job, Rules};
+use crate::job::{Job, Kind, Rules};
 use crate::library::Library;
 use std::ffi::{c_int, c_void};
 
 #[rustfmt::skip]
-type Solve = unsafe extern "C" fn(
+type SolvePosition = unsafe extern "C" fn(
     *mut f64, usize, *const u32, usize, *const f64, usize, *const f64, usize,
     *const u32, usize, *const f64, usize, u32, u32, u32, u32, f64,
     *mut f64, usize, *mut f64, usize, *mut f64, usize, *mut u32, usize, *mut u64, usize,
 );
+/// Residuals in the centres' place, and no new centres.
+#[rustfmt::skip]
+type SolveVelocity = unsafe extern "C" fn(
+    *mut f64, usize, *const u32, usize, *const f64, usize, *const f64, usize,
+    *const u32, usize, *const f64, usize, u32, u32, u32, u32, f64,
+    *mut f64, usize, *mut f64, usize, *mut u32, usize, *mut u64, usize,
+);
+/// Of both kinds: the check of speeds takes residuals in the centres' place.
 #[rustfmt::skip]
 type Close = unsafe extern "C" fn(
     *const f64, usize, *const u32, usize, *const f64, usize, *const f64, usize,
@@ -20,7 +28,22 @@ type Close = unsafe extern "C" fn(
 
 type Cleared = unsafe extern "C" fn() -> c_int;
 
-/// What a solve is lent to write into, besides the rows.
+#[derive(Clone, Copy)]
+enum Solve {
+    Position(SolvePosition),
+    Velocity(SolveVelocity),
+}
+
+impl Solve {
+    fn of(kind: Kind, found: *mut c_void) -> Self {
+        match kind {
+            Kind::Position => Self::Position(unsafe { std::mem::transmute(found) }),
+            Kind::Velocity => Self::Velocity(unsafe { std::mem::transmute(found) }),
+        }
+    }
+}
+
+/// What a solve is lent to write into, besides the rows. A velocity solve writes no centres.
 pub struct Outputs {
     pub solution: Vec<f64>,
     pub impulses: Vec<f64>,
@@ -34,15 +57,29 @@ pub struct Implementation {
     cleared: Option<Cleared>,
 }
 
+/// The functions that solve and check.
+fn names(kind: Kind) -> [&'static str; 2] {
+    match kind {
+        Kind::Position => ["oracle_solve_position", "oracle_closing_check"],
+        Kind::Velocity => ["oracle_solve_velocity", "oracle_velocity_closing_check"],
+    }
+}
+
+/// What is lent in the place of the centres.
+fn lent(job: &Job) -> &[f64] {
+    match job.kind {
+        Kind::Position => &job.centres,
+        Kind::Velocity => &job.residuals,
+    }
+}
+
 impl Implementation {
-    pub fn open(path: &str) -> Result<Self, String> {
+    pub fn open(path: &str, kind: Kind) -> Result<Self, String> {
         let library = Library::open(path)?;
-        let close = library.function("oracle_closing_check")?;
+        let [solve, close] = names(kind);
+        let close = library.function(close)?;
         Ok(Self {
-            solve: library
-                .function("oracle_solve_position")
-                .ok()
-                .map(|found| unsafe { std::mem::transmute::<*mut c_void, Solve>(found) }),
+            solve: library.function(solve).ok().map(|found| Solve::of(kind, found)),
             close: unsafe { std::mem::transmute::<*mut c_void, Close>(close) },
             cleared: library
                 .function("oracle_work_cleared")
@@ -61,26 +98,43 @@ impl Implementation {
     }
 
     #[rustfmt::skip]
-    /// Writes into the job's multipliers and the outputs as the function does.
+    /// Writes into the job's numbers and the outputs as the function does.
     pub fn solve(&self, job: &mut Job, rules: &Rules, to: &mut Outputs) -> [u64; 5] {
         let mut answer = [u64::MAX; 5];
-        let solve = self.solve.expect("the implementation solves");
+        let (lent, lent_len) = (lent(job).as_ptr(), lent(job).len());
         let Outputs { solution, impulses, centres, rule_numbers } = to;
-        unsafe {
-            solve(
-                job.numbers.as_mut_ptr(), job.numbers.len(),
-                job.words.as_ptr(), job.words.len(),
-                job.masses.as_ptr(), job.masses.len(),
-                job.centres.as_ptr(), job.centres.len(),
-                rules.words.as_ptr(), rules.words.len(),
-                rules.tolerances.as_ptr(), rules.tolerances.len(),
-                job.rows, job.bodies, job.limit, job.mode, job.shift,
-                solution.as_mut_ptr(), solution.len(),
-                impulses.as_mut_ptr(), impulses.len(),
-                centres.as_mut_ptr(), centres.len(),
-                rule_numbers.as_mut_ptr(), rule_numbers.len(),
-                answer.as_mut_ptr(), answer.len(),
-            );
+        match self.solve.expect("the implementation solves") {
+            Solve::Position(solve) => unsafe {
+                solve(
+                    job.numbers.as_mut_ptr(), job.numbers.len(),
+                    job.words.as_ptr(), job.words.len(),
+                    job.masses.as_ptr(), job.masses.len(),
+                    lent, lent_len,
+                    rules.words.as_ptr(), rules.words.len(),
+                    rules.tolerances.as_ptr(), rules.tolerances.len(),
+                    job.rows, job.bodies, job.limit, job.mode, job.shift,
+                    solution.as_mut_ptr(), solution.len(),
+                    impulses.as_mut_ptr(), impulses.len(),
+                    centres.as_mut_ptr(), centres.len(),
+                    rule_numbers.as_mut_ptr(), rule_numbers.len(),
+                    answer.as_mut_ptr(), answer.len(),
+                );
+            },
+            Solve::Velocity(solve) => unsafe {
+                solve(
+                    job.numbers.as_mut_ptr(), job.numbers.len(),
+                    job.words.as_ptr(), job.words.len(),
+                    job.masses.as_ptr(), job.masses.len(),
+                    lent, lent_len,
+                    rules.words.as_ptr(), rules.words.len(),
+                    rules.tolerances.as_ptr(), rules.tolerances.len(),
+                    job.rows, job.bodies, job.limit, job.mode, job.shift,
+                    solution.as_mut_ptr(), solution.len(),
+                    impulses.as_mut_ptr(), impulses.len(),
+                    rule_numbers.as_mut_ptr(), rule_numbers.len(),
+                    answer.as_mut_ptr(), answer.len(),
+                );
+            },
         }
         answer
     }
@@ -94,7 +148,7 @@ impl Implementation {
                 job.numbers.as_ptr(), job.numbers.len(),
                 job.words.as_ptr(), job.words.len(),
                 job.masses.as_ptr(), job.masses.len(),
-                job.centres.as_ptr(), job.centres.len(),
+                lent(job).as_ptr(), lent(job).len(),
                 rules.words.as_ptr(), rules.words.len(),
                 rules.tolerances.as_ptr(), rules.tolerances.len(), job.rows, job.bodies,
                 list.as_ptr(), list.len(),

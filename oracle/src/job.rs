@@ -78,13 +78,42 @@ impl Rules {
     }
 }
 
+/// What is solved: where the links are, or how they move (document 02, a).
+#[derive(Clone, Copy, Debug, Default, PartialEq)]
+pub enum Kind {
+    #[default]
+    Position,
+    Velocity,
+}
+
+impl Kind {
+    /// The number of a row that gains its solution.
+    pub fn gains(self) -> usize {
+        match self {
+            Kind::Position => MULTIPLIER,
+            Kind::Velocity => ACCUMULATED_IMPULSE,
+        }
+    }
+
+    /// The two bounds that the opening test reads, the lower one and the upper one.
+    pub fn bounds(self) -> [usize; 2] {
+        match self {
+            Kind::Position => [MIN_MULTIPLIER, MAX_MULTIPLIER],
+            Kind::Velocity => [MIN_IMPULSE, MAX_IMPULSE],
+        }
+    }
+}
+
 #[derive(Clone, Default)]
 pub struct Job {
+    pub kind: Kind,
     pub numbers: Vec<f64>,
     pub words: Vec<u32>,
     pub masses: Vec<f64>,
-    /// Where each body's centre lies (document 02, d): +0.0 where nobody says.
+    /// Where each body's centre lies (document 02, d): +0.0 where nobody says. A velocity job has none.
     pub centres: Vec<f64>,
+    /// The lent residual of a velocity job, one number a row; a position job has none.
+    pub residuals: Vec<f64>,
     pub tolerances: [f64; 2],
     /// What a solve and a check are given; without one, the two tolerances as two rules. No job
     /// file has one.
@@ -140,8 +169,9 @@ impl Job {
         self.words[ROW_WORDS * row + place] = value;
     }
 
-    pub fn multipliers(&self) -> Vec<f64> {
-        self.numbers.chunks_exact(ROW_NUMBERS).map(|row| row[MULTIPLIER]).collect()
+    /// What gains the solution: multipliers, or accumulated impulses.
+    pub fn accumulated(&self) -> Vec<f64> {
+        self.numbers.chunks_exact(ROW_NUMBERS).map(|row| row[self.kind.gains()]).collect()
     }
 }
 
@@ -175,9 +205,10 @@ impl Answer {
 pub struct Solved {
     pub answer: Answer,
     pub solution: Vec<f64>,
-    pub multipliers: Vec<f64>,
+    /// The multipliers, or the accumulated impulses, as they become.
+    pub accumulated: Vec<f64>,
     pub impulses: Vec<f64>,
-    /// Where each body's centre ends up.
+    /// Where each body's centre ends up; nothing of a velocity job.
     pub centres: Vec<f64>,
     /// The rule that each row was judged by.
     pub rules: Vec<u32>,
@@ -188,7 +219,7 @@ impl Solved {
         Self {
             answer: Answer::Refused(number),
             solution: Vec::new(),
-            multipliers: Vec::new(),
+            accumulated: Vec::new(),
             impulses: Vec::new(),
             centres: Vec::new(),
             rules: Vec::new(),
@@ -199,7 +230,7 @@ impl Solved {
     pub fn same(&self, other: &Solved) -> bool {
         self.answer.words() == other.answer.words()
             && same_bits(&self.solution, &other.solution)
-            && same_bits(&self.multipliers, &other.multipliers)
+            && same_bits(&self.accumulated, &other.accumulated)
             && same_bits(&self.impulses, &other.impulses)
             && same_bits(&self.centres, &other.centres)
             && self.rules == other.rules

@@ -111,12 +111,11 @@ fn read_sections(file: &[u8], rows: Section, masses: Section, trailer: usize) ->
         masses: bodies().flat_map(|body| doubles(body, MASS_NUMBERS)).collect(),
         centres: bodies().flat_map(centre).collect(),
         tolerances: [double(file, trailer + 24), double(file, trailer + 32)],
-        rules: None,
         rows: word(file, trailer),
         bodies: word(file, trailer + 4),
         limit: word(file, trailer + 8),
         mode: word(file, trailer + 12),
-        shift: 0.0,
         spare,
+        ..Job::default()
     }
 }

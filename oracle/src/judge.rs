@@ -1,6 +1,6 @@
 //! The judge: the reference's outcome, held to the model's refusal number.
 
-use crate::job::{Answer, INCOMPLETE_CHOLESKY, Job, Solved, same_bits};
+use crate::job::{Answer, BLOCK_JACOBI, INCOMPLETE_CHOLESKY, Job, Kind, Solved, same_bits};
 use crate::model;
 use reference::collision::CollisionError;
 use reference::{Outcome, Prepared};
@@ -50,7 +50,7 @@ pub fn judge(job: &Job) -> Judged {
     let refusal = delivered.answer.refusal();
     // The Rust has no shift, and two tolerances: with another shift than 0, or rules of one
     // dimension that do not agree, the definition is the measure.
-    let comparable = job.mode <= INCOMPLETE_CHOLESKY
+    let comparable = job.mode <= last_mode(job.kind)
         && job.shift == 0.0
         && (refusal == 0 || rust_outcome(refusal).is_some());
     let agreed = if comparable { model::agreed(job) } else { None };
@@ -60,12 +60,34 @@ pub fn judge(job: &Job) -> Judged {
     Judged { solved, compared: agreed.is_some() && !by_centre, dispute }
 }
 
+/// The Rust has blocks on its velocity side alone.
+fn last_mode(kind: Kind) -> u32 {
+    match kind {
+        Kind::Position => INCOMPLETE_CHOLESKY,
+        Kind::Velocity => BLOCK_JACOBI,
+    }
+}
+
 /// Runs the reference, at these tolerances, on a job whose counts and words are sound.
 pub fn run_reference(job: &Job, tolerances: [f64; 2]) -> (Outcome, Prepared) {
     let mut prepared = Prepared::new(&job.numbers, &job.words, &job.masses, &job.centres);
-    let cholesky = job.mode == INCOMPLETE_CHOLESKY;
-    let outcome = prepared.solve(job.limit as usize, tolerances, cholesky);
+    let limit = job.limit as usize;
+    let outcome = match job.kind {
+        Kind::Position => prepared.solve(limit, tolerances, job.mode == INCOMPLETE_CHOLESKY),
+        Kind::Velocity => {
+            prepared.lend(&job.residuals);
+            prepared.solve_velocity(limit, tolerances, job.mode)
+        }
+    };
     (outcome, prepared)
+}
+
+/// What gained the solution, as the Rust left it.
+pub fn gained(job: &Job, prepared: &Prepared) -> Vec<f64> {
+    match job.kind {
+        Kind::Position => prepared.multipliers(),
+        Kind::Velocity => prepared.accumulated_impulses(),
+    }
 }
 
 fn dispute(job: &Job, tolerances: [f64; 2], solved: &Solved) -> Option<String> {
@@ -73,7 +95,7 @@ fn dispute(job: &Job, tolerances: [f64; 2], solved: &Solved) -> Option<String> {
     let same = match (outcome, solved.answer) {
         (Outcome::Accepted { count, converged, linear, angular }, Answer::Accepted { .. }) => {
             let found = Answer::Accepted { flag: converged, count: count as u32, linear, angular };
-            found.words() == solved.answer.words() && same_delivery(&prepared, solved, count)
+            found.words() == solved.answer.words() && same_delivery(job, &prepared, solved, count)
         }
         (Outcome::Accepted { .. }, _) => false,
         (Outcome::NotAvailable, answer) => told(answer, RustOutcome::NotAvailable),
@@ -87,7 +109,7 @@ fn dispute(job: &Job, tolerances: [f64; 2], solved: &Solved) -> Option<String> {
     };
     // At 17 the Rust may already have written; at every other refusal it has not.
     let kept = matches!(solved.answer.refusal(), 0 | 17)
-        || same_bits(&prepared.multipliers(), &job.multipliers());
+        || same_bits(&gained(job, &prepared), &job.accumulated());
     (!same || !kept).then(|| format!("reference {outcome:?}, model {:?}", solved.answer))
 }
 
@@ -95,9 +117,11 @@ fn told(answer: Answer, by: RustOutcome) -> bool {
     rust_outcome(answer.refusal()) == Some(by)
 }
 
-/// Multipliers, centres, solution and impulses; at count 0 the Rust makes neither of the last two.
-fn same_delivery(prepared: &Prepared, solved: &Solved, count: usize) -> bool {
-    if !same_bits(&prepared.multipliers(), &solved.multipliers) || !same_centres(prepared, solved) {
+/// What gained the solution, centres, solution and impulses; at count 0 the Rust makes neither of the
+/// last two.
+fn same_delivery(job: &Job, prepared: &Prepared, solved: &Solved, count: usize) -> bool {
+    let placed = job.kind == Kind::Velocity || same_centres(prepared, solved);
+    if !placed || !same_bits(&gained(job, prepared), &solved.accumulated) {
         return false;
     }
     let applied = prepared.applied();

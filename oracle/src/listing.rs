@@ -45,7 +45,7 @@ pub fn verdict(checked: &Judged<Checked>) -> u32 {
 
 /// A body's new centre is told of a file that has centres.
 fn delivered(text: &mut String, solved: &Solved, centres: bool) {
-    for (row, multiplier) in solved.multipliers.iter().enumerate() {
+    for (row, multiplier) in solved.accumulated.iter().enumerate() {
         writeln!(text, "row {row}{}", hexadecimal(&[*multiplier])).unwrap();
     }
     let bodies = solved.impulses.chunks_exact(6).zip(solved.centres.chunks_exact(3));

@@ -23,8 +23,10 @@ mod random;
 mod recorded;
 mod tally;
 mod unpacking;
+mod velocities;
 mod written;
 
+use generator::Sizes;
 use std::ffi::OsString;
 use std::io::Write;
 use std::path::PathBuf;
@@ -35,6 +37,10 @@ const USAGE: &str = "usage: oracle/run COMMAND
   shifts LIBRARY [JOBS] [SEED]    the same with a shift for each job
   rules LIBRARY [JOBS] [SEED]     the same with a table of rules for each job
   centres LIBRARY [JOBS] [SEED]   the same with centres for each job's bodies
+  velocities tally [JOBS] [SEED]  outcomes of generated velocity jobs, reference against model
+  velocities drive LIBRARY [JOBS] [SEED]
+                                  velocity solves and their checks, with rules and shifts among them
+  velocities sheets               V1 to V5 on reference and model
   record                          makes the recorded solves in crates/solve_recorded
   replay                          judges the recorded solves anew
   cover                           counts what the recorded solves meet
@@ -74,7 +80,9 @@ fn command(words: &[&str]) -> Result<bool, String> {
         Some(word) => word.parse().map_err(|_| format!("'{word}' is not a number")),
     };
     match words {
-        ["tally", ..] => Ok(tally::run(number(1, 100_000)?, number(2, 1)?)),
+        ["tally", ..] => Ok(tally::run(number(1, 100_000)?, number(2, 1)?, |seed, index| {
+            generator::job(seed, index, Sizes::Any)
+        })),
         ["drive", library, ..] => driver::run(library, number(2, 100_000)?, number(3, 1)?, &home()),
         ["shifts", library, ..] => {
             driver::shifts(library, number(2, 100_000)?, number(3, 1)?, &home())
@@ -85,13 +93,18 @@ fn command(words: &[&str]) -> Result<bool, String> {
         ["centres", library, ..] => {
             driver::centres(library, number(2, 100_000)?, number(3, 1)?, &home())
         }
+        ["velocities", "sheets"] => Ok(velocities::sheets()),
+        ["velocities", "drive", library, ..] => {
+            driver::velocities(library, number(3, 100_000)?, number(4, 1)?, &home())
+        }
+        ["velocities", "tally", ..] => Ok(velocities::tally(number(2, 100_000)?, number(3, 1)?)),
         ["record"] => recorded::make(&home()),
         ["replay"] => recorded::replay(&home()),
         ["cover"] => recorded::cover(&home()),
         ["blocks", ..] => Ok(blocks::run(number(1, 100_000)?, number(2, 1)?)),
         ["differences"] => Ok(differences::run()),
-        ["bench"] => bench::table(None),
-        ["bench", library] => bench::table(Some(library)),
+        ["bench"] => bench::tables(None),
+        ["bench", library] => bench::tables(Some(library)),
         ["bench-closing", library] => bench::closing(library),
         ["bench-program", program] => bench::program::table(program),
         ["job", file] => {

@@ -15,12 +15,12 @@ mod table;
 pub use algebra::{Side, Vector, cross, scaled};
 pub use closing::{Checked, check_words, closing_check};
 pub use rules::agreed;
-pub use steps::Begun;
-pub use table::{Row, Table, tolerances_fit};
+pub use steps::{Begun, begin};
+pub use table::{Row, Table, opened, tolerances_fit};
 
-use crate::job::{Answer, Job, Solved};
+use crate::job::{Answer, Job, Kind, Solved};
 use preconditioner::Preconditioner;
-use steps::{begin, run};
+use steps::run;
 use table::opening;
 
 /// A value, or the number of the refusal that turns the job back.
@@ -59,35 +59,41 @@ pub fn solve_file(job: &Job) -> Solved {
 fn attempt(job: &Job) -> Judged<Solved> {
     let table = opening(job)?;
     let Begun { residual, diagonal } = begin(&table)?;
-    if table.meets(&residual) {
+    let met = table.meets(&residual);
+    if met && job.kind == Kind::Position {
         return Ok(at_step_zero(job, &table, &residual));
     }
     let preconditioner = Preconditioner::build(job.mode, job.shift, &table, &diagonal)?;
+    // Document 02, a: factors are built before the first convergence test.
+    if met {
+        return Ok(at_step_zero(job, &table, &residual));
+    }
     let ended = run(&table, &preconditioner, residual, job.limit)?;
     let impulses = operator::impulses(&table, &ended.solution).concat();
     pass(17, all_finite(&impulses))?;
-    let gained = job.multipliers().into_iter().zip(&ended.solution).map(|(old, gain)| old + gain);
-    let multipliers: Vec<f64> = gained.collect();
-    pass(17, all_finite(&multipliers))?;
+    let gained = job.accumulated().into_iter().zip(&ended.solution).map(|(old, gain)| old + gain);
+    let accumulated: Vec<f64> = gained.collect();
+    pass(17, all_finite(&accumulated))?;
     let answer = answer(&table, &ended.residual, ended.count, ended.flag);
     let centres = centres::moved(job, &table.masses, &impulses);
     let solution = ended.solution;
-    Ok(Solved { answer, solution, multipliers, impulses, centres, rules: table.rules })
+    Ok(Solved { answer, solution, accumulated, impulses, centres, rules: table.rules })
 }
 
 /// The table and step 0 of a job that comes to its factor.
 pub fn at_factor(job: &Job) -> Option<(Table, Begun)> {
     let table = opening(job).ok()?;
     let begun = begin(&table).ok()?;
-    (!table.meets(&begun.residual)).then_some((table, begun))
+    let comes = job.kind == Kind::Velocity || !table.meets(&begun.residual);
+    comes.then_some((table, begun))
 }
 
-/// Count 0: multipliers and centres keep their bits, solution and impulses are +0.0.
-fn at_step_zero(job: &Job, table: &Table, residual: &[f64]) -> Solved {
+/// Count 0: what gains the solution and the centres keep their bits, solution and impulses are +0.0.
+pub fn at_step_zero(job: &Job, table: &Table, residual: &[f64]) -> Solved {
     Solved {
         answer: answer(table, residual, 0, true),
         solution: vec![0.0; table.rows.len()],
-        multipliers: job.multipliers(),
+        accumulated: job.accumulated(),
         impulses: vec![0.0; 6 * table.masses.len()],
         centres: job.centres.clone(),
         rules: table.rules.clone(),

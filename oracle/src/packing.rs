@@ -5,6 +5,7 @@ use crate::job::*;
 pub const MAGIC: &[u8; 8] = b"KAPITSA1";
 pub const ROW_RECORD: usize = ROW_NUMBERS + ROW_WORDS;
 pub const DELIVERY_RECORD: usize = 2;
+pub const RESIDUAL_RECORD: usize = 1;
 
 /// A job with what it came to: its answer, and the closing check's word on its solution.
 pub struct Entry {
@@ -21,15 +22,17 @@ pub fn pack_list(entries: &[Vec<u8>]) -> Vec<u8> {
     bytes
 }
 
+/// A position job has no residuals, a velocity job no centres: each has its own in that place.
 pub fn pack(entry: &Entry) -> Vec<u8> {
     let Entry { job, solved, closing } = entry;
     let mut bytes = header(job, &solved.answer, *closing);
     pack_records(&mut bytes, &row_words(job), ROW_RECORD);
     pack_records(&mut bytes, &bits(&job.masses), MASS_NUMBERS);
     pack_records(&mut bytes, &bits(&job.centres), CENTRE_NUMBERS);
+    pack_records(&mut bytes, &bits(&job.residuals), RESIDUAL_RECORD);
     if let Answer::Accepted { .. } = solved.answer {
-        let delivered = solved.solution.iter().zip(&solved.multipliers);
-        let delivered: Vec<u64> = delivered.flat_map(|(s, m)| [s.to_bits(), m.to_bits()]).collect();
+        let delivered = solved.solution.iter().zip(&solved.accumulated);
+        let delivered: Vec<u64> = delivered.flat_map(|(s, a)| [s.to_bits(), a.to_bits()]).collect();
         pack_records(&mut bytes, &delivered, DELIVERY_RECORD);
         pack_records(&mut bytes, &bits(&solved.impulses), IMPULSE_NUMBERS);
         pack_records(&mut bytes, &bits(&solved.centres), CENTRE_NUMBERS);

@@ -11,6 +11,57 @@ static uint32_t work_words[4 * KAPITSA_MAX_ROWS + 3 * KAPITSA_MAX_PAIRS + 1];
 
 static const uint64_t untouched = 0x5eed5eed5eed5eed;
 
+struct solved {
+    uint32_t counts[2];
+    double maxima[2];
+};
+
+static struct solved unsolved(void)
+{
+    struct solved to = {{(uint32_t)untouched, (uint32_t)untouched}, {0.0, 0.0}};
+    uint64_t bits[2] = {untouched, untouched};
+    memcpy(to.maxima, bits, sizeof bits);
+    return to;
+}
+
+static void tell_solved(uint32_t refusal, struct solved to, uint64_t *answer, size_t answer_len)
+{
+    uint64_t bits[2];
+    memcpy(bits, to.maxima, sizeof bits);
+    if (answer_len != 5)
+        return;
+    answer[0] = refusal;
+    for (int i = 0; i < 2; i++) {
+        answer[1 + i] = refusal && to.counts[i] == (uint32_t)untouched ? 0 : to.counts[i];
+        answer[3 + i] = refusal && bits[i] == untouched ? 0 : bits[i];
+    }
+}
+
+struct checked {
+    uint32_t verdict;
+    double gap[2];
+};
+
+static struct checked unchecked(void)
+{
+    struct checked to = {(uint32_t)untouched, {0.0, 0.0}};
+    uint64_t bits[2] = {untouched, untouched};
+    memcpy(to.gap, bits, sizeof bits);
+    return to;
+}
+
+static void tell_checked(uint32_t refusal, struct checked to, uint64_t *answer, size_t answer_len)
+{
+    uint64_t bits[2];
+    memcpy(bits, to.gap, sizeof bits);
+    if (answer_len != 4)
+        return;
+    answer[0] = refusal;
+    answer[1] = refusal && to.verdict == (uint32_t)untouched ? 0 : to.verdict;
+    for (int i = 0; i < 2; i++)
+        answer[2 + i] = refusal && bits[i] == untouched ? 0 : bits[i];
+}
+
 void oracle_solve_position(
     double *numbers, size_t numbers_len, const uint32_t *words, size_t words_len,
     const double *masses, size_t masses_len, const double *centres, size_t centres_len,
@@ -21,25 +72,35 @@ void oracle_solve_position(
     double *new_centres, size_t new_centres_len,
     uint32_t *rule_numbers, size_t rule_numbers_len, uint64_t *answer, size_t answer_len)
 {
-    uint32_t counts[2] = {(uint32_t)untouched, (uint32_t)untouched};
-    uint64_t bits[2] = {untouched, untouched};
-    double maxima[2];
-    memcpy(maxima, bits, sizeof maxima);
+    struct solved to = unsolved();
     uint32_t refusal = kapitsa_solve_in(
         numbers, numbers_len, words, words_len, masses, masses_len, centres, centres_len, rule_words,
         rule_words_len, rule_tolerances, rule_tolerances_len, rows, bodies, limit, mode, shift,
         solution, solution_len, impulses, impulses_len, new_centres, new_centres_len, rule_numbers,
-        rule_numbers_len, counts, maxima,
+        rule_numbers_len, to.counts, to.maxima,
         work_doubles, kapitsa_solve_doubles(rows, bodies, mode),
         work_words, kapitsa_solve_words(rows, bodies, mode));
-    memcpy(bits, maxima, sizeof bits);
-    if (answer_len != 5)
-        return;
-    answer[0] = refusal;
-    for (int i = 0; i < 2; i++) {
-        answer[1 + i] = refusal && counts[i] == (uint32_t)untouched ? 0 : counts[i];
-        answer[3 + i] = refusal && bits[i] == untouched ? 0 : bits[i];
-    }
+    tell_solved(refusal, to, answer, answer_len);
+}
+
+void oracle_solve_velocity(
+    double *numbers, size_t numbers_len, const uint32_t *words, size_t words_len,
+    const double *masses, size_t masses_len, const double *residuals, size_t residuals_len,
+    const uint32_t *rule_words, size_t rule_words_len,
+    const double *rule_tolerances, size_t rule_tolerances_len,
+    uint32_t rows, uint32_t bodies, uint32_t limit, uint32_t mode, double shift,
+    double *solution, size_t solution_len, double *impulses, size_t impulses_len,
+    uint32_t *rule_numbers, size_t rule_numbers_len, uint64_t *answer, size_t answer_len)
+{
+    struct solved to = unsolved();
+    uint32_t refusal = kapitsa_solve_velocity_in(
+        numbers, numbers_len, words, words_len, masses, masses_len, residuals, residuals_len,
+        rule_words, rule_words_len, rule_tolerances, rule_tolerances_len, rows, bodies, limit, mode,
+        shift, solution, solution_len, impulses, impulses_len, rule_numbers, rule_numbers_len,
+        to.counts, to.maxima,
+        work_doubles, kapitsa_solve_doubles(rows, bodies, mode),
+        work_words, kapitsa_solve_words(rows, bodies, mode));
+    tell_solved(refusal, to, answer, answer_len);
 }
 
 void oracle_closing_check(
@@ -50,23 +111,32 @@ void oracle_closing_check(
     uint32_t rows, uint32_t bodies, const double *multipliers, size_t multipliers_len,
     uint32_t *rule_numbers, size_t rule_numbers_len, uint64_t *answer, size_t answer_len)
 {
-    uint32_t verdict = (uint32_t)untouched;
-    uint64_t bits[2] = {untouched, untouched};
-    double gap[2];
-    memcpy(gap, bits, sizeof gap);
+    struct checked to = unchecked();
     uint32_t refusal = kapitsa_check_in(
-        numbers, numbers_len, words, words_len, masses, masses_len, centres, centres_len, rule_words,
-        rule_words_len, rule_tolerances, rule_tolerances_len, rows, bodies, multipliers,
-        multipliers_len, rule_numbers, rule_numbers_len, &verdict, gap,
+        numbers, numbers_len, words, words_len, masses, masses_len, centres, centres_len,
+        rule_words, rule_words_len, rule_tolerances, rule_tolerances_len, rows, bodies, multipliers,
+        multipliers_len, rule_numbers, rule_numbers_len, &to.verdict, to.gap,
         work_doubles, kapitsa_check_doubles(rows, bodies),
         work_words, kapitsa_check_words(rows, bodies));
-    memcpy(bits, gap, sizeof bits);
-    if (answer_len != 4)
-        return;
-    answer[0] = refusal;
-    answer[1] = refusal && verdict == (uint32_t)untouched ? 0 : verdict;
-    for (int i = 0; i < 2; i++)
-        answer[2 + i] = refusal && bits[i] == untouched ? 0 : bits[i];
+    tell_checked(refusal, to, answer, answer_len);
+}
+
+void oracle_velocity_closing_check(
+    const double *numbers, size_t numbers_len, const uint32_t *words, size_t words_len,
+    const double *masses, size_t masses_len, const double *residuals, size_t residuals_len,
+    const uint32_t *rule_words, size_t rule_words_len,
+    const double *rule_tolerances, size_t rule_tolerances_len,
+    uint32_t rows, uint32_t bodies, const double *multipliers, size_t multipliers_len,
+    uint32_t *rule_numbers, size_t rule_numbers_len, uint64_t *answer, size_t answer_len)
+{
+    struct checked to = unchecked();
+    uint32_t refusal = kapitsa_check_velocity_in(
+        numbers, numbers_len, words, words_len, masses, masses_len, residuals, residuals_len,
+        rule_words, rule_words_len, rule_tolerances, rule_tolerances_len, rows, bodies, multipliers,
+        multipliers_len, rule_numbers, rule_numbers_len, &to.verdict, to.gap,
+        work_doubles, kapitsa_check_doubles(rows, bodies),
+        work_words, kapitsa_check_words(rows, bodies));
+    tell_checked(refusal, to, answer, answer_len);
 }
 
 /* The first byte is 0, and each is like the one before it. */

@@ -1,7 +1,6 @@
 //! Which outcomes the jobs of a seed come to, by mode.
 
-use crate::generator::{Sizes, job};
-use crate::job::Answer;
+use crate::job::{Answer, Job};
 use crate::judge::judge;
 use std::collections::BTreeMap;
 
@@ -64,11 +63,11 @@ impl Tally {
     }
 }
 
-/// Runs the judge over `jobs` jobs and prints what they came to.
-pub fn run(jobs: u64, seed: u64) -> bool {
+/// Runs the judge over `jobs` jobs, as `draw` has them, and prints what they came to.
+pub fn run(jobs: u64, seed: u64, draw: fn(u64, u64) -> Job) -> bool {
     let mut tally = Tally::default();
     for index in 0..jobs {
-        let job = job(seed, index, Sizes::Any);
+        let job = draw(seed, index);
         let judged = judge(&job);
         tally.add(job.mode, &judged.solved.answer);
         tally.jobs += 1;

@@ -1,7 +1,7 @@
 //! Reads the recorded solves with a byte cursor, as a program without Rust would.
 
 use crate::job::*;
-use crate::packing::{DELIVERY_RECORD, Entry, MAGIC, ROW_RECORD};
+use crate::packing::{DELIVERY_RECORD, Entry, MAGIC, RESIDUAL_RECORD, ROW_RECORD};
 
 struct Cursor<'a> {
     bytes: &'a [u8],
@@ -53,24 +53,31 @@ impl Cursor<'_> {
     }
 }
 
-/// Two lists, one straight after the other, to the end of the bytes.
-pub fn unpack_both(bytes: &[u8]) -> Result<[Vec<Entry>; 2], String> {
+/// Two lists of positions and two of velocities, one straight after the other, to the end of the
+/// bytes.
+pub fn unpack_all(bytes: &[u8]) -> Result<[Vec<Entry>; 4], String> {
     let mut cursor = Cursor { bytes, at: 0 };
-    let both = [list(&mut cursor)?, list(&mut cursor)?];
-    if cursor.at == bytes.len() { Ok(both) } else { Err("bytes follow the lists".to_string()) }
+    let mut next = |kind: Kind| list(&mut cursor, kind);
+    let all = [
+        next(Kind::Position)?,
+        next(Kind::Position)?,
+        next(Kind::Velocity)?,
+        next(Kind::Velocity)?,
+    ];
+    if cursor.at == bytes.len() { Ok(all) } else { Err("bytes follow the lists".to_string()) }
 }
 
-fn list(cursor: &mut Cursor) -> Result<Vec<Entry>, String> {
+fn list(cursor: &mut Cursor, kind: Kind) -> Result<Vec<Entry>, String> {
     if cursor.little(8)? != u64::from_le_bytes(*MAGIC) {
         return Err("this is not a recorded list".to_string());
     }
     let count = cursor.word()?;
     cursor.word()?;
-    (0..count).map(|_| entry(cursor)).collect()
+    (0..count).map(|_| entry(cursor, kind)).collect()
 }
 
-fn entry(cursor: &mut Cursor) -> Result<Entry, String> {
-    let mut job = Job { rows: cursor.word()?, bodies: cursor.word()?, ..Job::default() };
+fn entry(cursor: &mut Cursor, kind: Kind) -> Result<Entry, String> {
+    let mut job = Job { kind, rows: cursor.word()?, bodies: cursor.word()?, ..Job::default() };
     (job.limit, job.mode) = (cursor.word()?, cursor.word()?);
     let (refusal, count, flag) = (cursor.word()?, cursor.word()?, cursor.word()? == 1);
     let closing = cursor.word()?;
@@ -82,16 +89,21 @@ fn entry(cursor: &mut Cursor) -> Result<Entry, String> {
         job.words.extend(row[ROW_NUMBERS..].iter().map(|word| *word as u32));
     }
     job.masses = cursor.doubles(bodies, MASS_NUMBERS)?;
-    job.centres = cursor.doubles(bodies, CENTRE_NUMBERS)?;
+    match kind {
+        Kind::Position => job.centres = cursor.doubles(bodies, CENTRE_NUMBERS)?,
+        Kind::Velocity => job.residuals = cursor.doubles(rows, RESIDUAL_RECORD)?,
+    }
     let mut solved = Solved::refused(refusal);
     if refusal == 0 {
         solved.answer = Answer::Accepted { flag, count, linear, angular };
         for pair in cursor.doubles(rows, DELIVERY_RECORD)?.chunks_exact(DELIVERY_RECORD) {
             solved.solution.push(pair[0]);
-            solved.multipliers.push(pair[1]);
+            solved.accumulated.push(pair[1]);
         }
         solved.impulses = cursor.doubles(bodies, IMPULSE_NUMBERS)?;
-        solved.centres = cursor.doubles(bodies, CENTRE_NUMBERS)?;
+        if kind == Kind::Position {
+            solved.centres = cursor.doubles(bodies, CENTRE_NUMBERS)?;
+        }
         // Of the two rules that the tolerances stand for, a row is under that of its dimension.
         solved.rules = (0..rows).map(|row| job.word(row, DIMENSION)).collect();
     }

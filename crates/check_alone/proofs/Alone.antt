@@ -10,6 +10,7 @@ use lib.Ieee.{Float}
 use borrow.Author.Tests.{not-true, eq-eqb}
 use Rattle.loops.specs.Run.{on, check}
 use Rattle.loops.specs.Judge.{judge, test}
+use Rattle.kapitsa_joint.specs.declared.kind.Kind.{Kind}
 use Rattle.rules.specs.Rules.{Rules}
 use Rattle.check_range.specs.Closing.{Closing}
 use Rattle.check_refusals.specs.Refusals.{givenFits, workFits, passes3}
@@ -25,9 +26,9 @@ use Rattle.closing_check.specs.Checked.{Checked}
 use Rattle.check_alone.specs.Checked.{AloneHeld}
 
 -- refusal 3 of what is lent and of the memory is refusal 3 of what is lent
-fits-too : (n b : ℕ) (l : TableLengths) (w : WorkLengths) → givenFits n b l ≡ true → WorkRoom n b w → passes3 n b l w ≡ givenFits n b l
+fits-too : (kind : Kind) (n b : ℕ) (l : TableLengths) (w : WorkLengths) → givenFits kind n b l ≡ true → WorkRoom n b w → passes3 kind n b l w ≡ givenFits kind n b l
 unfolding passes3 workFits
-fits-too n b l w g room = rw (g, eq-eqb _ _ (room .jacobians), eq-eqb _ _ (room .links), eq-eqb _ _ (room .massSizes), eq-eqb _ _ (room .multiplierSizes), eq-eqb _ _ (room .impulses), eq-eqb _ _ (room .values), eq-eqb _ _ (room .sizes))
+fits-too kind n b l w g room = rw (g, eq-eqb _ _ (room .jacobians), eq-eqb _ _ (room .links), eq-eqb _ _ (room .massSizes), eq-eqb _ _ (room .multiplierSizes), eq-eqb _ _ (room .impulses), eq-eqb _ _ (room .values), eq-eqb _ _ (room .sizes))
 
 -- what a table of n rows and b bodies takes of arrays for rows and bodies that are no fewer
 pub taken : {n b : ℕ} (rows bodies : ℕ) (jacobians : List Float) (links : List ℕ) (massSizes multiplierSizes impulses values sizes : List Float) → n ≤ rows → b ≤ bodies
@@ -43,9 +44,9 @@ taken {n} {b} rows bodies _ _ _ _ _ _ _ r s j k m x i v z = record {
   sizes = length-take-le _ _ (omega (arith, r, z));
 }
 
-pub alone : {n b : ℕ} (l : TableLengths) {before after : CheckMemory} {s : Rules} {c : Closing} {answer : CheckAnswer} {numbers numbersAfter : List ℕ} → givenFits n b l ≡ true → WorkRoom n b (workLengths before)
-    → Checked (passes3 n b l (workLengths before)) s c answer numbers numbersAfter before after → AloneHeld (givenFits n b l) s c answer numbers numbersAfter
-alone {n} {b} l {before} g room h = let e = fits-too n b l (workLengths before) g room in record { answered = rw e at (h .answered); means = rw e at (h .means); named = h .named; ruled = h .ruled }
+pub alone : (kind : Kind) {n b : ℕ} (l : TableLengths) {before after : CheckMemory} {s : Rules} {c : Closing} {answer : CheckAnswer} {numbers numbersAfter : List ℕ} → givenFits kind n b l ≡ true → WorkRoom n b (workLengths before)
+    → Checked (passes3 kind n b l (workLengths before)) s c answer numbers numbersAfter before after → AloneHeld (givenFits kind n b l) s c answer numbers numbersAfter
+alone kind {n} {b} l {before} g room h = let e = fits-too kind n b l (workLengths before) g room in record { answered = rw e at (h .answered); means = rw e at (h .means); named = h .named; ruled = h .ruled }
 
 pub alone-3 : {fits r : Bool} (s : Rules) (c : Closing) (numbers : List ℕ) → r ≡ fits → not r ≡ true → AloneHeld fits s c (Refused 3) numbers numbers
 unfolding checkOf judge test check on

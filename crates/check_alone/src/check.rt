@@ -1,71 +1,18 @@
-// The check: refusal 3 of what is lent, then the work memory.
-ghost use mathlib.Core.Path.{_≡_};
-ghost use mathlib.Core.Bool.{true};
+// The check of positions and that of velocities.
 ghost use Rattle.kapitsa_joint.specs.Table.{tableOf};
+ghost use Rattle.kapitsa_joint.specs.declared.kind.Kind.the-variants.{Position, Velocity};
 ghost use Rattle.kapitsa_joint.specs.Centre.{centresIn};
 ghost use Rattle.joint_refusals.specs.Refusals.{centresFinite};
 ghost use Rattle.mass_operator.specs.Flat.{coefficients};
-ghost use Rattle.check_range.specs.Closing.{closingOf};
-ghost use Rattle.check_refusals.specs.Refusals.{givenFits, tableLengths};
 ghost use Rattle.rules.specs.Rows.{rulesIn};
+ghost use Rattle.check_range.specs.Closing.{closingOf, speedsOf};
+ghost use Rattle.check_refusals.specs.Refusals.{givenFits, tableLengths};
 ghost use Rattle.check_alone.specs.Checked.{AloneHeld};
+use crate::memory::checked_in;
 use check_answer::CheckAnswer;
-use check_refusals::TableLengths;
-use check_refusals::given_fits;
-use closing_check::closing_check;
+use kapitsa_joint::Kind;
 
-// With memory for the largest table: 512 rows and 256 bodies.
-fn with_memory(
-    n: u32,
-    b: u32,
-    numbers: &[f64],
-    words: &[u32],
-    masses: &[f64],
-    centres: &[f64],
-    multipliers: &[f64],
-    rule_words: &[u32],
-    rule_tolerances: &[f64],
-    rule_numbers: &mut [u32],
-) -> CheckAnswer
-    requires { ⌜ givenFits n b (tableLengths (now numbers) (now words) (now masses) (now centres) (now multipliers) (now «rule_words») (now «rule_tolerances») (now «rule_numbers»)) ≡ true ⌝ }
-    ensures { λ r. ⌜ AloneHeld (givenFits n b (tableLengths (now (numbers .entry)) (now (words .entry)) (now (masses .entry)) (now (centres .entry)) (now (multipliers .entry)) (now («rule_words» .entry)) (now («rule_tolerances» .entry)) (now («rule_numbers» .entry)))) (rulesIn (now («rule_words» .entry)) (now («rule_tolerances» .entry)))
-        (closingOf (tableOf n b (now (numbers .entry)) (now (words .entry)) (now (masses .entry))) (coefficients (now (multipliers .entry))) (rulesIn (now («rule_words» .entry)) (now («rule_tolerances» .entry))) (centresFinite (centresIn b (now (centres .entry))))) r (now («rule_numbers» .entry)) (now («rule_numbers» .exit)) ⌝ }
-{
-    let mut jacobians: [f64; 6144] = [0.0; 6144];
-    let mut links: [u32; 1024] = [0; 1024];
-    let mut mass_sizes: [f64; 2560] = [0.0; 2560];
-    let mut multiplier_sizes: [f64; 512] = [0.0; 512];
-    let mut impulses: [f64; 1536] = [0.0; 1536];
-    let mut values: [f64; 512] = [0.0; 512];
-    let mut sizes: [f64; 512] = [0.0; 512];
-    let rows = n as usize;
-    let bodies = b as usize;
-    let row_numbers = 12 * rows;
-    let row_links = 2 * rows;
-    let mass_numbers = 10 * bodies;
-    let body_numbers = 6 * bodies;
-    closing_check(
-        n,
-        b,
-        numbers,
-        words,
-        masses,
-        centres,
-        multipliers,
-        rule_words,
-        rule_tolerances,
-        rule_numbers,
-        &mut jacobians[..row_numbers],
-        &mut links[..row_links],
-        &mut mass_sizes[..mass_numbers],
-        &mut multiplier_sizes[..rows],
-        &mut impulses[..body_numbers],
-        &mut values[..rows],
-        &mut sizes[..rows],
-    )
-}
-
-// Are the joints closed by these multipliers? A call refused by 3 uses no memory.
+// Are the joints closed by these multipliers?
 pub fn checked(
     n: u32,
     b: u32,
@@ -78,29 +25,48 @@ pub fn checked(
     rule_tolerances: &[f64],
     rule_numbers: &mut [u32],
 ) -> CheckAnswer
-    ensures { λ r. ⌜ AloneHeld (givenFits n b (tableLengths (now (numbers .entry)) (now (words .entry)) (now (masses .entry)) (now (centres .entry)) (now (multipliers .entry)) (now («rule_words» .entry)) (now («rule_tolerances» .entry)) (now («rule_numbers» .entry)))) (rulesIn (now («rule_words» .entry)) (now («rule_tolerances» .entry)))
+    ensures { λ r. ⌜ AloneHeld (givenFits Position n b (tableLengths (now (numbers .entry)) (now (words .entry)) (now (masses .entry)) (now (centres .entry)) (now (multipliers .entry)) (now («rule_words» .entry)) (now («rule_tolerances» .entry)) (now («rule_numbers» .entry)))) (rulesIn (now («rule_words» .entry)) (now («rule_tolerances» .entry)))
         (closingOf (tableOf n b (now (numbers .entry)) (now (words .entry)) (now (masses .entry))) (coefficients (now (multipliers .entry))) (rulesIn (now («rule_words» .entry)) (now («rule_tolerances» .entry))) (centresFinite (centresIn b (now (centres .entry))))) r (now («rule_numbers» .entry)) (now («rule_numbers» .exit)) ⌝ }
 {
-    let table = TableLengths {
-        numbers: numbers.len(),
-        words: words.len(),
-        masses: masses.len(),
-        centres: centres.len(),
-        multipliers: multipliers.len(),
-        rule_words: rule_words.len(),
-        rule_tolerances: rule_tolerances.len(),
-        rule_numbers: rule_numbers.len(),
-    };
-    if !given_fits(n, b, table) {
-        return CheckAnswer::Refused(3);
-    }
-    with_memory(
+    checked_in(
+        Kind::Position,
         n,
         b,
         numbers,
         words,
         masses,
         centres,
+        multipliers,
+        rule_words,
+        rule_tolerances,
+        rule_numbers,
+    )
+}
+
+// Are the speeds closed by these multipliers? Document 02, a: the residual, negated, stands in for the error.
+pub fn velocity_checked(
+    n: u32,
+    b: u32,
+    numbers: &[f64],
+    words: &[u32],
+    masses: &[f64],
+    given: &[f64],
+    multipliers: &[f64],
+    rule_words: &[u32],
+    rule_tolerances: &[f64],
+    rule_numbers: &mut [u32],
+) -> CheckAnswer
+    ensures { λ r. ⌜ AloneHeld (givenFits Velocity n b (tableLengths (now (numbers .entry)) (now (words .entry)) (now (masses .entry)) (now (given .entry)) (now (multipliers .entry)) (now («rule_words» .entry)) (now («rule_tolerances» .entry)) (now («rule_numbers» .entry)))) (rulesIn (now («rule_words» .entry)) (now («rule_tolerances» .entry)))
+        (speedsOf (tableOf n b (now (numbers .entry)) (now (words .entry)) (now (masses .entry))) (coefficients (now (multipliers .entry))) (rulesIn (now («rule_words» .entry)) (now («rule_tolerances» .entry))) (coefficients (now (given .entry)))) r (now («rule_numbers» .entry)) (now («rule_numbers» .exit)) ⌝ }
+{
+    checked_in(
+        Kind::Velocity,
+        n,
+        b,
+        numbers,
+        words,
+        masses,
+        given,
         multipliers,
         rule_words,
         rule_tolerances,

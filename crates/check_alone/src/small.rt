@@ -3,6 +3,7 @@ ghost use mathlib.Core.Path.{_≡_};
 ghost use mathlib.Core.Bool.{true};
 ghost use Prim.Native.Nat.{_≤_};
 ghost use Rattle.kapitsa_joint.specs.Table.{tableOf};
+ghost use Rattle.kapitsa_joint.specs.declared.kind.Kind.the-variants.{Position};
 ghost use Rattle.kapitsa_joint.specs.Centre.{centresIn};
 ghost use Rattle.joint_refusals.specs.Refusals.{centresFinite};
 ghost use Rattle.mass_operator.specs.Flat.{coefficients};
@@ -14,6 +15,7 @@ use check_answer::CheckAnswer;
 use check_refusals::TableLengths;
 use check_refusals::given_fits;
 use closing_check::closing_check;
+use kapitsa_joint::Kind;
 
 // With memory for 128 rows and 64 bodies.
 fn with_small_memory(
@@ -28,9 +30,9 @@ fn with_small_memory(
     rule_tolerances: &[f64],
     rule_numbers: &mut [u32],
 ) -> CheckAnswer
-    requires { ⌜ givenFits n b (tableLengths (now numbers) (now words) (now masses) (now centres) (now multipliers) (now «rule_words») (now «rule_tolerances») (now «rule_numbers»)) ≡ true ⌝ }
+    requires { ⌜ givenFits Position n b (tableLengths (now numbers) (now words) (now masses) (now centres) (now multipliers) (now «rule_words») (now «rule_tolerances») (now «rule_numbers»)) ≡ true ⌝ }
     requires { ⌜ (n ≤ 128) × (b ≤ 64) ⌝ }
-    ensures { λ r. ⌜ AloneHeld (givenFits n b (tableLengths (now (numbers .entry)) (now (words .entry)) (now (masses .entry)) (now (centres .entry)) (now (multipliers .entry)) (now («rule_words» .entry)) (now («rule_tolerances» .entry)) (now («rule_numbers» .entry)))) (rulesIn (now («rule_words» .entry)) (now («rule_tolerances» .entry)))
+    ensures { λ r. ⌜ AloneHeld (givenFits Position n b (tableLengths (now (numbers .entry)) (now (words .entry)) (now (masses .entry)) (now (centres .entry)) (now (multipliers .entry)) (now («rule_words» .entry)) (now («rule_tolerances» .entry)) (now («rule_numbers» .entry)))) (rulesIn (now («rule_words» .entry)) (now («rule_tolerances» .entry)))
         (closingOf (tableOf n b (now (numbers .entry)) (now (words .entry)) (now (masses .entry))) (coefficients (now (multipliers .entry))) (rulesIn (now («rule_words» .entry)) (now («rule_tolerances» .entry))) (centresFinite (centresIn b (now (centres .entry))))) r (now («rule_numbers» .entry)) (now («rule_numbers» .exit)) ⌝ }
 {
     let mut jacobians: [f64; 1536] = [0.0; 1536];
@@ -81,20 +83,20 @@ pub fn checked_small(
     rule_numbers: &mut [u32],
 ) -> CheckAnswer
     requires { ⌜ (n ≤ 128) × (b ≤ 64) ⌝ }
-    ensures { λ r. ⌜ AloneHeld (givenFits n b (tableLengths (now (numbers .entry)) (now (words .entry)) (now (masses .entry)) (now (centres .entry)) (now (multipliers .entry)) (now («rule_words» .entry)) (now («rule_tolerances» .entry)) (now («rule_numbers» .entry)))) (rulesIn (now («rule_words» .entry)) (now («rule_tolerances» .entry)))
+    ensures { λ r. ⌜ AloneHeld (givenFits Position n b (tableLengths (now (numbers .entry)) (now (words .entry)) (now (masses .entry)) (now (centres .entry)) (now (multipliers .entry)) (now («rule_words» .entry)) (now («rule_tolerances» .entry)) (now («rule_numbers» .entry)))) (rulesIn (now («rule_words» .entry)) (now («rule_tolerances» .entry)))
         (closingOf (tableOf n b (now (numbers .entry)) (now (words .entry)) (now (masses .entry))) (coefficients (now (multipliers .entry))) (rulesIn (now («rule_words» .entry)) (now («rule_tolerances» .entry))) (centresFinite (centresIn b (now (centres .entry))))) r (now («rule_numbers» .entry)) (now («rule_numbers» .exit)) ⌝ }
 {
     let table = TableLengths {
         numbers: numbers.len(),
         words: words.len(),
         masses: masses.len(),
-        centres: centres.len(),
+        beside: centres.len(),
         multipliers: multipliers.len(),
         rule_words: rule_words.len(),
         rule_tolerances: rule_tolerances.len(),
         rule_numbers: rule_numbers.len(),
     };
-    if !given_fits(n, b, table) {
+    if !given_fits(Kind::Position, n, b, table) {
         return CheckAnswer::Refused(3);
     }
     with_small_memory(

@@ -2,7 +2,7 @@
 use Prim.Native.Nat.{ℕ, _+_, _*_, _<_, _≤_}
 use mathlib.Core.Path.{_≡_, refl, sym, ap, _∙_}
 use mathlib.Core.Bool.{Bool, true, false, _&&_, true≢false}
-use mathlib.Core.List.{List, [], _∷_}
+use mathlib.Core.List.{List, [], _∷_, _++_}
 use mathlib.Core.Logic.{_↔_, inl, inr}
 use native.Mathlib.Omega.{arith}
 use lib.Dec.{T, eqb}
@@ -70,6 +70,7 @@ pub record Held (c : Closing) : Type 0 where
   pub list : (i : ℕ) → T (fits binary64 (c .listed i))
   pub tolerance : (i : ℕ) → T (fits binary64 (c .tolerance i))
   pub numbers : Ranges.Listed (λ n. 1 < n) (c .toleranceTests)  -- no number of a verdict
+  pub lent : Ranges.Listed (λ n. 1 < n) (c .lent)
   pub sure : AllPass (c .toleranceTests) → (i : ℕ) → i < c .table .rows → T (finite (c .tolerance i))  -- what passes is finite
 
 -- ---- tests taken apart
@@ -221,14 +222,15 @@ module _ (c : Closing) where
       go true = refl
       go false = refl
 
--- ---- no refusal has the number of a verdict, where none of the tolerances' has
-pub refusal-above : (fits : Bool) (c : Closing) → Ranges.Listed (λ n. 1 < n) (c .toleranceTests) → (n : ℕ) → FirstToFail (judgements fits c) n → 1 < n
+-- ---- no refusal has the number of a verdict, where none of the tolerances' and of what is lent has
+pub refusal-above : (fits : Bool) (c : Closing) → Ranges.Listed (λ n. 1 < n) (c .toleranceTests) → Ranges.Listed (λ n. 1 < n) (c .lent) → (n : ℕ) → FirstToFail (judgements fits c) n → 1 < n
 unfolding Ranges.Listed
-refusal-above fits c above n h =
+refusal-above fits c above lent n h =
     let t = c .table in
-    let rest : List (ℕ × Bool) = (6, passes6 t && c .placed) ∷ (7, passes7 t) ∷ (18, passes18 c) ∷ [] in
-    let last : Ranges.Listed (λ n. 1 < n) rest = (omega arith, (omega arith, (omega arith, tt))) in
-    among-judge (λ n. 1 < n) (judgements fits c) (omega arith, (omega arith, listed-after (λ n. 1 < n) (c .toleranceTests) rest above last)) n (judge-ended (judgements fits c) n .1 h)
+    let last : List (ℕ × Bool) = (7, passes7 t) ∷ (18, passes18 c) ∷ [] in
+    let rest : List (ℕ × Bool) = (6, passes6 t && c .placed) ∷ (c .lent ++ last) in
+    let listed : Ranges.Listed (λ n. 1 < n) rest = (omega arith, listed-after (λ n. 1 < n) (c .lent) last lent (omega arith, (omega arith, tt))) in
+    among-judge (λ n. 1 < n) (judgements fits c) (omega arith, (omega arith, listed-after (λ n. 1 < n) (c .toleranceTests) rest above listed)) n (judge-ended (judgements fits c) n .1 h)
 
 module _ (fits : Bool) (c : Closing) where
   abbrev Verdict : Type 0
@@ -282,7 +284,7 @@ module _ (fits : Bool) (c : Closing) where
     -- the number of a verdict is no refusal's
     verdict-by : (k : ℕ) → k < 2 → numberOf (checkOf fits c) ≡ k → Verdict
     verdict-by k small h n e =
-        let above = refusal-above fits c (held .numbers) n (refused-of n .0 e) in
+        let above = refusal-above fits c (held .numbers) (held .lent) n (refused-of n .0 e) in
         let same : numberOf (checkOf fits c) ≡ n = ap numberOf e in
         omega arith
 

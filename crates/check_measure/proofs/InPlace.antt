@@ -1,5 +1,5 @@
 -- A loop that replaces each number of a list, in place, by what g makes of it; `reaches-made` is where g makes a row's reach of its value. Assumes nothing.
-use Prim.Native.Nat.{ℕ, _+_, _*_, _<_, _≤_}
+use Prim.Native.Nat.{ℕ, _+_, _<_, _≤_}
 use mathlib.Core.Path.{_≡_, refl, ap, _∙_}
 use mathlib.Core.List.{List}
 use native.Mathlib.Nat.{ne-of-lt}
@@ -36,14 +36,14 @@ module _ {g : ℕ → Float → Float} where
       above k i q e = omega arith
 
 -- what makes a reach of a value
-unfoldable pub reaching : ℕ → List Float → List Float → ℕ → Float → Float
-reaching n numbers sizes i value = reachOf n (getD numbers (27 * i + 15) nan) value (getD sizes i nan)
+unfoldable pub reaching : ℕ → (ℕ → Float) → List Float → ℕ → Float → Float
+reaching n error sizes i value = reachOf n (error i) value (getD sizes i nan)
 
-pub reaches-more : (numbers sizes : List Float) {n i : ℕ} {values l l′ : List Float} {v : Float} → Replaced (reaching n numbers sizes) values i l → length values ≡ n → i < n → v ≡ reachOf n (getD numbers (27 * i + 15) nan) (getD l i nan) (getD sizes i nan) → l′ ≡ set l i v
-    → Replaced (reaching n numbers sizes) values (i + 1) l′
+pub reaches-more : (error : ℕ → Float) (sizes : List Float) {n i : ℕ} {values l l′ : List Float} {x v : Float} → Replaced (reaching n error sizes) values i l → length values ≡ n → i < n → x ≡ error i → v ≡ reachOf n x (getD l i nan) (getD sizes i nan)
+    → l′ ≡ set l i v → Replaced (reaching n error sizes) values (i + 1) l′
 unfolding reaching
-reaches-more numbers sizes h e b p q = replaced-more h (omega (arith, h .long)) p q
+reaches-more error sizes {n} {i} {l = l} h e b y p q = replaced-more h (omega (arith, h .long)) (p ∙ ap (λ (x : Float). reachOf n x (getD l i nan) (getD sizes i nan)) y) q
 
-pub reaches-made : (numbers sizes : List Float) {n i : ℕ} {values l : List Float} → Replaced (reaching n numbers sizes) values i l → length values ≡ n → n ≤ i → l ≡ tabulate (reachIn numbers values sizes n) n
+pub reaches-made : (error : ℕ → Float) (sizes : List Float) {n i : ℕ} {values l : List Float} → Replaced (reaching n error sizes) values i l → length values ≡ n → n ≤ i → l ≡ tabulate (reachIn error values sizes n) n
 unfolding reachIn reaching
-reaches-made numbers sizes {n} {i} {values} {l} h e b = tabulated nan (reachIn numbers values sizes n) n l (h .long ∙ e) (λ k p. h .done k (omega arith))
+reaches-made error sizes {n} {i} {values} {l} h e b = tabulated nan (reachIn error values sizes n) n l (h .long ∙ e) (λ k p. h .done k (omega arith))

@@ -8,9 +8,9 @@ use Rattle.rules.specs.Rules.{Rules}
 use Rattle.rules.specs.Rows.{toleranceIn}
 use Rattle.check_measure.specs.Verdict.{reachOf}
 
--- from the rows' numbers, their values and their values on sizes
-unfoldable pub reachIn : List Float → List Float → List Float → ℕ → ℕ → Float
-reachIn numbers values sizes n i = reachOf n (getD numbers (27 * i + 15) nan) (getD values i nan) (getD sizes i nan)
+-- from the rows' errors, their values and their values on sizes
+unfoldable pub reachIn : (ℕ → Float) → List Float → List Float → ℕ → ℕ → Float
+reachIn error values sizes n i = reachOf n (error i) (getD values i nan) (getD sizes i nan)
 
 -- a listed reach against its row's tolerance
 unfoldable pub withinIn : List ℕ → List Float → Rules → ℕ → Bool

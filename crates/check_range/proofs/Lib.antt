@@ -1,2 +1,3 @@
--- Refusal 18 judged on bits.
+-- Refusal 18 judged on bits, and the error of either kind.
 pub mod Bits
+pub mod Errors

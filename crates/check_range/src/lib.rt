@@ -2,4 +2,5 @@
 pub mod number; // number.rt: one number, vector, matrix, row or mass
 pub mod table; // table.rt: the lent tables and the listed multipliers
 
+pub use table::error_at;
 pub use table::table_in_range;

@@ -5,31 +5,32 @@ use mathlib.Core.Bool.{true, _&&_}
 use lib.Dec.{leb, eqb}
 use borrow.Author.Tests.{leb-true, eqb-true}
 use Rattle.loops.proofs.Both.{both}
+use Rattle.kapitsa_joint.specs.declared.kind.Kind.{Kind}
 use Rattle.rules.specs.Rules.{ruleLengthsFit}
-use Rattle.check_refusals.specs.Refusals.{tableFits, givenFits, workFits}
+use Rattle.check_refusals.specs.Refusals.{besideOf, tableFits, givenFits, workFits}
 use Rattle.check_refusals.specs.declared.fit.TableLengths.{TableLengths}
 use Rattle.check_refusals.specs.declared.fit.WorkLengths.{WorkLengths}
 
 -- ---- what is given
-pub record Given (n b : ℕ) (t : TableLengths) : Type 0 where
+pub record Given (kind : Kind) (n b : ℕ) (t : TableLengths) : Type 0 where
   pub rows : n ≤ 512
   pub bodies : b ≤ 256
   pub numbers : t .numbers ≡ 27 * n
   pub words : t .words ≡ 8 * n
   pub masses : t .masses ≡ 10 * b
-  pub centres : t .centres ≡ 3 * b
+  pub beside : t .beside ≡ besideOf kind n b
   pub multipliers : t .multipliers ≡ n
   pub ruleWords : t .«rule_words» ≡ 3 * t .«rule_tolerances»
   pub ruleTolerances : t .«rule_tolerances» ≤ 64
   pub ruleNumbers : t .«rule_numbers» ≡ n
 
-pub given-of : (n b : ℕ) (t : TableLengths) → givenFits n b t ≡ true → Given n b t
+pub given-of : (kind : Kind) (n b : ℕ) (t : TableLengths) → givenFits kind n b t ≡ true → Given kind n b t
 unfolding givenFits tableFits ruleLengthsFit
-given-of n b t h =
+given-of kind n b t h =
     let a1 = eqb (t .numbers) (27 * n) in
     let a2 = eqb (t .words) (8 * n) in
     let a3 = eqb (t .masses) (10 * b) in
-    let a4 = eqb (t .centres) (3 * b) in
+    let a4 = eqb (t .beside) (besideOf kind n b) in
     let a5 = eqb (t .multipliers) n in
     let a6 = leb (t .«rule_tolerances») 64 in
     let a7 = eqb (t .«rule_words») (3 * t .«rule_tolerances») in
@@ -49,7 +50,7 @@ given-of n b t h =
       numbers = eqb-true (t .numbers) (27 * n) h1;
       words = eqb-true (t .words) (8 * n) h2;
       masses = eqb-true (t .masses) (10 * b) h3;
-      centres = eqb-true (t .centres) (3 * b) h4;
+      beside = eqb-true (t .beside) (besideOf kind n b) h4;
       multipliers = eqb-true (t .multipliers) n h5;
       ruleWords = eqb-true (t .«rule_words») (3 * t .«rule_tolerances») h7;
       ruleTolerances = leb-true (t .«rule_tolerances») 64 h6;

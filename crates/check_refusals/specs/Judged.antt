@@ -11,7 +11,7 @@ use Rattle.check_refusals.specs.declared.judge.TableJudged.the-variants.
 
 -- once 3 has passed
 abbrev pub tableTests : Closing → List (ℕ × Bool)
-tableTests c = let t = c .table in (4, passes4 t) ∷ (c .toleranceTests ++ ((6, passes6 t && c .placed) ∷ (7, passes7 t) ∷ (18, passes18 c) ∷ []))
+tableTests c = let t = c .table in (4, passes4 t) ∷ (c .toleranceTests ++ ((6, passes6 t && c .placed) ∷ (c .lent ++ ((7, passes7 t) ∷ (18, passes18 c) ∷ []))))
 
 -- `fits` is refusal 3's
 abbrev pub judgements : Bool → Closing → List (ℕ × Bool)

@@ -7,31 +7,37 @@ use lib.ListN.{length}
 use lib.Ieee.{Float}
 use Rattle.joint_refusals.specs.Counts.{tableCountsFit, rowsFit}
 use Rattle.rules.specs.Rules.{ruleLengthsFit}
+use Rattle.kapitsa_joint.specs.Kind.{byKind}
+use Rattle.kapitsa_joint.specs.declared.kind.Kind.{Kind}
 use Rattle.check_refusals.specs.declared.fit.TableLengths.{TableLengths}
 use Rattle.check_refusals.specs.declared.fit.WorkLengths.{WorkLengths}
 
+-- what is lent beside the table: three doubles of a centre a body or, for velocities, a residual a row
+abbrev pub besideOf : Kind → ℕ → ℕ → ℕ
+besideOf kind n b = byKind kind (3 * b) n
+
 -- "a lent slice has not the length the counts call for"
-unfoldable pub tableFits : ℕ → ℕ → TableLengths → Bool
-tableFits n b l = (((rowsFit n b (l .numbers) (l .words) (l .masses) && eqb (l .centres) (3 * b)) && eqb (l .multipliers) n) && ruleLengthsFit (l .«rule_words») (l .«rule_tolerances»)) && eqb (l .«rule_numbers») n
+unfoldable pub tableFits : Kind → ℕ → ℕ → TableLengths → Bool
+tableFits kind n b l = (((rowsFit n b (l .numbers) (l .words) (l .masses) && eqb (l .beside) (besideOf kind n b)) && eqb (l .multipliers) n) && ruleLengthsFit (l .«rule_words») (l .«rule_tolerances»)) && eqb (l .«rule_numbers») n
 
 -- of what a caller gives
-unfoldable pub givenFits : ℕ → ℕ → TableLengths → Bool
-givenFits n b l = tableCountsFit n b && tableFits n b l
+unfoldable pub givenFits : Kind → ℕ → ℕ → TableLengths → Bool
+givenFits kind n b l = tableCountsFit n b && tableFits kind n b l
 
 unfoldable pub workFits : ℕ → ℕ → WorkLengths → Bool
 workFits n b l =
     (((((eqb (l .jacobians) (12 * n) && eqb (l .links) (2 * n)) && eqb (l .«mass_sizes») (10 * b)) && eqb (l .«multiplier_sizes») n) && eqb (l .impulses) (6 * b)) && eqb (l .values) n) && eqb (l .sizes) n
 
-unfoldable pub passes3 : ℕ → ℕ → TableLengths → WorkLengths → Bool
-passes3 n b t w = givenFits n b t && workFits n b w
+unfoldable pub passes3 : Kind → ℕ → ℕ → TableLengths → WorkLengths → Bool
+passes3 kind n b t w = givenFits kind n b t && workFits n b w
 
 -- the lengths of the lent lists
 abbrev pub tableLengths : List Float → List ℕ → List Float → List Float → List Float → List ℕ → List Float → List ℕ → TableLengths
-tableLengths numbers words masses centres multipliers ruleWords ruleTolerances ruleNumbers = record {
+tableLengths numbers words masses beside multipliers ruleWords ruleTolerances ruleNumbers = record {
   numbers = length numbers;
   words = length words;
   masses = length masses;
-  centres = length centres;
+  beside = length beside;
   multipliers = length multipliers;
   «rule_words» = length ruleWords;
   «rule_tolerances» = length ruleTolerances;

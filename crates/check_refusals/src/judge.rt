@@ -1,4 +1,4 @@
-// Refusals 4, 27, 28, 6, 7 and 18, in this order.
+// Refusals 4, 27, 28, 6, of velocities 20, 7 and 18, in this order.
 ghost use mathlib.Core.Path.{_≡_};
 ghost use Prim.Native.Nat.{_*_, _≤_};
 ghost use lib.ListN.{length};
@@ -6,12 +6,14 @@ ghost use Rattle.loops.specs.Judge.{judge};
 ghost use Rattle.kapitsa_joint.specs.Table.{tableOf};
 ghost use Rattle.mass_operator.specs.Flat.{coefficients};
 ghost use Rattle.rules.specs.Rows.{rulesIn};
-ghost use Rattle.check_range.specs.Closing.{closingOf};
+ghost use Rattle.check_range.specs.Closing.{closingFor, givenFinite, GivenFrom};
 ghost use Rattle.check_refusals.specs.Judged.{tableTests, judgedOut};
 use check_range::table_in_range;
 use joint_refusals::masses_finite;
+use joint_refusals::residuals_finite;
 use joint_refusals::rows_valid;
 use joint_refusals::words_fit;
+use kapitsa_joint::Kind;
 use rules::rows_ruled;
 use rules::rules_fit;
 
@@ -20,20 +22,33 @@ pub enum TableJudged {
     Refused(u32),
 }
 
-// `placed` tells whether the centres are finite.
+// 20, of velocities alone.
+fn given_finite(kind: Kind, given: &[f64], rows: usize) -> bool
+    requires { ⌜ GivenFrom kind (length (now given)) rows ⌝ }
+    ensures { λ r. ⌜ r ≡ givenFinite kind (coefficients (now (given .entry))) rows ⌝ }
+{
+    match kind {
+        Kind::Position => true,
+        Kind::Velocity => residuals_finite(given, rows),
+    }
+}
+
+// The residual is looked at for velocities alone; `placed` tells whether the centres are finite.
 pub fn judge_table(
+    kind: Kind,
     rows: u32,
     bodies: u32,
     numbers: &[f64],
     words: &[u32],
     masses: &[f64],
+    given: &[f64],
     multipliers: &[f64],
     rule_words: &[u32],
     rule_tolerances: &[f64],
     placed: bool,
 ) -> TableJudged
-    requires { ⌜ (27 * rows ≤ length (now numbers)) × (8 * rows ≤ length (now words)) × (10 * bodies ≤ length (now masses)) × (rows ≤ length (now multipliers)) × (3 * length (now «rule_tolerances») ≤ length (now «rule_words»)) ⌝ }
-    ensures { λ r. ⌜ judge (tableTests (closingOf (tableOf rows bodies (now (numbers .entry)) (now (words .entry)) (now (masses .entry))) (coefficients (now (multipliers .entry))) (rulesIn (now («rule_words» .entry)) (now («rule_tolerances» .entry))) placed)) ≡ judgedOut r ⌝ }
+    requires { ⌜ (27 * rows ≤ length (now numbers)) × (8 * rows ≤ length (now words)) × (10 * bodies ≤ length (now masses)) × (rows ≤ length (now multipliers)) × (3 * length (now «rule_tolerances») ≤ length (now «rule_words»)) × GivenFrom kind (length (now given)) rows ⌝ }
+    ensures { λ r. ⌜ judge (tableTests (closingFor kind (tableOf rows bodies (now (numbers .entry)) (now (words .entry)) (now (masses .entry))) (coefficients (now (multipliers .entry))) (rulesIn (now («rule_words» .entry)) (now («rule_tolerances» .entry))) (coefficients (now (given .entry))) placed)) ≡ judgedOut r ⌝ }
 {
     let n = rows as usize;
     let b = bodies as usize;
@@ -49,10 +64,13 @@ pub fn judge_table(
     if !(masses_finite(masses, b) & placed) {
         return TableJudged::Refused(6);
     }
+    if !given_finite(kind, given, n) {
+        return TableJudged::Refused(20);
+    }
     if !rows_valid(numbers, words, n, bodies) {
         return TableJudged::Refused(7);
     }
-    if !table_in_range(numbers, words, masses, multipliers, n, b) {
+    if !table_in_range(kind, numbers, words, masses, given, multipliers, n, b) {
         return TableJudged::Refused(18);
     }
     TableJudged::Passed

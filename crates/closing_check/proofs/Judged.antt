@@ -10,11 +10,12 @@ use Rattle.loops.proofs.Every.{every-iff}
 use Rattle.loops.proofs.Judge.{judge-going, judge-pass}
 use Rattle.kapitsa_joint.specs.Row.{rowOf}
 use Rattle.kapitsa_joint.specs.Table.{tableOf}
+use Rattle.kapitsa_joint.specs.declared.kind.Kind.{Kind}
 use Rattle.joint_refusals.specs.Refusals.{passes7, isValidOf}
 use Rattle.rules.specs.Rules.{Rules}
 use Rattle.rules.specs.Rows.{rowsRuled}
 use Rattle.rules.proofs.Lent.{lent-28}
-use Rattle.check_range.specs.Closing.{Closing, closingOf}
+use Rattle.check_range.specs.Closing.{Closing, closingFor}
 use Rattle.check_refusals.specs.Judged.{tableTests, judgements, judgedOut}
 use Rattle.check_refusals.specs.declared.judge.TableJudged.{TableJudged}
 use Rattle.check_refusals.specs.declared.judge.TableJudged.the-variants as judged
@@ -47,14 +48,17 @@ valid-of rows bodies numbers words masses h = record {
 }
 
 -- what a table that passed them has
-module _ (rows bodies : ℕ) (numbers : List Float) (words : List ℕ) (masses : List Float) (listed : ℕ → Float) (s : Rules) (placed : Bool) {j : TableJudged}
-    (e : judge (tableTests (closingOf (tableOf rows bodies numbers words masses) listed s placed)) ≡ judgedOut j) where
-  pub valid-judged : j ≡ judged.Passed → Valid rows bodies numbers words
-  valid-judged h = let c = closingOf (tableOf rows bodies numbers words masses) listed s placed in valid-of rows bodies numbers words masses (passed-7 c (all-judged c e h))
+module _ (kind : Kind) (rows bodies : ℕ) (numbers : List Float) (words : List ℕ) (masses : List Float) (listed : ℕ → Float) (s : Rules) (residual : ℕ → Float) (placed : Bool) where
+  abbrev c : Closing
+  c = closingFor kind (tableOf rows bodies numbers words masses) listed s residual placed
 
-  pub ruled-judged : j ≡ judged.Passed → rowsRuled s words rows ≡ true
-  unfolding AllPass
-  ruled-judged h = let c = closingOf (tableOf rows bodies numbers words masses) listed s placed in lent-28 s rows bodies numbers words masses ∙ passed-tolerances c (all-judged c e h) .1 .0
+  module _ {j : TableJudged} (e : judge (tableTests c) ≡ judgedOut j) where
+    pub valid-judged : j ≡ judged.Passed → Valid rows bodies numbers words
+    valid-judged h = valid-of rows bodies numbers words masses (passed-7 c (all-judged c e h))
+
+    pub ruled-judged : j ≡ judged.Passed → rowsRuled s words rows ≡ true
+    unfolding AllPass
+    ruled-judged h = lent-28 s rows bodies numbers words masses ∙ passed-tolerances c (all-judged c e h) .1 .0
 
 pub valid-same : {n m b : ℕ} {numbers : List Float} {words : List ℕ} → m ≡ n → Valid n b numbers words → Valid m b numbers words
 valid-same e v = rw e v

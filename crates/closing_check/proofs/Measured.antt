@@ -13,6 +13,7 @@ use Rattle.loops.proofs.Tabulate.{getD-tabulate}
 use Rattle.binary64.specs.Order.{absolute}
 use Rattle.kapitsa_joint.specs.Row.{scalarsOf, wordsOf, rowOf}
 use Rattle.kapitsa_joint.specs.Table.{tableOf}
+use Rattle.kapitsa_joint.specs.declared.kind.Kind.{Kind}
 use Rattle.kapitsa_joint.specs.Tolerance.{dimensionOf}
 use Rattle.kapitsa_joint.specs.Maxima.{maximaBy}
 use Rattle.kapitsa_joint.specs.declared.maxima.Maxima.{Maxima}
@@ -22,7 +23,7 @@ use Rattle.rules.specs.Rows.{ruleIn}
 use Rattle.mass_operator.specs.System.{systemOf}
 use Rattle.mass_operator.specs.Operator.{valueAt}
 use Rattle.mass_operator.specs.Flat.{coefficients, productOf}
-use Rattle.check_range.specs.Closing.{Closing, closingOf}
+use Rattle.check_range.specs.Closing.{Closing, closingFor, errorIn}
 use Rattle.check_measure.specs.Verdict.{sizesOf, valueOf, sizeOf, reach, within, closes, largestReaches}
 use Rattle.check_measure.specs.Rows.{reachIn, withinIn}
 use Rattle.check_work.specs.Work.{CheckMemory, Measured}
@@ -31,10 +32,10 @@ use Rattle.check_answer.specs.declared.CheckAnswer.{CheckAnswer}
 use Rattle.check_answer.specs.declared.CheckAnswer.the-variants.{Closed, Open}
 use Rattle.closing_check.specs.Checked.{verdictIn}
 
-module _ (s : Rules) (placed : Bool) {rows bodies : ℕ} {numbers : List Float} {words : List ℕ} {masses multipliers : List Float} {before after : CheckMemory}
+module _ (kind : Kind) (s : Rules) (given : List Float) (placed : Bool) {rows bodies : ℕ} {numbers : List Float} {words : List ℕ} {masses multipliers : List Float} {before after : CheckMemory}
     (m : Measured bodies numbers words masses multipliers before after) (e : length multipliers ≡ rows) where
   abbrev c : Closing
-  c = closingOf (tableOf rows bodies numbers words masses) (coefficients multipliers) s placed
+  c = closingFor kind (tableOf rows bodies numbers words masses) (coefficients multipliers) s (coefficients given) placed
 
   values-is : after .values ≡ tabulate (valueOf c) rows
   unfolding productOf valueOf
@@ -44,10 +45,10 @@ module _ (s : Rules) (placed : Bool) {rows bodies : ℕ} {numbers : List Float} 
   unfolding productOf sizeOf
   sizes-is = m .sizes ∙ ap (λ (k : ℕ). tabulate (valueAt (sizesOf (systemOf (tableOf k bodies numbers words masses))) (λ i. absolute (coefficients multipliers i))) k) e
 
-  module _ {reaches : List Float} (made : reaches ≡ tabulate (reachIn numbers (after .values) (after .sizes) rows) rows) where
+  module _ {reaches : List Float} (made : reaches ≡ tabulate (reachIn (errorIn kind numbers given) (after .values) (after .sizes) rows) rows) where
     reach-is : (i : ℕ) → i < rows → getD reaches i nan ≡ reach c i
     unfolding reachIn reach rowOf scalarsOf
-    reach-is i h = rw (made, getD-tabulate (reachIn numbers (after .values) (after .sizes) rows) rows i nan h, values-is, sizes-is, getD-tabulate (valueOf c) rows i nan h, getD-tabulate (sizeOf c) rows i nan h)
+    reach-is i h = rw (made, getD-tabulate (reachIn (errorIn kind numbers given) (after .values) (after .sizes) rows) rows i nan h, values-is, sizes-is, getD-tabulate (valueOf c) rows i nan h, getD-tabulate (sizeOf c) rows i nan h)
 
     row-is : (i : ℕ) → i < rows → withinIn words reaches s i ≡ within c i
     unfolding withinIn rowOf wordsOf
@@ -82,9 +83,9 @@ module _ (words : List ℕ) (reaches : List Float) (s : Rules) (rows : ℕ) {r :
   one-misses h = rw (← p, h, ← g)
 
 -- ---- the rule of each row
-module _ (s : Rules) (rows bodies : ℕ) (numbers : List Float) (words : List ℕ) (masses : List Float) (listed : ℕ → Float) (placed : Bool) where
+module _ (s : Rules) (rows bodies : ℕ) (numbers : List Float) (words : List ℕ) (masses : List Float) (listed : ℕ → Float) (kind : Kind) (residual : ℕ → Float) (placed : Bool) where
   abbrev judged : Closing
-  judged = closingOf (tableOf rows bodies numbers words masses) listed s placed
+  judged = closingFor kind (tableOf rows bodies numbers words masses) listed s residual placed
 
   rules-are : tabulate (ruleIn s words) rows ≡ tabulate (judged .rule) rows
   unfolding rowOf wordsOf

@@ -6,6 +6,7 @@ use lib.ListN.{length, length-replicate}
 use lib.Ieee.{Float}
 use Rattle.little_endian.specs.Words.{wordAt, doubleAt, doublesAt, halvesAt}
 use Rattle.kapitsa_joint.specs.Table.{tableOf}
+use Rattle.kapitsa_joint.specs.declared.kind.Kind.the-variants.{Position}
 use Rattle.kapitsa_joint.specs.Centre.{centresIn}
 use Rattle.joint_refusals.specs.Refusals.{centresFinite}
 use Rattle.rules.specs.Rules.{twoRules}
@@ -23,7 +24,7 @@ module _ (case : List ℕ) (n b : ℕ) {k₁ k₂ k₃ k₄ k₅ : ℕ} {numbers
       → numbers ≡ doublesAt case 64 k₁ → words ≡ halvesAt case (64 + 216 * n) k₂ → masses ≡ doublesAt case (64 + 280 * n) k₃ → centres ≡ doublesAt case (64 + 280 * n + 80 * b) k₄ → multipliers ≡ doublesAt case (64 + 280 * n + 104 * b) k₅
       → {linear angular : Float} → linear ≡ doubleAt case 24 → angular ≡ doubleAt case 32
       → {answer : CheckAnswer}
-      → answer ≡ (let rules = twoRules (record { «linear_m» = linear; «angular_rad» = angular }) in checkOf (givenFits n b (tableLengths numbers words masses centres multipliers (rules .words) (rules .tolerances) ruleNumbers)) (closingOf (tableOf n b numbers words masses) (coefficients multipliers) rules (centresFinite (centresIn b centres))))
+      → answer ≡ (let rules = twoRules (record { «linear_m» = linear; «angular_rad» = angular }) in checkOf (givenFits Position n b (tableLengths numbers words masses centres multipliers (rules .words) (rules .tolerances) ruleNumbers)) (closingOf (tableOf n b numbers words masses) (coefficients multipliers) rules (centresFinite (centresIn b centres))))
       → length ruleNumbers ≡ n
       → {recorded : ℕ} → recorded ≡ wordAt case 40 → {bits₁ : ℕ} → bits₁ ≡ wordAt case 48 → {bits₂ : ℕ} → bits₂ ≡ wordAt case 56
       → {s : Seen} → s ≡ comparedOf answer recorded bits₁ bits₂ → s ≡ seenIn case n b

@@ -11,6 +11,7 @@ use Rattle.little_endian.specs.Words.{wordAt, doubleAt, doublesAt, halvesAt}
 use Rattle.kapitsa_joint.specs.declared.tolerance.JointTolerance.{JointTolerance}
 use Rattle.kapitsa_joint.specs.declared.maxima.Maxima.{Maxima}
 use Rattle.kapitsa_joint.specs.Table.{tableOf}
+use Rattle.kapitsa_joint.specs.declared.kind.Kind.the-variants.{Position}
 use Rattle.kapitsa_joint.specs.Centre.{centresIn}
 use Rattle.joint_refusals.specs.Refusals.{centresFinite}
 use Rattle.rules.specs.Rules.{Rules, twoRules}
@@ -46,7 +47,7 @@ comparedOf answer recorded linear angular = record { answer = numberOf answer; s
 -- the check by two rules, with a number for each row's
 abbrev pub checkedIn : ℕ → ℕ → List Float → List ℕ → List Float → List Float → List Float → Rules → CheckAnswer
 checkedIn n b numbers words masses centres multipliers rules =
-    checkOf (givenFits n b (tableLengths numbers words masses centres multipliers (rules .words) (rules .tolerances) (replicate n 0)))
+    checkOf (givenFits Position n b (tableLengths numbers words masses centres multipliers (rules .words) (rules .tolerances) (replicate n 0)))
     (closingOf (tableOf n b numbers words masses) (coefficients multipliers) rules (centresFinite (centresIn b centres)))
 
 -- what a case of n rows and b bodies shows: the definition's answer beside the recorded one

@@ -29,6 +29,7 @@ use Rattle.kapitsa_joint.specs.Table.{tableOf}
 use Rattle.kapitsa_joint.specs.Centre.{centresIn}
 use Rattle.joint_refusals.specs.Refusals.{centresFinite}
 use Rattle.mass_operator.specs.Flat.{coefficients}
+use Rattle.kapitsa_joint.specs.declared.kind.Kind.the-variants.{Position}
 use Rattle.check_range.specs.Closing.{closingOf}
 use Rattle.check_refusals.specs.Refusals.{tableFits, givenFits, tableLengths}
 use Rattle.kapitsa_joint.specs.declared.maxima.Maxima.{Maxima}
@@ -108,12 +109,12 @@ module _ (file : List ℕ) (t : Trailer) (h : judgedOf file ≡ Passed t) where
 
 module _ {t : Trailer} {numbers words masses centres solution impulses newCentres : ℕ} (r : JobRoom t numbers words masses centres solution impulses newCentres) where
   -- with two rules, and a number for the rule of each row
-  pub solve-fits : {k : ℕ} → k ≡ t .rows → jobFits (t .rows) (t .bodies) (t .mode) numbers words masses solution impulses centres newCentres 6 2 k ≡ true
+  pub solve-fits : {k : ℕ} → k ≡ t .rows → jobFits Position (t .rows) (t .bodies) (t .mode) numbers words masses solution impulses centres newCentres 6 2 k 0 ≡ true
   unfolding jobFits countsFit lengths.tableFits rulesLent ruleLengthsFit centresLent
   solve-fits e = let n = r .few-rows in let b = r .few-bodies in
       rw (le-leb (t .rows) 512 (omega arith), le-leb (t .bodies) 256 (omega arith), le-leb (t .mode) 2 (r .mode-known), eq-eqb _ _ (r .numbers-long), eq-eqb _ _ (r .words-long), eq-eqb _ _ (r .masses-long), eq-eqb _ _ (r .solution-long), eq-eqb _ _ (r .impulses-long), eq-eqb _ _ (r .centres-long), eq-eqb _ _ (r .new-centres-long), eq-eqb _ _ e)
 
-  check-fits : {k : ℕ} → k ≡ t .rows → givenFits (t .rows) (t .bodies) (record { numbers = numbers; words = words; masses = masses; centres = centres; multipliers = solution; «rule_words» = 6; «rule_tolerances» = 2; «rule_numbers» = k }) ≡ true
+  check-fits : {k : ℕ} → k ≡ t .rows → givenFits Position (t .rows) (t .bodies) (record { numbers = numbers; words = words; masses = masses; beside = centres; multipliers = solution; «rule_words» = 6; «rule_tolerances» = 2; «rule_numbers» = k }) ≡ true
   unfolding givenFits tableFits ruleLengthsFit
   check-fits e = let n = r .few-rows in let b = r .few-bodies in
       rw (le-leb (t .rows) 512 (omega arith), le-leb (t .bodies) 256 (omega arith), eq-eqb _ _ (r .numbers-long), eq-eqb _ _ (r .words-long), eq-eqb _ _ (r .masses-long), eq-eqb _ _ (r .centres-long), eq-eqb _ _ (r .solution-long), eq-eqb _ _ e)
@@ -129,7 +130,7 @@ room-after r a b c d e f g = rw (a, b, c, d, e, f, g) r
 abbrev checkedBy : Trailer → List Float → List ℕ → List Float → List Float → List Float → List ℕ → CheckAnswer
 checkedBy t numbers words masses centres solution ruleNumbers =
     let rules = twoRules (t .tolerance) in
-    checkOf (givenFits (t .rows) (t .bodies) (tableLengths numbers words masses centres solution (rules .words) (rules .tolerances) ruleNumbers))
+    checkOf (givenFits Position (t .rows) (t .bodies) (tableLengths numbers words masses centres solution (rules .words) (rules .tolerances) ruleNumbers))
     (closingOf (tableOf (t .rows) (t .bodies) numbers words masses) (coefficients solution) rules (centresFinite (centresIn (t .bodies) centres)))
 
 module _ (t : Trailer) (numbers : List Float) (words : List ℕ) (masses centres solution impulses newCentres : List Float) (ruleNumbers : List ℕ)
@@ -177,7 +178,7 @@ module _ (t : Trailer) (numbers : List Float) (words : List ℕ) (masses centres
   job-odd n = rw (← p, not-true fit n)
 
   module _ (n : not fit ≡ false) (solution impulses newCentres : List Float) {fits : Bool} (f : fits ≡ true) {answer : PositionPcg} {after : Lent} {ruleNumbers ruleNumbers′ : List ℕ}
-      (s : JobSolved fits (twoRules (t .tolerance)) (positionOf (t .rows) (t .bodies) numbers words masses centres (twoRules (t .tolerance)) plusZero) (modeOf (t .mode) plusZero) (t .limit) (t .rows) (record { numbers = numbers; solution = solution; impulses = impulses; centres = newCentres }) after ruleNumbers ruleNumbers′ answer) where
+      (s : JobSolved fits (twoRules (t .tolerance)) (positionOf (t .rows) (t .bodies) numbers words masses centres (twoRules (t .tolerance)) plusZero) (modeOf (t .mode) plusZero) (t .limit) 24 (t .rows) (record { numbers = numbers; solution = solution; impulses = impulses; centres = newCentres }) after ruleNumbers ruleNumbers′ answer) where
     solved : outcomeOf (t .rows) (record { numbers = numbers; solution = solution; impulses = impulses; centres = newCentres }) (answerTo (jobWith t numbers words masses centres)) ≡ record { answer = answer; lent = after }
     unfolding answerTo test check on
     solved = rw (← p, not-false fit n, ← f) (s .answered)

@@ -1,8 +1,8 @@
--- Document 01, "Why a job was turned back", 4 to 7, each as a test that is true where the refusal does not apply.
+-- Document 01, "Why a job was turned back", 4 to 7, and 20 of document 02, each as a test that is true where the refusal does not apply.
 use Prim.Native.Nat.{ℕ}
 use mathlib.Core.Bool.{Bool, not, _&&_}
 use lib.Dec.{leb, ltb, eqb}
-use lib.Ieee.{eq, le, neg}
+use lib.Ieee.{Float, eq, le, neg}
 use lib.Ieee.Scale.{finite}
 use Rattle.loops.specs.Every.{every}
 use Rattle.loops.specs.Cleared.{plusZero}
@@ -28,6 +28,10 @@ unfoldable pub opensOf : RowScalars → RowWords → Bool
 opensOf s w =
     ((((eqb (w .«position_enabled») 1 && eq (s .compliance) plusZero) && eq (s .damping) plusZero) && eqb (w .«force_driven») 0) && eq (s .«min_multiplier») (neg infinity)) && eq (s .«max_multiplier») infinity
 
+-- of velocities: document 02, a, "Its opening test reads the impulse bounds instead of the multiplier bounds and ignores position_enabled"
+unfoldable pub velocityOpensOf : RowScalars → RowWords → Bool
+velocityOpensOf s w = (((eq (s .compliance) plusZero && eq (s .damping) plusZero) && eqb (w .«force_driven») 0) && eq (s .«min_impulse») (neg infinity)) && eq (s .«max_impulse») infinity
+
 -- ---- 6. "A mass number is not finite."
 unfoldable pub massFiniteOf : SolverMass → Bool
 massFiniteOf m = finite (m .«inverse_mass») && finiteColumnsOf (m .«inverse_inertia»)
@@ -38,6 +42,10 @@ passes6 t = every (λ b. massFiniteOf (t .mass b)) (t .bodies)
 -- document 02, d: "A centre that comes in not finite is refusal 6"
 unfoldable pub centresFinite : Centres → Bool
 centresFinite c = every (λ b. isFiniteOf (c .at b)) (c .bodies)
+
+-- ---- 20. Document 02, a: "20, a lent residual is not finite"
+unfoldable pub passes20 : (ℕ → Float) → ℕ → Bool
+passes20 residual rows = every (λ i. finite (residual i)) rows
 
 -- ---- 7. "A row fails ConstraintRow::is_valid, or a body number of it is not below the body count." (row.rs; a NaN fails every comparison)
 unfoldable pub bodiesBelowOf : ℕ → RowWords → Bool

@@ -2,14 +2,15 @@
 ghost use mathlib.Core.Path.{_≡_};
 ghost use mathlib.Core.List.{List};
 ghost use Prim.Native.Nat.{ℕ, _+_, _*_, _≤_};
-ghost use lib.ListN.{length};
+ghost use lib.ListN.{length, getD};
+ghost use lib.Ieee.{nan};
 ghost use Rattle.loops.specs.Every.{every};
 ghost use Rattle.kapitsa_math.specs.Lent.{vecOf};
 ghost use Rattle.kapitsa_math.specs.Vector.{isFiniteOf};
 ghost use Rattle.kapitsa_joint.specs.Row.{wordsOf, scalarsOf, rowOf};
 ghost use Rattle.kapitsa_joint.specs.Mass.{massOf};
 ghost use Rattle.kapitsa_joint.specs.Centre.{centresIn};
-ghost use Rattle.joint_refusals.specs.Refusals.{wordsFitOf, opensOf, massFiniteOf, centresFinite, bodiesBelowOf, jacobiansFiniteOf, scalarsFiniteOf, scalarsInRangeOf, isValidOf};
+ghost use Rattle.joint_refusals.specs.Refusals.{wordsFitOf, opensOf, velocityOpensOf, passes20, massFiniteOf, centresFinite, bodiesBelowOf, jacobiansFiniteOf, scalarsFiniteOf, scalarsInRangeOf, isValidOf};
 use kapitsa_joint::RowScalars;
 use kapitsa_joint::RowWords;
 use kapitsa_joint::SolverMass;
@@ -84,6 +85,39 @@ pub fn rows_open(numbers: &[f64], words: &[u32], rows: usize) -> bool
     true
 }
 
+// The same of velocities: the bounds of the impulse, and position on or off.
+pub fn velocity_row_opens(s: RowScalars, w: RowWords) -> bool
+    ensures { λ r. ⌜ r ≡ velocityOpensOf s w ⌝ }
+{
+    let infinity = f64::from_bits(0x7ff0_0000_0000_0000);
+    (s.compliance == 0.0)
+        & (s.damping == 0.0)
+        & (w.force_driven == 0)
+        & (s.min_impulse == -infinity)
+        & (s.max_impulse == infinity)
+}
+
+fn velocity_row_opens_at(numbers: &[f64], words: &[u32], i: usize) -> bool
+    requires { ⌜ (27 * i + 27 ≤ length (now numbers)) × (8 * i + 8 ≤ length (now words)) ⌝ }
+    ensures { λ r. ⌜ r ≡ velocityOpensOf (scalarsOf (now (numbers .entry)) (27 * i + 15)) (wordsOf (now (words .entry)) (8 * i)) ⌝ }
+{
+    velocity_row_opens(scalars_at(numbers, 27 * i + 15), words_at(words, 8 * i))
+}
+
+pub fn velocity_rows_open(numbers: &[f64], words: &[u32], rows: usize) -> bool
+    requires { ⌜ (27 * rows ≤ length (now numbers)) × (8 * rows ≤ length (now words)) ⌝ }
+    ensures { λ r. ⌜ r ≡ every (λ i. velocityOpensOf (scalarsOf (now (numbers .entry)) (27 * i + 15)) (wordsOf (now (words .entry)) (8 * i))) rows ⌝ }
+{
+    let mut i = 0;
+    while i < rows {
+        if !velocity_row_opens_at(numbers, words, i) {
+            return false;
+        }
+        i += 1;
+    }
+    true
+}
+
 // Refusal 6: every mass number is finite,
 pub fn mass_finite(mass: SolverMass) -> bool
     ensures { λ r. ⌜ r ≡ massFiniteOf mass ⌝ }
@@ -132,6 +166,21 @@ pub fn centres_finite(centres: &[f64], bodies: usize) -> bool
             return false;
         }
         b += 1;
+    }
+    true
+}
+
+// Refusal 20: every lent residual is finite.
+pub fn residuals_finite(residuals: &[f64], rows: usize) -> bool
+    requires { ⌜ rows ≤ length (now residuals) ⌝ }
+    ensures { λ r. ⌜ r ≡ passes20 (λ i. getD (now (residuals .entry)) i nan) rows ⌝ }
+{
+    let mut i = 0;
+    while i < rows {
+        if !binary64::is_finite(residuals[i]) {
+            return false;
+        }
+        i += 1;
     }
     true
 }

@@ -1,4 +1,4 @@
--- What a solve tells C, from the promise of the entry. Assumes nothing.
+-- What a solve tells C, from the promise of the entry, of either kind. Assumes nothing.
 use Prim.Native.Nat.{ℕ, _<_}
 use mathlib.Core.Path.{_≡_, refl, sym, ap, subst, _∙_}
 use mathlib.Core.Bool.{Bool, true, false, not, _&&_, cond}
@@ -16,7 +16,7 @@ use Rattle.position.specs.Problem.{Problem}
 use Rattle.position_iteration.specs.Method.{methodOf}
 use Rattle.position_iteration.specs.Places.{Apart}
 use Rattle.position_iteration.proofs.InPlace.{problem-in-place, problem-not-zero}
-use Rattle.position_delivery.specs.Outcome.{Answer, Lent, Outcome, resultOf, proposalOf, outcomeOf, SolveMeaning}
+use Rattle.position_delivery.specs.Outcome.{Answer, Lent, Outcome, resultOf, proposalOf, outcomeAt, MeaningAt}
 use Rattle.position_delivery.specs.declared.answer.PositionPcg.{PositionPcg}
 use Rattle.position_delivery.specs.declared.answer.PositionPcg.the-variants as answers
 use Rattle.position_delivery.specs.declared.answer.PositionPcgResult.{PositionPcgResult}
@@ -32,28 +32,28 @@ use Rattle.kapitsa_c.specs.Solving.{Told, toldOf, toldFits, SolveTold}
 abbrev outcome : PositionPcg → Lent → Outcome
 outcome r l = record { answer = r; lent = l }
 
-module _ (s : Rules) (p : Problem) (mode : Mode) (limit n : ℕ) (before : Lent) (named : List ℕ) (counts : List ℕ) (maxima : List Float) (work : WorkMemory) (apart : Apart p) where
+module _ (s : Rules) (p : Problem) (mode : Mode) (limit place n : ℕ) (before : Lent) (named : List ℕ) (counts : List ℕ) (maxima : List Float) (work : WorkMemory) (apart : Apart p) where
   -- 0 is told exactly where the solve is accepted: no refusal has that number
-  told-zero : (fits : Bool) → (toldOf (outcomeOf n before (solve (methodOf fits p mode) limit) .answer) counts maxima .number ≡ 0) ↔ Goes (solve (methodOf fits p mode) limit)
+  told-zero : (fits : Bool) → (toldOf (outcomeAt place n before (solve (methodOf fits p mode) limit) .answer) counts maxima .number ≡ 0) ↔ Goes (solve (methodOf fits p mode) limit)
   unfolding toldOf proposalOf
   told-zero fits = go (solve (methodOf fits p mode) limit) (problem-not-zero p mode fits limit apart)
     where
-      go : (r : Answer) → ((k : ℕ) → r ≡ ended k → 0 < k) → (toldOf (outcomeOf n before r .answer) counts maxima .number ≡ 0) ↔ Goes r
+      go : (r : Answer) → ((k : ℕ) → r ≡ ended k → 0 < k) → (toldOf (outcomeAt place n before r .answer) counts maxima .number ≡ 0) ↔ Goes r
       go (going a) h = (λ _. (a, refl), λ _. refl)
       go (ended k) h = (λ e. let z = h k refl in absurd (omega arith), λ g. absurd (apart-runs _ (g .1) refl))
 
   -- an accepted answer is told of a solve that goes through
-  goes-accepted : (fits : Bool) (after : Lent) (a : PositionPcg) → outcomeOf n before (solve (methodOf fits p mode) limit) ≡ outcome a after → Goes (solve (methodOf fits p mode) limit) → (r : PositionPcgResult) × (a ≡ answers.Accepted r)
+  goes-accepted : (fits : Bool) (after : Lent) (a : PositionPcg) → outcomeAt place n before (solve (methodOf fits p mode) limit) ≡ outcome a after → Goes (solve (methodOf fits p mode) limit) → (r : PositionPcgResult) × (a ≡ answers.Accepted r)
   unfolding proposalOf
   goes-accepted fits after a e (((flag, count, v), f), g) = let told = ap (λ (o : Outcome). o .answer) e in (resultOf flag count f, sym (rw g at told))
 
-  told-so : (fits : Bool) (after : Lent) (after-named : List ℕ) (told : Told) (a : PositionPcg) (workAfter : WorkMemory) → outcomeOf n before (solve (methodOf fits p mode) limit) ≡ outcome a after → told ≡ toldOf a counts maxima → After fits work workAfter
-      → after-named ≡ namedBy a (p .rule) n named → ((r : PositionPcgResult) → a ≡ answers.Accepted r → Ruled s (p .table)) → SolveTold fits s p mode limit n before after named after-named counts maxima told work workAfter
+  told-so : (fits : Bool) (after : Lent) (after-named : List ℕ) (told : Told) (a : PositionPcg) (workAfter : WorkMemory) → outcomeAt place n before (solve (methodOf fits p mode) limit) ≡ outcome a after → told ≡ toldOf a counts maxima → After fits work workAfter
+      → after-named ≡ namedBy a (p .rule) n named → ((r : PositionPcgResult) → a ≡ answers.Accepted r → Ruled s (p .table)) → SolveTold fits s p mode limit place n before after named after-named counts maxima told work workAfter
   told-so fits after after-named told a workAfter e h w l ruled =
       record {
         answered = h ∙ ap (λ (o : Outcome). toldOf (o .answer) counts maxima) (sym e);
         delivered = sym (ap (λ (o : Outcome). o .lent) e);
-        means = subst (λ (o : Outcome). SolveMeaning (methodOf fits p mode) limit n before (o .answer) after) (sym e) (entry-means (methodOf fits p mode) limit n before after a e);
+        means = subst (λ (o : Outcome). MeaningAt (methodOf fits p mode) limit place n before (o .answer) after) (sym e) (entry-means (methodOf fits p mode) limit place n before after a e);
         in-place = problem-in-place p mode fits limit apart;
         zero = subst (λ (x : ℕ). (x ≡ 0) ↔ Goes (solve (methodOf fits p mode) limit)) (sym (ap (λ (x : Told). x .number) (h ∙ ap (λ (o : Outcome). toldOf (o .answer) counts maxima) (sym e)))) (told-zero fits);
         named = l ∙ ap (λ (o : Outcome). namedBy (o .answer) (p .rule) n named) (sym e);
@@ -72,12 +72,12 @@ module _ (s : Rules) (p : Problem) (mode : Mode) (limit n : ℕ) (before : Lent)
     untouched : not b ≡ true → After (told && rest) work work
     untouched h = record { emptied = λ q. absurd (let z : true ≡ false = sym q ∙ unfit h in let y : _≡_ {A = ℕ} 0 1 = cc in omega arith); untouched = λ _. refl }
 
-    pub untold : not b ≡ true → SolveTold (told && rest) s p mode limit n before before named named counts maxima (record { number = 3; counts = counts; maxima = maxima }) work work
+    pub untold : not b ≡ true → SolveTold (told && rest) s p mode limit place n before before named named counts maxima (record { number = 3; counts = counts; maxima = maxima }) work work
     unfolding toldOf
-    untold h = told-so (told && rest) before named (record { number = 3; counts = counts; maxima = maxima }) (answers.Refused 3) work (entry-refused p mode n limit before false (told && rest) (sym (unfit h)) refl) refl (untouched h) refl (λ r a. absurd (let z : _≡_ {A = ℕ} 0 1 = cc in omega arith))
+    untold h = told-so (told && rest) before named (record { number = 3; counts = counts; maxima = maxima }) (answers.Refused 3) work (entry-refused p mode place n limit before false (told && rest) (sym (unfit h)) refl) refl (untouched h) refl (λ r a. absurd (let z : _≡_ {A = ℕ} 0 1 = cc in omega arith))
 
-    pub told-on : (after : Lent) (after-named : List ℕ) (r : Told) (a : PositionPcg) (workAfter : WorkMemory) → not b ≡ false → SolveRuled rest s p mode limit n before after named after-named a work workAfter → r ≡ toldOf a counts maxima
-        → SolveTold (told && rest) s p mode limit n before after named after-named counts maxima r work workAfter
+    pub told-on : (after : Lent) (after-named : List ℕ) (r : Told) (a : PositionPcg) (workAfter : WorkMemory) → not b ≡ false → SolveRuled rest s p mode limit place n before after named after-named a work workAfter → r ≡ toldOf a counts maxima
+        → SolveTold (told && rest) s p mode limit place n before after named after-named counts maxima r work workAfter
     told-on after after-named r a workAfter h q w = rw (← fit h) (told-so rest after after-named r a workAfter (q .held .answered) w (q .held .memory) (q .named) (q .ruled))
 
 -- where the two slices fit, each has two places

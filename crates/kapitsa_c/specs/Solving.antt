@@ -14,7 +14,7 @@ use Rattle.loops.specs.Run.{Goes}
 use Rattle.position.specs.Problem.{Problem}
 use Rattle.position_iteration.specs.Method.{methodOf}
 use Rattle.position_iteration.specs.Places.{placesOf}
-use Rattle.position_delivery.specs.Outcome.{Lent, outcomeOf, SolveMeaning}
+use Rattle.position_delivery.specs.Outcome.{Lent, outcomeAt, MeaningAt}
 use Rattle.position_delivery.specs.declared.answer.PositionPcg.{PositionPcg}
 use Rattle.position_delivery.specs.declared.answer.PositionPcg.the-variants as answers
 use Rattle.rules.specs.Rules.{Rules, Ruled}
@@ -34,13 +34,13 @@ toldOf (answers.Refused number) counts maxima = record { number = number; counts
 unfoldable pub toldFits : List ℕ → List Float → Bool
 toldFits counts maxima = eqb (length counts) 2 && eqb (length maxima) 2
 
--- The answer is the definition's, what is lent is as the definition leaves it, the answer means what demand 3 says, each refusal has its place, 0 is told for an accepted solve alone, and the work memory is cleared. `fits` is whether refusal 3 passes.
-pub record SolveTold (fits : Bool) (s : Rules) (p : Problem) (mode : Mode) (limit n : ℕ) (before after : Lent) (numbers numbersAfter : List ℕ) (counts : List ℕ) (maxima : List Float) (told : Told) (work workAfter : WorkMemory) : Type 0 where
-  pub answered : told ≡ toldOf (outcomeOf n before (solve (methodOf fits p mode) limit) .answer) counts maxima
-  pub delivered : after ≡ outcomeOf n before (solve (methodOf fits p mode) limit) .lent
-  pub means : SolveMeaning (methodOf fits p mode) limit n before (outcomeOf n before (solve (methodOf fits p mode) limit) .answer) after
+-- The answer is the definition's, what is lent is as the definition leaves it, the answer means what demand 3 says, each refusal has its place, 0 is told for an accepted solve alone, and the work memory is cleared. Of n rows, whose number at this place grows; `fits` is whether refusal 3 passes.
+pub record SolveTold (fits : Bool) (s : Rules) (p : Problem) (mode : Mode) (limit place n : ℕ) (before after : Lent) (numbers numbersAfter : List ℕ) (counts : List ℕ) (maxima : List Float) (told : Told) (work workAfter : WorkMemory) : Type 0 where
+  pub answered : told ≡ toldOf (outcomeAt place n before (solve (methodOf fits p mode) limit) .answer) counts maxima
+  pub delivered : after ≡ outcomeAt place n before (solve (methodOf fits p mode) limit) .lent
+  pub means : MeaningAt (methodOf fits p mode) limit place n before (outcomeAt place n before (solve (methodOf fits p mode) limit) .answer) after
   pub in-place : InPlace (methodOf fits p mode) (placesOf p) limit
   pub zero : (told .number ≡ 0) ↔ Goes (solve (methodOf fits p mode) limit)
-  pub named : numbersAfter ≡ namedBy (outcomeOf n before (solve (methodOf fits p mode) limit) .answer) (p .rule) n numbers  -- the number of each row's rule
+  pub named : numbersAfter ≡ namedBy (outcomeAt place n before (solve (methodOf fits p mode) limit) .answer) (p .rule) n numbers  -- the number of each row's rule
   pub ruled : Goes (solve (methodOf fits p mode) limit) → Ruled s (p .table)  -- which is the one that it falls under
   pub memory : After fits work workAfter

@@ -3,6 +3,7 @@ ghost use mathlib.Core.Path.{_≡_};
 ghost use mathlib.Core.Bool.{_&&_};
 ghost use lib.ListN.{length};
 ghost use Rattle.kapitsa_joint.specs.Table.{tableOf};
+ghost use Rattle.kapitsa_joint.specs.declared.kind.Kind.the-variants.{Position};
 ghost use Rattle.kapitsa_joint.specs.Centre.{centresIn};
 ghost use Rattle.joint_refusals.specs.Refusals.{centresFinite};
 ghost use Rattle.mass_operator.specs.Flat.{coefficients};
@@ -16,7 +17,7 @@ use closing_check::closing_check;
 use kapitsa_joint::Maxima;
 
 // Refusal 3, of the slices that take the verdict and the gap: true where it does not apply.
-fn verdict_fits(verdict: &[u32], gap: &[f64]) -> bool
+pub fn verdict_fits(verdict: &[u32], gap: &[f64]) -> bool
     ensures { λ r. ⌜ r ≡ verdictFits (now (verdict .entry)) (now (gap .entry)) ⌝ }
 {
     (verdict.len() == 1) & (gap.len() == 2)
@@ -31,7 +32,7 @@ fn put_gap(measured: Maxima, gap: &mut [f64])
 }
 
 // The verdict and the gap; nothing where the answer is a refusal.
-fn tell_verdict(answer: CheckAnswer, verdict: &mut [u32], gap: &mut [f64]) -> u32
+pub fn tell_verdict(answer: CheckAnswer, verdict: &mut [u32], gap: &mut [f64]) -> u32
     requires { ⌜ (length (now verdict) ≡ 1) × (length (now gap) ≡ 2) ⌝ }
     ensures { λ r. ⌜ record { number = r; verdict = now (verdict .exit); gap = now (gap .exit) } ≡ verdictTold answer (now (verdict .entry)) (now (gap .entry)) ⌝ }
 {
@@ -75,7 +76,7 @@ pub extern "C" fn kapitsa_closing_check(
     values: &mut [f64],
     sizes: &mut [f64],
 ) -> u32
-    ensures { λ r. ⌜ CheckTold (verdictFits (now (verdict .entry)) (now (gap .entry)) && passes3 rows bodies (tableLengths (now (numbers .entry)) (now (words .entry)) (now (masses .entry)) (now (centres .entry)) (now (multipliers .entry)) (now («rule_words» .entry)) (now («rule_tolerances» .entry)) (now («rule_numbers» .entry))) (workLengths (memoryOf (now (jacobians .entry)) (now (links .entry)) (now («mass_sizes» .entry)) (now («multiplier_sizes» .entry)) (now (impulses .entry)) (now (values .entry)) (now (sizes .entry)))))
+    ensures { λ r. ⌜ CheckTold (verdictFits (now (verdict .entry)) (now (gap .entry)) && passes3 Position rows bodies (tableLengths (now (numbers .entry)) (now (words .entry)) (now (masses .entry)) (now (centres .entry)) (now (multipliers .entry)) (now («rule_words» .entry)) (now («rule_tolerances» .entry)) (now («rule_numbers» .entry))) (workLengths (memoryOf (now (jacobians .entry)) (now (links .entry)) (now («mass_sizes» .entry)) (now («multiplier_sizes» .entry)) (now (impulses .entry)) (now (values .entry)) (now (sizes .entry)))))
         (rulesIn (now («rule_words» .entry)) (now («rule_tolerances» .entry)))
         (closingOf (tableOf rows bodies (now (numbers .entry)) (now (words .entry)) (now (masses .entry))) (coefficients (now (multipliers .entry))) (rulesIn (now («rule_words» .entry)) (now («rule_tolerances» .entry))) (centresFinite (centresIn bodies (now (centres .entry)))))
         (now (verdict .entry)) (now (gap .entry)) record { number = r; verdict = now (verdict .exit); gap = now (gap .exit) } (now («rule_numbers» .entry)) (now («rule_numbers» .exit))

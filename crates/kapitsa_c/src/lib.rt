@@ -1,9 +1,13 @@
 // The port for C and Rust. A slice is a pointer, then its length; work memory is lent, of exactly the lengths that the counts call for.
 // No function asks anything of its caller but what the types say: what does not fit is refused.
 pub mod closing; // closing.rt: the closing check
+pub mod closing_speeds; // closing_speeds.rt: the closing check of velocities
 pub mod inverting; // inverting.rt: the inverse of a local inertia
+pub mod moving; // moving.rt: the velocity solve
 pub mod solving; // solving.rt: the position solve
 
 pub use closing::kapitsa_closing_check;
+pub use closing_speeds::kapitsa_velocity_closing_check;
 pub use inverting::kapitsa_inverse_spd;
+pub use moving::kapitsa_solve_velocity;
 pub use solving::kapitsa_solve_position;

@@ -1,5 +1,5 @@
 -- Laws of rows, masses, impulses, tolerances and centres in the lent tables.
-pub mod Kind
+pub mod Dimensions
 pub mod Cross
 pub mod Stored
 pub mod Largest

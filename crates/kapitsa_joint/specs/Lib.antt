@@ -5,3 +5,4 @@ pub mod Tolerance
 pub mod Table
 pub mod Maxima
 pub mod Centre
+pub mod Kind

@@ -1,7 +1,7 @@
 // ConstraintRow of row.rs in the lent tables: 27 doubles and eight words a row. The layout is that of specs/Row.antt.
 ghost use mathlib.Core.Path.{_≡_};
 ghost use Prim.Native.Nat.{_+_, _*_, _≤_};
-ghost use lib.ListN.{length, set};
+ghost use lib.ListN.{length};
 ghost use Rattle.kapitsa_joint.specs.Row.{scalarsOf, wordsOf, rowOf, jacobianOf};
 use kapitsa_math::Vec3;
 use kapitsa_math::vec_at;
@@ -122,12 +122,4 @@ pub fn jacobian_at(numbers: &[f64], words: &[u32], i: usize) -> RowJacobian
         body_a: words[word + 2],
         body_b: words[word + 3],
     }
-}
-
-// The accumulated multiplier of row i becomes x.
-pub fn put_multiplier(numbers: &mut [f64], i: usize, x: f64)
-    requires { ⌜ 27 * i + 27 ≤ length (now numbers) ⌝ }
-    ensures { λ _. ⌜ now (numbers .exit) ≡ set (now (numbers .entry)) (27 * i + 24) x ⌝ }
-{
-    numbers[27 * i + 24] = x;
 }

@@ -1,32 +1,44 @@
 -- The ways through the solve: refusal 3, and the outcome of what is counted and delivered. Assumes nothing.
-use Prim.Native.Nat.{ℕ}
+use Prim.Native.Nat.{ℕ, _*_, _<_, _≤_}
 use mathlib.Core.Path.{_≡_, sym, ap, _∙_}
 use mathlib.Core.Bool.{Bool, true, false, not}
 use mathlib.Core.List.{List}
+use native.Mathlib.Omega.{arith}
+use lib.ListN.{length}
 use lib.Ieee.{Float}
 use borrow.Author.Tests.{not-false}
-use Rattle.loops.specs.Run.{next}
-use Rattle.preconditioner.specs.declared.mode.Mode.{Mode}
-use Rattle.kapitsa_math.specs.declared.vector.Vec3.{Vec3}
-use Rattle.kapitsa_joint.specs.Table.{Table}
-use Rattle.kapitsa_joint.specs.Centre.{noCentres}
+use Rattle.loops.specs.Run.{Run, next}
+use Rattle.loops.specs.Judge.{judge}
+use Rattle.kapitsa_joint.specs.Table.{Table, tableOf}
+use Rattle.kapitsa_joint.specs.Centre.{centresIn}
+use Rattle.kapitsa_joint.specs.Kind.{placeOf, placedOf}
+use Rattle.kapitsa_joint.specs.declared.kind.Kind.{Kind}
+use Rattle.kapitsa_joint.specs.declared.kind.Kind.the-variants as kinds
 use Rattle.joint_refusals.specs.Refusals.{centresFinite}
-use Rattle.joint_refusals.specs.Tolerances.{Tolerances}
-use Rattle.position.specs.Problem.{Problem, positionProblem}
-use Rattle.position_iteration.specs.Method.{methodOf}
-use Rattle.position_iteration.specs.Position.{shiftTests, placedProblem, shiftedProblem}
+use Rattle.rules.specs.Rules.{Rules}
+use Rattle.mass_operator.specs.Flat.{coefficients}
+use Rattle.preconditioner.specs.declared.mode.Mode.{Mode}
+use Rattle.position.specs.Multipliers.{accumulatedIn}
+use Rattle.position.specs.Problem.{Problem}
+use Rattle.recurrence.specs.Step.{Iterate}
+use Rattle.position_iteration.specs.Method.{methodOf, afterThree}
 use Rattle.position_iteration.specs.Places.{Apart}
-use Rattle.position_iteration.proofs.InPlace.{problem-in-place}
+use Rattle.position_iteration.specs.Position.{kindOf, solveFor, stepsFor}
+use Rattle.position_iteration.proofs.InPlace.{problem-in-place, position-apart, velocity-apart}
 use Rattle.position_iteration.specs.Counting.{countedOf}
 use Rattle.position_iteration.specs.Standing.{iteratedOut}
 use Rattle.position_iteration.specs.declared.iteration.Iterated.{Iterated}
+use Rattle.position_steps.specs.Opening.{openedOut}
 use Rattle.position_steps.specs.Counting.{CountHeld}
+use Rattle.position_steps.specs.declared.opening.Opened.{Opened}
+use Rattle.position_steps.proofs.Counted.{counted-of}
 use Rattle.position_delivery.specs.Delivery.{finishedOf}
-use Rattle.position_delivery.specs.Outcome.{Lent, Outcome, outcomeOf}
+use Rattle.position_delivery.specs.Outcome.{Lent, Outcome, outcomeAt}
 use Rattle.position_delivery.specs.declared.answer.PositionPcg.{PositionPcg}
 use Rattle.position_delivery.specs.declared.answer.PositionPcg.the-variants as answers
-use Rattle.position_delivery.proofs.Answered.{counted-centres, delivered-of, entry-refused, entry-on, entry-means}
-use Rattle.work_memory.specs.Work.{WorkMemory, clearedTable}
+use Rattle.position_delivery.proofs.Accumulated.{delivered-in}
+use Rattle.position_delivery.proofs.Answered.{delivered-of, entry-refused, entry-on, entry-means}
+use Rattle.work_memory.specs.Work.{WorkMemory, StepMemory, clearedSteps, clearedTable}
 use Rattle.work_memory.proofs.Cleared.{work-cleared, after-three, after-cleared}
 use Rattle.pcg.specs.SolveHeld.{SolveHeld}
 
@@ -34,27 +46,52 @@ use Rattle.pcg.specs.SolveHeld.{SolveHeld}
 pub fits-true : (b fits : Bool) → b ≡ fits → not b ≡ false → fits ≡ true
 fits-true b fits e h = sym e ∙ not-false b h
 
--- up to the step counted, the centres matter only by what is told of them
-pub placed-counts : (t : Table) (limits : Tolerances) (shift : Float) (centre : ℕ → Vec3) (mode : Mode) (limit : ℕ) {placed : Bool} → placed ≡ centresFinite (record { bodies = t .bodies; at = centre })
-    → countedOf mode (placedProblem t limits shift placed noCentres) limit ≡ countedOf mode (shiftedProblem t limits shift centre) limit
-placed-counts t limits shift centre mode limit e =
-    counted-centres (shiftTests shift) limits _ noCentres (record { bodies = t .bodies; at = centre }) (positionProblem t (limits .row)) mode limit
-    ∙ ap (λ (placed : Bool). countedOf mode (placedProblem t limits shift placed (record { bodies = t .bodies; at = centre })) limit) e
+-- no number stands twice, of either kind
+pub solve-apart : (kind : Kind) (rows bodies : ℕ) (numbers : List Float) (words : List ℕ) (masses centres given : List Float) (rules : Rules) (shift : Float) → Apart (solveFor kind rows bodies numbers words masses centres given rules shift)
+solve-apart kinds.Position rows bodies numbers words masses centres given rules shift = position-apart (tableOf rows bodies numbers words masses) rules shift _
+solve-apart kinds.Velocity rows bodies numbers words masses centres given rules shift = velocity-apart (tableOf rows bodies numbers words masses) rules shift (coefficients given)
+
+-- where the number that grows stands, and how many bodies have a centre
+pub placing : (kind : Kind) (bodies : ℕ) {place placed centres newCentres : ℕ} → place ≡ placeOf kind → placed ≡ placedOf kind bodies → centres ≡ 3 * placedOf kind bodies → newCentres ≡ 3 * placedOf kind bodies
+    → (place < 27) × (placed ≤ bodies) × (centres ≡ 3 * placed) × (newCentres ≡ 3 * placed)
+placing kinds.Position bodies e f c d = (omega arith, omega arith, omega arith, omega arith)
+placing kinds.Velocity bodies e f c d = (omega arith, omega arith, omega arith, omega arith)
 
 -- the entry; b is what the test of refusal 3 answered
-module _ (fits : Bool) (p : Problem) (mode : Mode) (limit n : ℕ) (before : Lent) (work : WorkMemory) (b : Bool) (apart : Apart p) (e : b ≡ fits) where
-  pub solved-three : not b ≡ true → SolveHeld fits p mode limit n before before (answers.Refused 3) work work
+module _ (fits : Bool) (p : Problem) (mode : Mode) (limit place n : ℕ) (before : Lent) (work : WorkMemory) (b : Bool) (apart : Apart p) (e : b ≡ fits) where
+  pub solved-three : not b ≡ true → SolveHeld fits p mode limit place n before before (answers.Refused 3) work work
   solved-three h =
-      let q = entry-refused p mode n limit before b fits e h in
-      record { answered = q; means = entry-means (methodOf fits p mode) limit n before before (answers.Refused 3) q; in-place = problem-in-place p mode fits limit apart; memory = after-three b fits e work h }
+      let q = entry-refused p mode place n limit before b fits e h in
+      record { answered = q; means = entry-means (methodOf fits p mode) limit place n before before (answers.Refused 3) q; in-place = problem-in-place p mode fits limit apart; memory = after-three b fits e work h }
 
-  -- the count is that of a problem that is counted alike
-  pub solved-on : (m : Mode) (em : m ≡ mode) (q : Problem) (alike : countedOf mode q limit ≡ countedOf mode p limit) (masses jacobians : List Float) (links : List ℕ) (pending residual : List Float) (c : Iterated) (after : Lent) (answer : PositionPcg) (workAfter : WorkMemory) → not b ≡ false
-      → CountHeld m q limit masses c jacobians links pending residual (work .steps) (workAfter .steps)
-      → outcomeOf n before (next (iteratedOut c limit pending residual) (finishedOf (p .table) (p .accumulated) (p .centres))) ≡ record { answer = answer; lent = after } → workAfter .table ≡ clearedTable (work .table)
-      → SolveHeld fits p mode limit n before after answer work workAfter
-  solved-on m em q alike masses jacobians links pending residual c after answer workAfter h held d et =
+  solved-on : (x : Run (Bool × ℕ × Iterate) ℕ) (after : Lent) (answer : PositionPcg) (workAfter : WorkMemory) → not b ≡ false → countedOf mode p limit ≡ x
+      → outcomeAt place n before (next x (finishedOf (p .table) (p .accumulated) (p .centres))) ≡ record { answer = answer; lent = after } → workAfter .steps ≡ clearedSteps (work .steps) → workAfter .table ≡ clearedTable (work .table)
+      → SolveHeld fits p mode limit place n before after answer work workAfter
+  solved-on x after answer workAfter h counted d es et =
       let o : Outcome = record { answer = answer; lent = after } in
-      let counted : countedOf mode p limit ≡ iteratedOut c limit pending residual = sym alike ∙ ap (λ (k : Mode). countedOf k q limit) (sym em) ∙ held .answered in
-      let answers = entry-on p mode n limit before b fits e o h (delivered-of p mode n limit before (iteratedOut c limit pending residual) o counted d) in
-      record { answered = answers; means = entry-means (methodOf fits p mode) limit n before after answer answers; in-place = problem-in-place p mode fits limit apart; memory = after-cleared b fits e work workAfter h (work-cleared work workAfter (held .memory) et) }
+      let answered = entry-on p mode place n limit before b fits e o h (delivered-of p mode place n limit before x o counted d) in
+      record { answered = answered; means = entry-means (methodOf fits p mode) limit place n before after answer answered; in-place = problem-in-place p mode fits limit apart; memory = after-cleared b fits e work workAfter h (work-cleared work workAfter es et) }
+
+-- judged, counted and delivered, of either kind
+module _ (kind : Kind) (rows bodies : ℕ) (numbers : List Float) (words : List ℕ) (masses centres given : List Float) (rules : Rules) (shift : Float) (mode : Mode) (limit : ℕ) (before : Lent) (work : WorkMemory) (fits b : Bool) (e : b ≡ fits)
+    (long : length centres ≡ 3 * placedOf kind bodies) where
+  abbrev problem : Problem
+  problem = solveFor kind rows bodies numbers words masses centres given rules shift
+
+  abbrev table : Table
+  table = tableOf rows bodies numbers words masses
+
+  pub solved-kind : (m : Mode) → m ≡ mode → (placed : ℕ) → placed ≡ placedOf kind bodies → (finite : Bool) → finite ≡ centresFinite (centresIn placed centres)
+      → (opened : Opened) → judge (afterThree (stepsFor kind rows bodies numbers words masses given rules shift finite) limit) ≡ openedOut opened → (place : ℕ) → place ≡ placeOf kind
+      → (jacobians : List Float) (links : List ℕ) (pending residual : List Float) (c : Iterated) (after : Lent) (answer : PositionPcg) (workAfter : WorkMemory) → not b ≡ false
+      → CountHeld m (kindOf kind rows bodies numbers words masses given rules) opened limit masses c jacobians links pending residual (work .steps) (workAfter .steps)
+      → outcomeAt place rows before (next (iteratedOut c limit pending residual) (finishedOf table (accumulatedIn place numbers) (centresIn placed centres))) ≡ record { answer = answer; lent = after } → workAfter .table ≡ clearedTable (work .table)
+      → SolveHeld fits problem mode limit (placeOf kind) rows before after answer work workAfter
+  solved-kind m em placed ep finite ef opened eo place epl jacobians links pending residual c after answer workAfter h held d et =
+      let found = ef ∙ ap (λ (k : ℕ). centresFinite (centresIn k centres)) ep in
+      let counted = counted-of kind rows bodies numbers words masses centres given rules shift m limit finite opened found eo ∙ held .answered in
+      let x = iteratedOut c limit pending residual in
+      let o : Outcome = record { answer = answer; lent = after } in
+      solved-on fits problem mode limit (placeOf kind) rows before work b (solve-apart kind rows bodies numbers words masses centres given rules shift) e x after answer workAfter h
+      (ap (λ (k : Mode). countedOf k problem limit) (sym em) ∙ counted)
+      (delivered-in kind rows bodies numbers words masses centres given rules shift long place placed rows before x o epl ep d) (held .memory) et

@@ -12,35 +12,37 @@ use Rattle.loops.specs.Judge.{AllPass}
 use Rattle.loops.specs.Tabulate.{tabulate}
 use Rattle.loops.proofs.Both.{both}
 use Rattle.loops.proofs.Judge.{judge-going}
-use Rattle.kapitsa_math.specs.declared.vector.Vec3.{Vec3}
 use Rattle.kapitsa_joint.specs.Row.{rowOf, wordsOf}
+use Rattle.kapitsa_joint.specs.Kind.{byKind, placeOf, placedOf}
+use Rattle.kapitsa_joint.specs.declared.kind.Kind.{Kind}
+use Rattle.kapitsa_joint.specs.declared.kind.Kind.the-variants as kinds
 use Rattle.kapitsa_joint.specs.Table.{Table, tableOf}
-use Rattle.rules.specs.Rules.{Rules, ruleLengthsFit, ruledBy, Ruled}
+use Rattle.rules.specs.Rules.{Rules, ruleLengthsFit, Ruled}
 use Rattle.rules.specs.Rows.{ruleIn}
 use Rattle.rules.proofs.Ruled.{passes-28}
 use Rattle.preconditioner.specs.declared.mode.Mode.{Mode}
 use Rattle.position.specs.Problem.{Problem}
+use Rattle.position.specs.Kinds.{GivenRoom}
 use Rattle.position_iteration.specs.Method.{openingOf, openingTests, methodOf}
-use Rattle.position_iteration.specs.Places.{Apart}
-use Rattle.position_iteration.specs.Position.{shiftedProblem}
-use Rattle.position_delivery.specs.Outcome.{Lent, Outcome, proposalOf, outcomeOf}
+use Rattle.position_iteration.specs.Position.{solveFor}
+use Rattle.position_delivery.specs.Outcome.{Lent, Outcome, proposalOf, outcomeAt}
 use Rattle.position_delivery.specs.declared.answer.PositionPcg.{PositionPcg}
 use Rattle.position_delivery.specs.declared.answer.PositionPcg.the-variants as answers
 use Rattle.position_delivery.specs.declared.answer.PositionPcgResult.{PositionPcgResult}
 use Rattle.steps.specs.Solve.{solve}
 use Rattle.work_memory.specs.Work.{WorkMemory}
 use Rattle.pcg.specs.SolveHeld.{SolveHeld}
-use Rattle.pcg.specs.Ruled.{rulesLent, centresLent, NamingRoom, namedBy, SolveRuled}
-use Rattle.pcg.proofs.Entry.{solved-three}
+use Rattle.pcg.specs.Ruled.{rulesLent, residualLent, centresLent, besideLent, NamingRoom, namedBy, SolveRuled}
+use Rattle.pcg.proofs.Entry.{solve-apart, solved-three}
 
 -- ---- an accepted answer has passed what is judged before step 0
-module _ (fits : Bool) (p : Problem) (mode : Mode) (limit n : ℕ) (before after : Lent) {answer : PositionPcg} (answered : outcomeOf n before (solve (methodOf fits p mode) limit) ≡ record { answer = answer; lent = after }) (r : PositionPcgResult)
+module _ (fits : Bool) (p : Problem) (mode : Mode) (limit place n : ℕ) (before after : Lent) {answer : PositionPcg} (answered : outcomeAt place n before (solve (methodOf fits p mode) limit) ≡ record { answer = answer; lent = after }) (r : PositionPcgResult)
     (accepted : answer ≡ answers.Accepted r) where
   accepted-opens : openingOf fits p limit ≡ going tt
   unfolding proposalOf solve on
   accepted-opens = go (openingOf fits p limit) refl
     where
-      told : outcomeOf n before (solve (methodOf fits p mode) limit) .answer ≡ answers.Accepted r
+      told : outcomeAt place n before (solve (methodOf fits p mode) limit) .answer ≡ answers.Accepted r
       told = ap (λ (o : Outcome). o .answer) answered ∙ accepted
 
       go : (o : Run Unit ℕ) → openingOf fits p limit ≡ o → openingOf fits p limit ≡ going tt
@@ -51,22 +53,30 @@ module _ (fits : Bool) (p : Problem) (mode : Mode) (limit n : ℕ) (before after
   unfolding openingOf
   accepted-tests = judge-going (openingTests fits p limit) .0 accepted-opens
 
--- ---- the lengths of the rules and of the centres; r and k are what their tests answered
-module _ (rows words tolerances numbers bodies centres newCentres : ℕ) {r k : Bool} (er : r ≡ rulesLent rows words tolerances numbers) (ek : k ≡ centresLent bodies centres newCentres) where
-  pub lent-tests : (r && k) ≡ (rulesLent rows words tolerances numbers && centresLent bodies centres newCentres)
+-- ---- the lengths of the rules and of what is lent beside the table; r and k are what their tests answered
+module _ (kind : Kind) (rows words tolerances numbers bodies centres newCentres given : ℕ) {r k : Bool} (er : r ≡ rulesLent rows words tolerances numbers) (ek : k ≡ besideLent kind rows bodies centres newCentres given) where
+  pub lent-tests : (r && k) ≡ (rulesLent rows words tolerances numbers && besideLent kind rows bodies centres newCentres given)
   lent-tests = rw (er, ek)
 
-module _ (rows words tolerances numbers bodies centres newCentres : ℕ) {b : Bool} (e : b ≡ (rulesLent rows words tolerances numbers && centresLent bodies centres newCentres)) (h : not b ≡ false) where
-  lent-both : (rulesLent rows words tolerances numbers ≡ true) × (centresLent bodies centres newCentres ≡ true)
-  lent-both = both (rulesLent rows words tolerances numbers) (centresLent bodies centres newCentres) (sym e ∙ not-false b h)
+given-room : (kind : Kind) (given rows : ℕ) → byKind kind true (residualLent rows given) ≡ true → GivenRoom kind given rows
+unfolding residualLent
+given-room kinds.Position given rows h = record { long = λ e. absurd (let z : _≡_ {A = ℕ} 0 1 = cc in omega arith) }
+given-room kinds.Velocity given rows h = record { long = λ _. eqb-true given rows h }
+
+module _ (kind : Kind) (rows words tolerances numbers bodies centres newCentres given : ℕ) {b : Bool} (e : b ≡ (rulesLent rows words tolerances numbers && besideLent kind rows bodies centres newCentres given)) (h : not b ≡ false) where
+  lent-both : (rulesLent rows words tolerances numbers ≡ true) × (besideLent kind rows bodies centres newCentres given ≡ true)
+  lent-both = both (rulesLent rows words tolerances numbers) (besideLent kind rows bodies centres newCentres given) (sym e ∙ not-false b h)
 
   lent-parts : (ruleLengthsFit words tolerances ≡ true) × (eqb numbers rows ≡ true)
   unfolding rulesLent
   lent-parts = both (ruleLengthsFit words tolerances) (eqb numbers rows) (lent-both .0)
 
-  pub lent-centres : (centres ≡ 3 * bodies) × (newCentres ≡ 3 * bodies)
+  pub lent-beside : (centres ≡ 3 * placedOf kind bodies) × (newCentres ≡ 3 * placedOf kind bodies) × GivenRoom kind given rows
   unfolding centresLent
-  lent-centres = let (p, q) = both (eqb centres (3 * bodies)) (eqb newCentres (3 * bodies)) (lent-both .1) in (eqb-true centres (3 * bodies) p, eqb-true newCentres (3 * bodies) q)
+  lent-beside =
+      let (g, c) = both (byKind kind true (residualLent rows given)) (centresLent (placedOf kind bodies) centres newCentres) (lent-both .1) in
+      let (p, q) = both (eqb centres (3 * placedOf kind bodies)) (eqb newCentres (3 * placedOf kind bodies)) c in
+      (eqb-true centres (3 * placedOf kind bodies) p, eqb-true newCentres (3 * placedOf kind bodies) q, given-room kind given rows g)
 
   pub lent-rules : (3 * tolerances ≤ words) × (tolerances ≤ 64)
   unfolding ruleLengthsFit
@@ -79,36 +89,36 @@ module _ (rows words tolerances numbers bodies centres newCentres : ℕ) {b : Bo
   lent-numbers = eqb-true numbers rows (lent-parts .1)
 
 -- ---- what takes the rules has the rows' words beside it
-pub naming-room : (fits : Bool) (p : Problem) (mode : Mode) (limit n : ℕ) (before after : Lent) {answer : PositionPcg} {work workAfter : WorkMemory} {numbers words : ℕ} → SolveHeld fits p mode limit n before after answer work workAfter
+pub naming-room : (fits : Bool) (p : Problem) (mode : Mode) (limit place n : ℕ) (before after : Lent) {answer : PositionPcg} {work workAfter : WorkMemory} {numbers words : ℕ} → SolveHeld fits p mode limit place n before after answer work workAfter
     → (fits ≡ true → words ≡ 8 * n) → numbers ≡ n → NamingRoom answer numbers words
 unfolding AllPass
-naming-room fits p mode limit n before after held long e = record {
-  room = λ r a. let w = long (accepted-tests fits p mode limit n before after (held .answered) r a .0) in omega arith;
+naming-room fits p mode limit place n before after held long e = record {
+  room = λ r a. let w = long (accepted-tests fits p mode limit place n before after (held .answered) r a .0) in omega arith;
 }
 
--- ---- the entry; b is what the test of the rules' and the centres' lengths answered
-module _ (s : Rules) (rows bodies : ℕ) (numbers : List Float) (words : List ℕ) (masses : List Float) (shift : Float) (centre : ℕ → Vec3) (mode : Mode) (limit : ℕ) (before : Lent) (named : List ℕ) (work : WorkMemory) (a b q : Bool) (e : b ≡ a) where
+-- ---- the entry, of either kind; b is what the test of the lengths of what is lent beside the table answered
+module _ (kind : Kind) (s : Rules) (rows bodies : ℕ) (numbers : List Float) (words : List ℕ) (masses centres given : List Float) (shift : Float) (mode : Mode) (limit : ℕ) (before : Lent) (named : List ℕ) (work : WorkMemory) (a b q : Bool) (e : b ≡ a) where
   abbrev t : Table
   t = tableOf rows bodies numbers words masses
 
   abbrev p : Problem
-  p = shiftedProblem t (ruledBy s t) shift centre
+  p = solveFor kind rows bodies numbers words masses centres given s shift
 
-  pub ruled-three : Apart p → not b ≡ true → SolveRuled (a && q) s p mode limit rows before before named named (answers.Refused 3) work work
-  ruled-three apart h =
+  pub ruled-three : not b ≡ true → SolveRuled (a && q) s p mode limit (placeOf kind) rows before before named named (answers.Refused 3) work work
+  ruled-three h =
       let none : a ≡ false = sym e ∙ not-true b h in
       record {
-        held = solved-three (a && q) p mode limit rows before work (a && q) apart refl (rw none);
+        held = solved-three (a && q) p mode limit (placeOf kind) rows before work (a && q) (solve-apart kind rows bodies numbers words masses centres given s shift) refl (rw none);
         named = refl;
         ruled = λ r c. absurd (let z : _≡_ {A = ℕ} 0 1 = cc in omega arith);
       }
 
-  module _ {after : Lent} {answer : PositionPcg} {workAfter : WorkMemory} (h : not b ≡ false) (held : SolveHeld q p mode limit rows before after answer work workAfter) where
+  module _ {after : Lent} {answer : PositionPcg} {workAfter : WorkMemory} (h : not b ≡ false) (held : SolveHeld q p mode limit (placeOf kind) rows before after answer work workAfter) where
     each-ruled : (r : PositionPcgResult) → answer ≡ answers.Accepted r → Ruled s t
     unfolding AllPass
-    each-ruled r c = passes-28 s t .0 (accepted-tests q p mode limit rows before after (held .answered) r c .1 .1 .1 .1 .0)
+    each-ruled r c = passes-28 s t .0 (accepted-tests q p mode limit (placeOf kind) rows before after (held .answered) r c .1 .1 .1 .1 .0)
 
-    pub ruled-on : (n : ℕ) (after-named : List ℕ) → n ≡ rows → after-named ≡ namedBy answer (ruleIn s words) n named → SolveRuled (a && q) s p mode limit rows before after named after-named answer work workAfter
+    pub ruled-on : (n : ℕ) (after-named : List ℕ) → n ≡ rows → after-named ≡ namedBy answer (ruleIn s words) n named → SolveRuled (a && q) s p mode limit (placeOf kind) rows before after named after-named answer work workAfter
     unfolding rowOf wordsOf
     ruled-on n after-named en l =
         let passed : a ≡ true = sym e ∙ not-false b h in

@@ -1,25 +1,32 @@
-// The solve by rules that are lent in the right lengths: solve_position_pcg_prepared of pcg.rs, with every refusal of documents 01 and 02 but 3 of the rules.
+// The solve of either kind, by rules, centres and a residual that are lent in the right lengths: solve_position_pcg_prepared and solve_velocity_pcg_prepared of pcg.rs, with every refusal of documents 01 and 02 but 3 of these.
 ghost use mathlib.Core.Path.{_≡_};
 ghost use Prim.Native.Nat.{_*_, _≤_};
 ghost use lib.ListN.{length};
 ghost use Rattle.rules.specs.Rows.{rulesIn};
 ghost use Rattle.preconditioner.specs.Mode.{modeOf};
-ghost use Rattle.position_iteration.specs.Position.{positionOf};
+ghost use Rattle.kapitsa_joint.specs.Kind.{placeOf, placedOf};
+ghost use Rattle.position.specs.Kinds.{GivenRoom};
+ghost use Rattle.position_iteration.specs.Position.{solveFor};
 ghost use Rattle.work_memory.specs.Work.{workMemory};
 ghost use Rattle.work_memory.specs.Lengths.{passes3};
 ghost use Rattle.pcg.specs.SolveHeld.{SolveHeld};
 use joint_refusals::centres_finite;
 use joint_refusals::counts_fit;
+use kapitsa_joint::Kind;
+use kapitsa_joint::place_of;
+use kapitsa_joint::placed_of;
 use position_delivery::PositionPcg;
 use position_delivery::deliver;
 use position_steps::count_steps;
+use position_steps::open_table;
 use preconditioner::mode_of;
 use work_memory::factor_fits;
 use work_memory::table_fits;
 use work_memory::vectors_fit;
 
-// Solution, impulses, centres and accumulated multipliers are written only where the answer is accepted; the work memory is +0.0 (integers 0) afterwards, except after refusal 3, which writes nothing.
+// Solution, impulses, centres and the accumulated numbers are written only where the answer is accepted; the work memory is +0.0 (integers 0) afterwards, except after refusal 3, which writes nothing.
 pub fn solve_by_rules(
+    kind: Kind,
     numbers: &mut [f64],
     words: &[u32],
     masses: &[f64],
@@ -28,6 +35,7 @@ pub fn solve_by_rules(
     bodies: u32,
     rule_words: &[u32],
     rule_tolerances: &[f64],
+    given: &[f64],
     limit: u32,
     mode: u32,
     shift: f64,
@@ -48,9 +56,9 @@ pub fn solve_by_rules(
     values: &mut [f64],
 ) -> PositionPcg
     requires { ⌜ 3 * length (now «rule_tolerances») ≤ length (now «rule_words») ⌝ }
-    requires { ⌜ (length (now centres) ≡ 3 * bodies) × (length (now «new_centres») ≡ 3 * bodies) ⌝ }
+    requires { ⌜ (length (now centres) ≡ 3 * placedOf kind bodies) × (length (now «new_centres») ≡ 3 * placedOf kind bodies) × GivenRoom kind (length (now given)) rows ⌝ }
     ensures { λ r. ⌜ SolveHeld (passes3 rows bodies mode (now (numbers .entry)) (now (words .entry)) (now (masses .entry)) (now (solution .entry)) (now (impulses .entry)) (workMemory (now (jacobians .entry)) (now (links .entry)) (now (tolerances .entry)) (now (diagonal .entry)) (now (residual .entry)) (now (pending .entry)) (now (direction .entry)) (now (product .entry)) (now («body_impulses» .entry)) (now (pattern .entry)) (now (order .entry)) (now (values .entry))))
-        (positionOf rows bodies (now (numbers .entry)) (now (words .entry)) (now (masses .entry)) (now (centres .entry)) (rulesIn (now («rule_words» .entry)) (now («rule_tolerances» .entry))) shift) (modeOf mode shift) limit rows
+        (solveFor kind rows bodies (now (numbers .entry)) (now (words .entry)) (now (masses .entry)) (now (centres .entry)) (now (given .entry)) (rulesIn (now («rule_words» .entry)) (now («rule_tolerances» .entry))) shift) (modeOf mode shift) limit (placeOf kind) rows
         record { numbers = now (numbers .entry); solution = now (solution .entry); impulses = now (impulses .entry); centres = now («new_centres» .entry) } record { numbers = now (numbers .exit); solution = now (solution .exit); impulses = now (impulses .exit); centres = now («new_centres» .exit) } r
         (workMemory (now (jacobians .entry)) (now (links .entry)) (now (tolerances .entry)) (now (diagonal .entry)) (now (residual .entry)) (now (pending .entry)) (now (direction .entry)) (now (product .entry)) (now («body_impulses» .entry)) (now (pattern .entry)) (now (order .entry)) (now (values .entry)))
         (workMemory (now (jacobians .exit)) (now (links .exit)) (now (tolerances .exit)) (now (diagonal .exit)) (now (residual .exit)) (now (pending .exit)) (now (direction .exit)) (now (product .exit)) (now («body_impulses» .exit)) (now (pattern .exit)) (now (order .exit)) (now (values .exit))) ⌝ }
@@ -88,8 +96,9 @@ pub fn solve_by_rules(
     if !fits {
         return PositionPcg::Refused(3);
     }
-    let placed = centres_finite(centres, bodies as usize);
-    let counted = count_steps(
+    let placed = placed_of(kind, bodies);
+    let opened = open_table(
+        kind,
         numbers,
         words,
         masses,
@@ -97,10 +106,24 @@ pub fn solve_by_rules(
         bodies,
         rule_words,
         rule_tolerances,
+        given,
+        limit,
+        shift,
+        centres_finite(centres, placed as usize),
+    );
+    let counted = count_steps(
+        opened,
+        kind,
+        numbers,
+        words,
+        masses,
+        rows,
+        bodies,
+        rule_words,
+        rule_tolerances,
+        given,
         limit,
         mode_of(mode, shift),
-        shift,
-        placed,
         jacobians,
         links,
         tolerances,
@@ -117,6 +140,8 @@ pub fn solve_by_rules(
     deliver(
         counted,
         limit,
+        place_of(kind),
+        placed,
         numbers,
         words,
         masses,

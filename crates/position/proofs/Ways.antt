@@ -1,10 +1,10 @@
 -- The ways through the functions that prepare a row. Assumes nothing.
 use Prim.Native.Nat.{ℕ}
-use mathlib.Core.Path.{_≡_}
+use mathlib.Core.Path.{_≡_, _∙_}
 use mathlib.Core.Bool.{Bool, true, false, not, cond}
 use mathlib.Core.List.{List, [], _∷_}
 use borrow.Author.Tests.{not-true, not-false}
-use lib.Ieee.{Float, binary64, add, neg, le, lt}
+use lib.Ieee.{Float, binary64, add, le, lt}
 use lib.Ieee.Scale.{finite}
 use Rattle.loops.specs.Run.{Run, going, ended, on, next, check}
 use Rattle.loops.specs.Judge.{judge, test}
@@ -16,7 +16,7 @@ use Rattle.kapitsa_joint.specs.Table.{Table, tableOf, tolerancesIn}
 use Rattle.kapitsa_joint.specs.declared.row.ConstraintRow.{ConstraintRow}
 use Rattle.kapitsa_joint.specs.declared.mass.SolverMass.{SolverMass}
 use Rattle.joint_refusals.specs.Refusals.{isValidOf}
-use Rattle.position.specs.Problem.{errorStart, positionProblem}
+use Rattle.position.specs.Problem.{startedProblem}
 use Rattle.position.specs.Prepare.{one, rowDiagonal, passes8, isLow, passes9, rowJudged, preparedDiagonal, preparedResidual}
 
 -- ---- `row_diagonal`
@@ -50,12 +50,12 @@ module _ (d residual tolerance : Float) (t : Bool) (et : t ≡ finite d) where
       judged-low g = rw (← et, not-false t h, l, ← es, g)
 
 -- ---- `prepare_row`
-module _ (rows bodies : ℕ) (numbers : List Float) (words : List ℕ) (masses tolerances : List Float) (i : ℕ) where
+module _ (rows bodies : ℕ) (numbers : List Float) (words : List ℕ) (masses tolerances : List Float) (residual : Float) (i : ℕ) where
   abbrev t : Table
   t = tableOf rows bodies numbers words masses
 
   abbrev rowPrepared : Run (Float × Float) ℕ
-  rowPrepared = next (rowJudged (positionProblem t (tolerancesIn tolerances)) i) (λ _. going (preparedDiagonal t i, preparedResidual t (errorStart t) i))
+  rowPrepared = next (rowJudged (startedProblem false t (tolerancesIn tolerances) (λ _. residual)) i) (λ _. going (preparedDiagonal t i, preparedResidual t (λ _. residual) i))
 
   module _ (v : Bool) (ev : v ≡ isValidOf bodies (rowOf numbers words i)) where
     pub row-seven : not v ≡ true → rowPrepared ≡ ended 7
@@ -63,6 +63,16 @@ module _ (rows bodies : ℕ) (numbers : List Float) (words : List ℕ) (masses t
     row-seven h = rw (← ev, not-true v h)
 
     pub row-on : (r : ConstraintRow) (d : Float) {o : Run (Float × Float) ℕ} → not v ≡ false → r ≡ rowOf numbers words i → d ≡ rowDiagonal (massOf masses) r
-        → diagonalJudged d (neg (r .scalars .error)) (tolerancesIn tolerances i) ≡ o → rowPrepared ≡ o
+        → diagonalJudged d residual (tolerancesIn tolerances i) ≡ o → rowPrepared ≡ o
     unfolding rowJudged preparedDiagonal preparedResidual judge test check on
     row-on r d h er ed e = rw (← ev, not-false v h, ← er, ← ed) e
+
+-- ---- `valid_before`
+module _ (first : Bool) (v : Bool) where
+  pub before-none : not first ≡ true → true ≡ check first v true
+  unfolding check
+  before-none h = rw (not-true first h)
+
+  pub before-all : {r : Bool} → not first ≡ false → r ≡ v → r ≡ check first v true
+  unfolding check
+  before-all h e = e ∙ rw (not-false first h)

@@ -1,4 +1,4 @@
--- Document 01: "Each accumulated_multiplier gains its solution number"; "17. A final impulse or multiplier is not finite."
+-- Document 01: "Each accumulated_multiplier gains its solution number"; "17. A final impulse or multiplier is not finite." Document 02, a: "The accumulated impulse is what changes".
 use Prim.Native.Nat.{ℕ, zero, suc, _+_, _*_}
 use mathlib.Core.Bool.{Bool}
 use mathlib.Core.List.{List}
@@ -7,17 +7,17 @@ use lib.Ieee.{Float, nan, binary64, add}
 use lib.Ieee.Scale.{finite}
 use Rattle.loops.specs.Every.{every}
 
--- accumulated_multiplier is the number 24 of a row's 27
-abbrev pub multiplierIn : List Float → ℕ → Float
-multiplierIn numbers i = getD numbers (27 * i + 24) nan
+-- the number at this place of a row's 27: accumulated_multiplier is 24, accumulated_impulse 25
+abbrev pub accumulatedIn : ℕ → List Float → ℕ → Float
+accumulatedIn place numbers i = getD numbers (27 * i + place) nan
 
-unfoldable pub gainOf : List Float → List Float → ℕ → Float
-gainOf numbers solution i = add binary64 (multiplierIn numbers i) (getD solution i nan)
+unfoldable pub gainOf : ℕ → List Float → List Float → ℕ → Float
+gainOf place numbers solution i = add binary64 (accumulatedIn place numbers i) (getD solution i nan)
 
-unfoldable pub gainsFinite : List Float → List Float → ℕ → Bool
-gainsFinite numbers solution n = every (λ i. finite (gainOf numbers solution i)) n
+unfoldable pub gainsFinite : ℕ → List Float → List Float → ℕ → Bool
+gainsFinite place numbers solution n = every (λ i. finite (gainOf place numbers solution i)) n
 
 -- the rows' numbers, where the first k have gained
-unfoldable pub gained : List Float → List Float → ℕ → List Float
-gained numbers solution zero = numbers
-gained numbers solution (suc k) = set (gained numbers solution k) (27 * k + 24) (gainOf numbers solution k)
+unfoldable pub gained : ℕ → List Float → List Float → ℕ → List Float
+gained place numbers solution zero = numbers
+gained place numbers solution (suc k) = set (gained place numbers solution k) (27 * k + place) (gainOf place numbers solution k)

@@ -1,18 +1,23 @@
-// Step 0: diagonal and residual of every row, 7, 8 and 9 judged row by row.
+// Step 0: diagonal and residual of every row, 7, 8 and 9 judged row by row, or 7 of all rows first.
 ghost use mathlib.Core.Path.{_≡_};
-ghost use mathlib.Core.Bool.{cond};
+ghost use mathlib.Core.Bool.{cond, true, false};
 ghost use mathlib.Core.List.{[], _∷_};
 ghost use Prim.Native.Nat.{_+_, _*_, _<_, _≤_};
 ghost use lib.ListN.{length};
-ghost use Rattle.loops.specs.Run.{going, next};
+ghost use Rattle.loops.specs.Run.{going, next, check};
 ghost use Rattle.loops.specs.Judge.{judge};
+ghost use Rattle.loops.specs.Every.{every};
 ghost use Rattle.loops.specs.Cleared.{plusZero, Free};
+ghost use Rattle.kapitsa_joint.specs.Row.{rowOf};
 ghost use Rattle.kapitsa_joint.specs.Mass.{massOf};
 ghost use Rattle.kapitsa_joint.specs.Table.{tableOf, tolerancesIn};
-ghost use Rattle.position.specs.Problem.{errorStart, positionProblem};
+ghost use Rattle.joint_refusals.specs.Refusals.{isValidOf};
+ghost use Rattle.mass_operator.specs.Flat.{coefficients};
+ghost use Rattle.position.specs.Problem.{startedProblem};
 ghost use Rattle.position.specs.Prepare.{one, rowDiagonal, passes8, isLow, passes9, rowJudged, preparedDiagonal, preparedResidual};
 ghost use Rattle.position.specs.Answers.{rowOut, BegunHeld};
 use joint_refusals::is_valid_at;
+use joint_refusals::rows_valid;
 use kapitsa_joint::ConstraintRow;
 use kapitsa_joint::mass_at;
 use kapitsa_joint::row_at;
@@ -79,22 +84,34 @@ fn prepare_row(
     rows: usize,
     bodies: u32,
     tolerances: &[f64],
+    residual: f64,
     i: usize,
 ) -> RowAnswer
     requires { ⌜ (27 * rows ≤ length (now numbers)) × (8 * rows ≤ length (now words)) × (10 * bodies ≤ length (now masses)) × (rows ≤ length (now tolerances)) × (i < rows) ⌝ }
-    ensures { λ r. ⌜ next (rowJudged (positionProblem (tableOf rows bodies (now (numbers .entry)) (now (words .entry)) (now (masses .entry))) (tolerancesIn (now (tolerances .entry)))) i)
-        (λ _. going (preparedDiagonal (tableOf rows bodies (now (numbers .entry)) (now (words .entry)) (now (masses .entry))) i, preparedResidual (tableOf rows bodies (now (numbers .entry)) (now (words .entry)) (now (masses .entry))) (errorStart (tableOf rows bodies (now (numbers .entry)) (now (words .entry)) (now (masses .entry)))) i)) ≡ rowOut r ⌝ }
+    ensures { λ r. ⌜ next (rowJudged (startedProblem false (tableOf rows bodies (now (numbers .entry)) (now (words .entry)) (now (masses .entry))) (tolerancesIn (now (tolerances .entry))) (λ _. residual)) i)
+        (λ _. going (preparedDiagonal (tableOf rows bodies (now (numbers .entry)) (now (words .entry)) (now (masses .entry))) i, preparedResidual (tableOf rows bodies (now (numbers .entry)) (now (words .entry)) (now (masses .entry))) (λ _. residual) i)) ≡ rowOut r ⌝ }
 {
     if !is_valid_at(numbers, words, i, bodies) {
         return RowAnswer::Refused(7);
     }
     let row = row_at(numbers, words, i);
-    let scalars = row.scalars;
-    judge_diagonal(row_diagonal(masses, row), -scalars.error, tolerances[i])
+    judge_diagonal(row_diagonal(masses, row), residual, tolerances[i])
 }
 
-// Diagonal and residual of step 0. After a refusal they are left free.
+// 7 of all rows, where it comes before any 8 and 9: true where it does not apply.
+fn valid_before(valid_first: bool, numbers: &[f64], words: &[u32], rows: usize, bodies: u32) -> bool
+    requires { ⌜ (27 * rows ≤ length (now numbers)) × (8 * rows ≤ length (now words)) ⌝ }
+    ensures { λ r. ⌜ r ≡ check «valid_first» (every (λ i. isValidOf bodies (rowOf (now (numbers .entry)) (now (words .entry)) i)) rows) true ⌝ }
+{
+    if !valid_first {
+        return true;
+    }
+    rows_valid(numbers, words, rows, bodies)
+}
+
+// Diagonal and residual of step 0, from the starting residual that stands there. After a refusal both are left free.
 pub fn begin(
+    valid_first: bool,
     numbers: &[f64],
     words: &[u32],
     masses: &[f64],
@@ -104,13 +121,25 @@ pub fn begin(
     residual: &mut [f64],
 ) -> Begun
     requires { ⌜ (27 * length (now diagonal) ≤ length (now numbers)) × (8 * length (now diagonal) ≤ length (now words)) × (10 * bodies ≤ length (now masses)) × (length (now tolerances) ≡ length (now diagonal)) × (length (now residual) ≡ length (now diagonal)) ⌝ }
-    ensures { λ r. ⌜ BegunHeld (positionProblem (tableOf (length (now (diagonal .entry))) bodies (now (numbers .entry)) (now (words .entry)) (now (masses .entry))) (tolerancesIn (now (tolerances .entry)))) r (now (diagonal .exit)) (now (residual .exit)) ⌝ }
+    ensures { λ r. ⌜ BegunHeld (startedProblem «valid_first» (tableOf (length (now (diagonal .entry))) bodies (now (numbers .entry)) (now (words .entry)) (now (masses .entry))) (tolerancesIn (now (tolerances .entry))) (coefficients (now (residual .entry)))) r (now (diagonal .exit)) (now (residual .exit)) ⌝ }
     ensures { λ _. ⌜ Free (now (diagonal .entry)) (now (diagonal .exit)) × Free (now (residual .entry)) (now (residual .exit)) ⌝ }
 {
     let rows = diagonal.len();
+    if !valid_before(valid_first, numbers, words, rows, bodies) {
+        return Begun::Refused(7);
+    }
     let mut i = 0;
     while i < rows {
-        match prepare_row(numbers, words, masses, rows, bodies, tolerances, i) {
+        match prepare_row(
+            numbers,
+            words,
+            masses,
+            rows,
+            bodies,
+            tolerances,
+            residual[i],
+            i,
+        ) {
             RowAnswer::Row(row) => {
                 diagonal[i] = row.diagonal;
                 residual[i] = row.residual;

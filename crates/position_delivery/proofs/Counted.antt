@@ -10,13 +10,12 @@ use Rattle.loops.proofs.Loop.{on-going, on-ended}
 use Rattle.kapitsa_joint.specs.Table.{Table, tableOf}
 use Rattle.kapitsa_joint.specs.Centre.{Centres}
 use Rattle.recurrence.specs.Step.{Iterate}
-use Rattle.position.specs.Problem.{multipliers}
-use Rattle.position.specs.Multipliers.{gained}
+use Rattle.position.specs.Multipliers.{accumulatedIn, gained}
 use Rattle.position_iteration.specs.Standing.{iteratedOut}
 use Rattle.position_iteration.specs.declared.iteration.Iterated.{Iterated}
 use Rattle.position_iteration.specs.declared.iteration.Iterated.the-variants as iterated
 use Rattle.position_delivery.specs.Delivery.{gainedAfter, committedBy, finishedOf}
-use Rattle.position_delivery.specs.Outcome.{Answer, Proposal, proposalOf, committedOf, outcomeOf}
+use Rattle.position_delivery.specs.Outcome.{Answer, Proposal, proposalOf, committedOf, outcomeAt}
 use Rattle.position_delivery.specs.declared.answer.PositionPcg.{PositionPcg}
 use Rattle.position_delivery.specs.declared.answer.PositionPcg.the-variants as answers
 use Rattle.position_delivery.specs.declared.answer.PositionPcgResult.{PositionPcgResult}
@@ -43,37 +42,37 @@ unfolding proposalOf
 counted-refused t accumulated c limit solution impulses new pending residual a k e = ap (proposalOf solution impulses new) (on-ended _ _ _ {a = k} (rw e))
 
 -- ---- `commit`
-module _ (answer : PositionPcg) (numbers solution : List Float) where
-  pub commit-none : (r : PositionPcgResult) → answer ≡ answers.Accepted r → r .iterations ≡ 0 → numbers ≡ committedBy answer numbers solution
+module _ (place : ℕ) (answer : PositionPcg) (numbers solution : List Float) where
+  pub commit-none : (r : PositionPcgResult) → answer ≡ answers.Accepted r → r .iterations ≡ 0 → numbers ≡ committedBy place answer numbers solution
   unfolding committedBy gainedAfter
   commit-none r e z = rw (e, z)
 
-  pub commit-gains : (r : PositionPcgResult) (after : List Float) → answer ≡ answers.Accepted r → (r .iterations ≡ 0 → ⊥) → after ≡ gained numbers solution (length solution) → after ≡ committedBy answer numbers solution
+  pub commit-gains : (r : PositionPcgResult) (after : List Float) → answer ≡ answers.Accepted r → (r .iterations ≡ 0 → ⊥) → after ≡ gained place numbers solution (length solution) → after ≡ committedBy place answer numbers solution
   unfolding committedBy
   commit-gains r after e z g = g ∙ rw e (by (r .iterations) z)
     where
-      by : (k : ℕ) → (k ≡ 0 → ⊥) → gained numbers solution (length solution) ≡ gainedAfter k numbers solution
+      by : (k : ℕ) → (k ≡ 0 → ⊥) → gained place numbers solution (length solution) ≡ gainedAfter place k numbers solution
       by zero z = absurd (z refl)
       by (suc k) z = unfold gainedAfter in refl
 
-  pub commit-refused : (k : ℕ) → answer ≡ answers.Refused k → numbers ≡ committedBy answer numbers solution
+  pub commit-refused : (k : ℕ) → answer ≡ answers.Refused k → numbers ≡ committedBy place answer numbers solution
   unfolding committedBy
   commit-refused k e = rw e
 
 -- ---- `deliver`: both halves
-module _ (numbers masses : List Float) (words : List ℕ) (rows bodies : ℕ) (c : Centres) (limit : ℕ) (pending residual : List Float) (long : length pending ≡ rows) (solution impulses new : List Float) where
+module _ (place : ℕ) (numbers masses : List Float) (words : List ℕ) (rows bodies : ℕ) (c : Centres) (limit : ℕ) (pending residual : List Float) (long : length pending ≡ rows) (solution impulses new : List Float) where
   abbrev table : Table
   table = tableOf rows bodies numbers words masses
 
   abbrev answered : Iterated → Answer
-  answered a = next (iteratedOut a limit pending residual) (finishedOf table (multipliers table) c)
+  answered a = next (iteratedOut a limit pending residual) (finishedOf table (accumulatedIn place numbers) c)
 
-  commits-counted : (a : Iterated) → committedOf rows numbers (answered a) ≡ committedBy (proposalOf solution impulses new (answered a) .answer) numbers (proposalOf solution impulses new (answered a) .solution)
+  commits-counted : (a : Iterated) → committedOf place rows numbers (answered a) ≡ committedBy place (proposalOf solution impulses new (answered a) .answer) numbers (proposalOf solution impulses new (answered a) .solution)
   unfolding on proposalOf committedOf committedBy
-  commits-counted (iterated.Met k) = commits numbers masses words rows bodies true pending residual c k solution impulses new long
-  commits-counted iterated.Limit = commits numbers masses words rows bodies false pending residual c limit solution impulses new long
+  commits-counted (iterated.Met k) = commits place numbers masses words rows bodies true pending residual c k solution impulses new long
+  commits-counted iterated.Limit = commits place numbers masses words rows bodies false pending residual c limit solution impulses new long
   commits-counted (iterated.Refused k) = refl
 
-  pub delivered-both : (a : Iterated) (r : PositionPcg) (numbers₁ solution₁ impulses₁ new₁ : List Float) → proposalOf solution impulses new (answered a) ≡ record { answer = r; solution = solution₁; impulses = impulses₁; centres = new₁ } → numbers₁ ≡ committedBy r numbers solution₁
-      → outcomeOf rows record { numbers = numbers; solution = solution; impulses = impulses; centres = new } (answered a) ≡ record { answer = r; lent = record { numbers = numbers₁; solution = solution₁; impulses = impulses₁; centres = new₁ } }
+  pub delivered-both : (a : Iterated) (r : PositionPcg) (numbers₁ solution₁ impulses₁ new₁ : List Float) → proposalOf solution impulses new (answered a) ≡ record { answer = r; solution = solution₁; impulses = impulses₁; centres = new₁ } → numbers₁ ≡ committedBy place r numbers solution₁
+      → outcomeAt place rows record { numbers = numbers; solution = solution; impulses = impulses; centres = new } (answered a) ≡ record { answer = r; lent = record { numbers = numbers₁; solution = solution₁; impulses = impulses₁; centres = new₁ } }
   delivered-both a r numbers₁ solution₁ impulses₁ new₁ p e = rw (commits-counted a, p, e)

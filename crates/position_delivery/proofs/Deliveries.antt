@@ -16,7 +16,7 @@ use Rattle.loops.specs.Tabulate.{tabulate}
 use Rattle.loops.proofs.Tabulate.{getD-tabulate, length-tabulate}
 use Rattle.loops.proofs.Loop.{on-going, on-ended}
 use Rattle.loops.proofs.Every.{every-same}
-use Rattle.kapitsa_joint.specs.Row.{rowOf, scalarsOf, wordsOf}
+use Rattle.kapitsa_joint.specs.Row.{rowOf, wordsOf}
 use Rattle.kapitsa_joint.specs.Table.{Table, tableOf}
 use Rattle.kapitsa_joint.specs.Mass.{massOf}
 use Rattle.kapitsa_joint.specs.Impulse.{impulseOf}
@@ -31,12 +31,11 @@ use Rattle.mass_operator.proofs.Flat.{flat-holds}
 use Rattle.mass_operator.specs.Applied.{allFiniteOf, appliedOf}
 use Rattle.mass_operator.specs.declared.finite.Applied.{Applied}
 use Rattle.mass_operator.specs.declared.finite.Applied.the-variants as applied
-use Rattle.position.specs.Problem.{multipliers}
-use Rattle.position.specs.Multipliers.{gainOf, gainsFinite, gained}
+use Rattle.position.specs.Multipliers.{accumulatedIn, gainOf, gainsFinite, gained}
 use Rattle.position.specs.Centres.{movedBy}
 use Rattle.position.proofs.Moved.{moved-finite-same, moved-flat-same}
 use Rattle.position_iteration.specs.Method.{gainsOf, maximaIn, impulseBy, finishOf, Delivered}
-use Rattle.position_delivery.specs.Outcome.{withMultipliers, resultOf, proposalOf, committedOf}
+use Rattle.position_delivery.specs.Outcome.{withAccumulated, resultOf, proposalOf, committedOf}
 use Rattle.position_delivery.specs.Delivery.{movedIn, Judged, Shown, acceptedOf, gainedAfter, committedBy, finishedOf}
 use Rattle.loops.specs.Cleared.{zeros}
 use Rattle.position_delivery.specs.declared.answer.PositionPcg.{PositionPcg}
@@ -71,66 +70,79 @@ module _ (j : ℕ → RowJacobian) (numbers pending : List Float) (rows bodies :
   passed true e = refl
   passed false e = absurd (let z : _≡_ {A = ℕ} 0 1 = cc in omega arith)
 
-  module _ (masses centres : List Float) where
-    pub judged-overflow : a ≡ applied.Overflow → Judged false bodies numbers masses centres (impulsesOf j (coefficients pending) rows bodies) pending l
+  module _ (place placed : ℕ) (masses centres : List Float) where
+    pub judged-overflow : a ≡ applied.Overflow → Judged false place placed numbers masses centres (impulsesOf j (coefficients pending) rows bodies) pending l
     judged-overflow t = record { passed = rw (failed _ (all _ refl ∙ t)); summed = summed .summed }
 
-    pub judged-finite : (gains moved : Bool) → a ≡ applied.Done → gains ≡ gainsFinite numbers pending (length pending) → moved ≡ centresFinite (movedIn bodies masses l centres) → Judged (gains && moved) bodies numbers masses centres (impulsesOf j (coefficients pending) rows bodies) pending l
+    pub judged-finite : (gains moved : Bool) → a ≡ applied.Done → gains ≡ gainsFinite place numbers pending (length pending) → moved ≡ centresFinite (movedIn placed masses l centres) → Judged (gains && moved) place placed numbers masses centres (impulsesOf j (coefficients pending) rows bodies) pending l
     judged-finite gains moved t eg em = record { passed = rw (passed _ (all _ refl ∙ t), ← summed .summed, ← eg, ← em); summed = summed .summed }
 
 -- ---- `show`
-module _ (r : Bool) (bodies : ℕ) (numbers masses centres impulses pending l solution₀ impulses₀ centres₀ : List Float) (judged : Judged r bodies numbers masses centres impulses pending l) where
-  pub shown-none : not r ≡ true → Shown false bodies numbers masses centres impulses pending solution₀ impulses₀ centres₀ solution₀ impulses₀ centres₀
+module _ (r : Bool) (place placed : ℕ) (numbers masses centres impulses pending l solution₀ impulses₀ centres₀ : List Float) (judged : Judged r place placed numbers masses centres impulses pending l) where
+  pub shown-none : not r ≡ true → Shown false place placed numbers masses centres impulses pending solution₀ impulses₀ centres₀ solution₀ impulses₀ centres₀
   shown-none h = record { passed = sym (not-true r h) ∙ judged .passed; shown = λ e. absurd (let z : _≡_ {A = ℕ} 0 1 = cc in omega arith); kept = λ _. (refl, refl, refl) }
 
-  pub shown-all : (solution₁ impulses₁ centres₁ : List Float) → not r ≡ false → solution₁ ≡ pending → impulses₁ ≡ l → centres₁ ≡ flatCentres (movedIn bodies masses l centres) → Shown true bodies numbers masses centres impulses pending solution₀ impulses₀ centres₀ solution₁ impulses₁ centres₁
+  pub shown-all : (solution₁ impulses₁ centres₁ : List Float) → not r ≡ false → solution₁ ≡ pending → impulses₁ ≡ l → centres₁ ≡ flatCentres (movedIn placed masses l centres) → Shown true place placed numbers masses centres impulses pending solution₀ impulses₀ centres₀ solution₁ impulses₁ centres₁
   shown-all solution₁ impulses₁ centres₁ h es ei ec = record {
     passed = sym (not-false r h) ∙ judged .passed;
-    shown = λ _. (es, ei ∙ judged .summed, ec ∙ ap (λ (i : List Float). flatCentres (movedIn bodies masses i centres)) (judged .summed));
+    shown = λ _. (es, ei ∙ judged .summed, ec ∙ ap (λ (i : List Float). flatCentres (movedIn placed masses i centres)) (judged .summed));
     kept = λ e. absurd (let z : _≡_ {A = ℕ} 0 1 = cc in omega arith);
   }
 
--- ---- the multipliers of an accepted answer
-with-gained : (numbers solution l : List Float) (n k : ℕ) → k ≤ n → ((i : ℕ) → i < n → getD l i nan ≡ gainOf numbers solution i) → withMultipliers numbers l k ≡ gained numbers solution k
-unfolding withMultipliers gained
-with-gained numbers solution l n zero h g = refl
-with-gained numbers solution l n (suc k) h g = rw (with-gained numbers solution l n k (omega arith) g, g k (omega arith))
+-- ---- the accumulated numbers of an accepted answer
+module _ (place : ℕ) (numbers : List Float) where
+  with-gained : (solution l : List Float) (n k : ℕ) → k ≤ n → ((i : ℕ) → i < n → getD l i nan ≡ gainOf place numbers solution i) → withAccumulated place numbers l k ≡ gained place numbers solution k
+  unfolding withAccumulated gained
+  with-gained solution l n zero h g = refl
+  with-gained solution l n (suc k) h g = rw (with-gained solution l n k (omega arith) g, g k (omega arith))
 
-with-same : (numbers l : List Float) (n k : ℕ) → k ≤ n → ((i : ℕ) → i < n → getD l i nan ≡ getD numbers (27 * i + 24) nan) → withMultipliers numbers l k ≡ numbers
-unfolding withMultipliers
-with-same numbers l n zero h g = refl
-with-same numbers l n (suc k) h g = rw (with-same numbers l n k (omega arith) g, g k (omega arith)) (set-getD numbers (27 * k + 24) nan)
+  with-same : (l : List Float) (n k : ℕ) → k ≤ n → ((i : ℕ) → i < n → getD l i nan ≡ accumulatedIn place numbers i) → withAccumulated place numbers l k ≡ numbers
+  unfolding withAccumulated
+  with-same l n zero h g = refl
+  with-same l n (suc k) h g = rw (with-same l n k (omega arith) g, g k (omega arith)) (set-getD numbers (27 * k + place) nan)
 
-module _ (numbers masses : List Float) (words : List ℕ) (rows bodies : ℕ) where
+  -- document 01: "with count 0 it keeps its bits"
+  pub kept-multipliers : (rows : ℕ) → withAccumulated place numbers (tabulate (accumulatedIn place numbers) rows) rows ≡ numbers
+  kept-multipliers rows = with-same _ rows rows (omega arith) (λ i h. getD-tabulate (accumulatedIn place numbers) rows i nan h)
+
+  gains-at : (rows : ℕ) (solution : List Float) (i : ℕ) → i < rows → getD (gainsOf (accumulatedIn place numbers) rows solution) i nan ≡ gainOf place numbers solution i
+  unfolding gainsOf gainOf
+  gains-at rows solution i h = getD-tabulate (λ i. add binary64 (accumulatedIn place numbers i) (getD solution i nan)) rows i nan h
+
+  gains-long : (rows : ℕ) (solution : List Float) → length (gainsOf (accumulatedIn place numbers) rows solution) ≡ rows
+  unfolding gainsOf
+  gains-long rows solution = length-tabulate (λ i. add binary64 (accumulatedIn place numbers i) (getD solution i nan)) rows
+
+  gained-multipliers : (rows : ℕ) (solution : List Float) → withAccumulated place numbers (gainsOf (accumulatedIn place numbers) rows solution) rows ≡ gained place numbers solution rows
+  gained-multipliers rows solution = with-gained solution _ rows rows (omega arith) (gains-at rows solution)
+
+  gains-finite : (rows : ℕ) (solution : List Float) → allFiniteOf (gainsOf (accumulatedIn place numbers) rows solution) ≡ gainsFinite place numbers solution rows
+  unfolding allFiniteOf gainsFinite
+  gains-finite rows solution = let l = gainsOf (accumulatedIn place numbers) rows solution in ap (every (λ i. finite (getD l i nan))) (gains-long rows solution) ∙ every-same _ _ rows (λ i h. ap finite (gains-at rows solution i h))
+
+-- the three tests of 17
+all-pass : {X : Type 0} (a b d : Bool) (x : X) → (a && (b && d)) ≡ true → next (test a 17) (λ _. next (test b 17) (λ _. next (test d 17) (λ _. going x))) ≡ going x
+unfolding test check on
+all-pass true true true x e = refl
+all-pass true true false x e = absurd (let z : _≡_ {A = ℕ} 0 1 = cc in omega arith)
+all-pass true false d x e = absurd (let z : _≡_ {A = ℕ} 0 1 = cc in omega arith)
+all-pass false b d x e = absurd (let z : _≡_ {A = ℕ} 0 1 = cc in omega arith)
+
+one-fails : {X : Type 0} (a b d : Bool) (x : X) → (a && (b && d)) ≡ false → next (test a 17) (λ _. next (test b 17) (λ _. next (test d 17) (λ _. going x))) ≡ ended 17
+unfolding test check on
+one-fails true true true x e = absurd (let z : _≡_ {A = ℕ} 0 1 = cc in omega arith)
+one-fails true true false x e = refl
+one-fails true false d x e = refl
+one-fails false b d x e = refl
+
+-- ---- `propose_step`
+module _ (place : ℕ) (numbers masses : List Float) (words : List ℕ) (rows bodies : ℕ) where
   abbrev table : Table
   table = tableOf rows bodies numbers words masses
 
-  place : (i : ℕ) → 27 * i + 15 + 9 ≡ 27 * i + 24
-  place i = omega arith
+  abbrev accumulated : ℕ → Float
+  accumulated = accumulatedIn place numbers
 
-  multiplier : (i : ℕ) → table .row i .scalars .«accumulated_multiplier» ≡ getD numbers (27 * i + 24) nan
-  unfolding rowOf scalarsOf
-  multiplier i = ap (λ (k : ℕ). getD numbers k nan) (place i)
-
-  -- document 01: "with count 0 it keeps its bits"
-  pub kept-multipliers : withMultipliers numbers (tabulate (λ i. table .row i .scalars .«accumulated_multiplier») rows) rows ≡ numbers
-  kept-multipliers = with-same numbers _ rows rows (omega arith) (λ i h. getD-tabulate (λ i. table .row i .scalars .«accumulated_multiplier») rows i nan h ∙ multiplier i)
-
-  gain-at : (solution : List Float) (i : ℕ) → add binary64 (table .row i .scalars .«accumulated_multiplier») (getD solution i nan) ≡ gainOf numbers solution i
-  unfolding gainOf
-  gain-at solution i = rw (multiplier i)
-
-  gained-multipliers : (solution : List Float) → withMultipliers numbers (gainsOf (multipliers table) rows solution) rows ≡ gained numbers solution rows
-  unfolding gainsOf
-  gained-multipliers solution = with-gained numbers solution _ rows rows (omega arith) (λ i h. getD-tabulate (λ i. add binary64 (table .row i .scalars .«accumulated_multiplier») (getD solution i nan)) rows i nan h ∙ gain-at solution i)
-
-  gains-finite : (solution : List Float) → allFiniteOf (gainsOf (multipliers table) rows solution) ≡ gainsFinite numbers solution rows
-  unfolding allFiniteOf gainsFinite gainsOf
-  gains-finite solution =
-      ap (every (λ i. finite (getD (tabulate (λ i. add binary64 (table .row i .scalars .«accumulated_multiplier») (getD solution i nan)) rows) i nan))) (length-tabulate (λ i. add binary64 (table .row i .scalars .«accumulated_multiplier») (getD solution i nan)) rows)
-      ∙ every-same _ _ rows (λ i h. ap finite (getD-tabulate (λ i. add binary64 (table .row i .scalars .«accumulated_multiplier») (getD solution i nan)) rows i nan h ∙ gain-at solution i))
-
-  -- ---- `propose_step`
   maxima-in : (pending residual : List Float) → length residual ≡ rows → maximaOf (λ i. dimensionOf (getD words (8 * i + 1) 0)) residual (length residual) ≡ maximaIn table (record { solution = pending; residual = residual })
   unfolding maximaIn rowOf wordsOf
   maxima-in pending residual e = ap (maximaOf (λ i. dimensionOf (getD words (8 * i + 1) 0)) residual) e
@@ -140,25 +152,10 @@ module _ (numbers masses : List Float) (words : List ℕ) (rows bodies : ℕ) wh
     unfolding acceptedOf
     answer-is m l k = accepted ∙ ap (λ (x : Maxima). answers.Accepted (record { converged = flag; iterations = count; «linear_residual_m» = x .linear; «angular_residual_rad» = x .angular })) (maxima-in pending residual long)
 
-    pub proposed-none : (centres solution impulses new solution₁ impulses₁ new₁ : List Float) → count ≡ 0 → length centres ≡ 3 * bodies → solution₁ ≡ pending → impulses₁ ≡ zeros (6 * bodies) → new₁ ≡ centres
-        → proposalOf solution impulses new (finishedOf table (multipliers table) (centresIn bodies centres) (flag, count, record { solution = pending; residual = residual })) ≡ record { answer = r; solution = solution₁; impulses = impulses₁; centres = new₁ }
+    pub proposed-none : (placed : ℕ) (centres solution impulses new solution₁ impulses₁ new₁ : List Float) → count ≡ 0 → length centres ≡ 3 * placed → solution₁ ≡ pending → impulses₁ ≡ zeros (6 * bodies) → new₁ ≡ centres
+        → proposalOf solution impulses new (finishedOf table accumulated (centresIn placed centres) (flag, count, record { solution = pending; residual = residual })) ≡ record { answer = r; solution = solution₁; impulses = impulses₁; centres = new₁ }
     unfolding finishedOf finishOf proposalOf on
-    proposed-none centres solution impulses new solution₁ impulses₁ new₁ z lc es ei ec = rw (z, es, ei, ec, flat-centres-in bodies centres lc, answer-is (tabulate (λ i. table .row i .scalars .«accumulated_multiplier») rows) (zeros (6 * bodies)) centres, z)
-
-  -- the three tests of 17
-  all-pass : {X : Type 0} (a b d : Bool) (x : X) → (a && (b && d)) ≡ true → next (test a 17) (λ _. next (test b 17) (λ _. next (test d 17) (λ _. going x))) ≡ going x
-  unfolding test check on
-  all-pass true true true x e = refl
-  all-pass true true false x e = absurd (let z : _≡_ {A = ℕ} 0 1 = cc in omega arith)
-  all-pass true false d x e = absurd (let z : _≡_ {A = ℕ} 0 1 = cc in omega arith)
-  all-pass false b d x e = absurd (let z : _≡_ {A = ℕ} 0 1 = cc in omega arith)
-
-  one-fails : {X : Type 0} (a b d : Bool) (x : X) → (a && (b && d)) ≡ false → next (test a 17) (λ _. next (test b 17) (λ _. next (test d 17) (λ _. going x))) ≡ ended 17
-  unfolding test check on
-  one-fails true true true x e = absurd (let z : _≡_ {A = ℕ} 0 1 = cc in omega arith)
-  one-fails true true false x e = refl
-  one-fails true false d x e = refl
-  one-fails false b d x e = refl
+    proposed-none placed centres solution impulses new solution₁ impulses₁ new₁ z lc es ei ec = rw (z, es, ei, ec, flat-centres-in placed centres lc, answer-is (tabulate accumulated rows) (zeros (6 * bodies)) centres, z)
 
   -- what the step counted comes to
   module _ (flag : Bool) (pending residual : List Float) where
@@ -178,53 +175,56 @@ module _ (numbers masses : List Float) (words : List ℕ) (rows bodies : ℕ) wh
       moved = movedBy (massOf masses) (impulseBy table step) c
 
       abbrev passes : Bool
-      passes = allFiniteOf totals && (allFiniteOf (gainsOf (multipliers table) rows pending) && centresFinite moved)
+      passes = allFiniteOf totals && (allFiniteOf (gainsOf accumulated rows pending) && centresFinite moved)
 
       abbrev delivery : Delivered
-      delivery = record { accumulated = gainsOf (multipliers table) rows pending; impulses = totals; centres = flatCentres moved; maxima = maximaIn table step }
+      delivery = record { accumulated = gainsOf accumulated rows pending; impulses = totals; centres = flatCentres moved; maxima = maximaIn table step }
 
-      finished : (k : ℕ) → passes ≡ true → finishedOf table (multipliers table) c (flag, suc k, step) ≡ going ((flag, suc k, step), delivery)
+      finished : (k : ℕ) → passes ≡ true → finishedOf table accumulated c (flag, suc k, step) ≡ going ((flag, suc k, step), delivery)
       unfolding finishedOf finishOf
-      finished k t = on-going _ _ _ {s = delivery} (all-pass (allFiniteOf totals) (allFiniteOf (gainsOf (multipliers table) rows pending)) (centresFinite moved) delivery t)
+      finished k t = on-going _ _ _ {s = delivery} (all-pass (allFiniteOf totals) (allFiniteOf (gainsOf accumulated rows pending)) (centresFinite moved) delivery t)
 
-      refused : (k : ℕ) → passes ≡ false → finishedOf table (multipliers table) c (flag, suc k, step) ≡ ended 17
+      refused : (k : ℕ) → passes ≡ false → finishedOf table accumulated c (flag, suc k, step) ≡ ended 17
       unfolding finishedOf finishOf
-      refused k t = on-ended _ _ _ {a = 17} (one-fails (allFiniteOf totals) (allFiniteOf (gainsOf (multipliers table) rows pending)) (centresFinite moved) delivery t)
+      refused k t = on-ended _ _ _ {a = 17} (one-fails (allFiniteOf totals) (allFiniteOf (gainsOf accumulated rows pending)) (centresFinite moved) delivery t)
 
-    module _ (centres jacobians solution impulses new : List Float) (links : List ℕ) (n b : ℕ) (q : Bool) (solution₁ impulses₁ new₁ : List Float) (en : n ≡ rows) (eb : b ≡ bodies) (system : compactSystem rows bodies jacobians links masses ≡ systemOf table)
-        (shown : Shown q b numbers masses centres (impulsesOf (compactOf jacobians links) (coefficients pending) n b) pending solution impulses new solution₁ impulses₁ new₁) (long : length pending ≡ rows) where
-      abbrev placed : Centres
-      placed = centresIn bodies centres
+    module _ (centres jacobians solution impulses new : List Float) (links : List ℕ) (placed n b p : ℕ) (q : Bool) (solution₁ impulses₁ new₁ : List Float) (en : n ≡ rows) (eb : b ≡ bodies) (ep : p ≡ placed) (few : placed ≤ bodies) (system : compactSystem rows bodies jacobians links masses ≡ systemOf table)
+        (shown : Shown q place p numbers masses centres (impulsesOf (compactOf jacobians links) (coefficients pending) n b) pending solution impulses new solution₁ impulses₁ new₁) (long : length pending ≡ rows) where
+      abbrev there : Centres
+      there = centresIn placed centres
 
       impulses-are : impulsesOf (compactOf jacobians links) (coefficients pending) n b ≡ totals
       impulses-are = ap (λ (j : ℕ → RowJacobian). impulsesOf j (coefficients pending) n b) (ap (λ (s : System). s .jacobian) system) ∙ rw (en, eb)
 
-      tests : q ≡ passes placed
-      tests = shown .passed ∙ rw (impulses-are, eb, long, gains-finite pending, moved-finite-same (massOf masses) (impulseOf totals) (impulseBy table step) placed totals-at)
+      placed-at : (k : ℕ) → k < placed → impulseOf totals k ≡ impulseBy table step k
+      placed-at k h = totals-at k (omega arith)
 
-      centres-are : flatCentres (movedIn b masses (impulsesOf (compactOf jacobians links) (coefficients pending) n b) centres) ≡ flatCentres (moved placed)
-      centres-are = rw (impulses-are, eb) (moved-flat-same (massOf masses) (impulseOf totals) (impulseBy table step) placed totals-at)
+      tests : q ≡ passes there
+      tests = shown .passed ∙ rw (impulses-are, ep, long, gains-finite place numbers rows pending, moved-finite-same (massOf masses) (impulseOf totals) (impulseBy table step) there placed-at)
 
-      pub proposed-refused : (count : ℕ) → (count ≡ 0 → ⊥) → q ≡ false → proposalOf solution impulses new (finishedOf table (multipliers table) placed (flag, count, step)) ≡ record { answer = answers.Refused 17; solution = solution₁; impulses = impulses₁; centres = new₁ }
+      centres-are : flatCentres (movedIn p masses (impulsesOf (compactOf jacobians links) (coefficients pending) n b) centres) ≡ flatCentres (moved there)
+      centres-are = rw (impulses-are, ep) (moved-flat-same (massOf masses) (impulseOf totals) (impulseBy table step) there placed-at)
+
+      pub proposed-refused : (count : ℕ) → (count ≡ 0 → ⊥) → q ≡ false → proposalOf solution impulses new (finishedOf table accumulated there (flag, count, step)) ≡ record { answer = answers.Refused 17; solution = solution₁; impulses = impulses₁; centres = new₁ }
       unfolding proposalOf
       proposed-refused zero z t = absurd (z refl)
-      proposed-refused (suc k) z t = let (es, ei, ec) = shown .kept t in ap (proposalOf solution impulses new) (refused placed k (sym tests ∙ t)) ∙ rw (es, ei, ec)
+      proposed-refused (suc k) z t = let (es, ei, ec) = shown .kept t in ap (proposalOf solution impulses new) (refused there k (sym tests ∙ t)) ∙ rw (es, ei, ec)
 
-      pub proposed-all : (count : ℕ) (r : PositionPcg) → (count ≡ 0 → ⊥) → q ≡ true → length residual ≡ rows → r ≡ acceptedOf flag count words residual → proposalOf solution impulses new (finishedOf table (multipliers table) placed (flag, count, step)) ≡ record { answer = r; solution = solution₁; impulses = impulses₁; centres = new₁ }
+      pub proposed-all : (count : ℕ) (r : PositionPcg) → (count ≡ 0 → ⊥) → q ≡ true → length residual ≡ rows → r ≡ acceptedOf flag count words residual → proposalOf solution impulses new (finishedOf table accumulated there (flag, count, step)) ≡ record { answer = r; solution = solution₁; impulses = impulses₁; centres = new₁ }
       unfolding proposalOf
       proposed-all zero r z t lr e = absurd (z refl)
       proposed-all (suc k) r z t lr e =
           let (es, ei, ec) = shown .shown t in
-          ap (proposalOf solution impulses new) (finished placed k (sym tests ∙ t)) ∙ rw (answer-is flag (suc k) pending residual lr r e (gainsOf (multipliers table) rows pending) totals (flatCentres (moved placed)), es, ei ∙ impulses-are, ec ∙ centres-are)
+          ap (proposalOf solution impulses new) (finished there k (sym tests ∙ t)) ∙ rw (answer-is flag (suc k) pending residual lr r e (gainsOf accumulated rows pending) totals (flatCentres (moved there)), es, ei ∙ impulses-are, ec ∙ centres-are)
 
     -- ---- the commit of what is proposed is the definition's
     pub commits : (c : Centres) (count : ℕ) (solution impulses new : List Float) → length pending ≡ rows
-        → committedOf rows numbers (finishedOf table (multipliers table) c (flag, count, step)) ≡ committedBy (proposalOf solution impulses new (finishedOf table (multipliers table) c (flag, count, step)) .answer) numbers (proposalOf solution impulses new (finishedOf table (multipliers table) c (flag, count, step)) .solution)
+        → committedOf place rows numbers (finishedOf table accumulated c (flag, count, step)) ≡ committedBy place (proposalOf solution impulses new (finishedOf table accumulated c (flag, count, step)) .answer) numbers (proposalOf solution impulses new (finishedOf table accumulated c (flag, count, step)) .solution)
     unfolding committedOf committedBy proposalOf gainedAfter finishedOf finishOf on
-    commits c zero solution impulses new long = kept-multipliers
+    commits c zero solution impulses new long = kept-multipliers place numbers rows
     commits c (suc k) solution impulses new long = by (passes c) refl
       where
         by : (b : Bool) → passes c ≡ b
-            → committedOf rows numbers (finishedOf table (multipliers table) c (flag, suc k, step)) ≡ committedBy (proposalOf solution impulses new (finishedOf table (multipliers table) c (flag, suc k, step)) .answer) numbers (proposalOf solution impulses new (finishedOf table (multipliers table) c (flag, suc k, step)) .solution)
-        by true t = rw (finished c k t) (gained-multipliers pending ∙ ap (gained numbers pending) (sym long))
+            → committedOf place rows numbers (finishedOf table accumulated c (flag, suc k, step)) ≡ committedBy place (proposalOf solution impulses new (finishedOf table accumulated c (flag, suc k, step)) .answer) numbers (proposalOf solution impulses new (finishedOf table accumulated c (flag, suc k, step)) .solution)
+        by true t = rw (finished c k t) (gained-multipliers place numbers rows pending ∙ ap (gained place numbers pending) (sym long))
         by false t = rw (refused c k t)

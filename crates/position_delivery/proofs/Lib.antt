@@ -2,3 +2,4 @@
 pub mod Deliveries
 pub mod Counted
 pub mod Answered
+pub mod Accumulated

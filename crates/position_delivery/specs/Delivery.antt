@@ -24,21 +24,21 @@ use Rattle.position_delivery.specs.declared.answer.PositionPcg.the-varia
 
 -- the centres after impulses that a list holds
 abbrev pub movedIn : ℕ → List Float → List Float → List Float → Centres
-movedIn bodies masses impulses centres = movedBy (massOf masses) (impulseOf impulses) (centresIn bodies centres)
+movedIn placed masses impulses centres = movedBy (massOf masses) (impulseOf impulses) (centresIn placed centres)
 
 -- refusal 17, of impulses, multipliers and centres
-abbrev pub passes17 : ℕ → List Float → List Float → List Float → List Float → List Float → Bool
-passes17 bodies numbers masses centres impulses pending = allFiniteOf impulses && (gainsFinite numbers pending (length pending) && centresFinite (movedIn bodies masses impulses centres))
+abbrev pub passes17 : ℕ → ℕ → List Float → List Float → List Float → List Float → List Float → Bool
+passes17 place placed numbers masses centres impulses pending = allFiniteOf impulses && (gainsFinite place numbers pending (length pending) && centresFinite (movedIn placed masses impulses centres))
 
 -- and the impulses in work memory
-pub record Judged (r : Bool) (bodies : ℕ) (numbers masses centres impulses pending bodyImpulses : List Float) : Type 0 where
-  pub passed : r ≡ passes17 bodies numbers masses centres impulses pending
+pub record Judged (r : Bool) (place placed : ℕ) (numbers masses centres impulses pending bodyImpulses : List Float) : Type 0 where
+  pub passed : r ≡ passes17 place placed numbers masses centres impulses pending
   pub summed : bodyImpulses ≡ impulses
 
 -- solution, impulses and centres, or nothing
-pub record Shown (r : Bool) (bodies : ℕ) (numbers masses centres impulses pending solution₀ impulses₀ centres₀ solution₁ impulses₁ centres₁ : List Float) : Type 0 where
-  pub passed : r ≡ passes17 bodies numbers masses centres impulses pending
-  pub shown : r ≡ true → (solution₁ ≡ pending) × (impulses₁ ≡ impulses) × (centres₁ ≡ flatCentres (movedIn bodies masses impulses centres))
+pub record Shown (r : Bool) (place placed : ℕ) (numbers masses centres impulses pending solution₀ impulses₀ centres₀ solution₁ impulses₁ centres₁ : List Float) : Type 0 where
+  pub passed : r ≡ passes17 place placed numbers masses centres impulses pending
+  pub shown : r ≡ true → (solution₁ ≡ pending) × (impulses₁ ≡ impulses) × (centres₁ ≡ flatCentres (movedIn placed masses impulses centres))
   pub kept : r ≡ false → (solution₁ ≡ solution₀) × (impulses₁ ≡ impulses₀) × (centres₁ ≡ centres₀)
 
 -- the answer by the rows' words and the residual
@@ -48,13 +48,13 @@ acceptedOf flag count words residual =
     answers.Accepted (record { converged = flag; iterations = count; «linear_residual_m» = m .linear; «angular_residual_rad» = m .angular })
 
 -- the rows' numbers once an answer with this solution is committed: "Each accumulated_multiplier gains its solution number; with count 0 it keeps its bits"
-unfoldable pub gainedAfter : ℕ → List Float → List Float → List Float
-gainedAfter zero numbers solution = numbers
-gainedAfter (suc count) numbers solution = gained numbers solution (length solution)
+unfoldable pub gainedAfter : ℕ → ℕ → List Float → List Float → List Float
+gainedAfter place zero numbers solution = numbers
+gainedAfter place (suc count) numbers solution = gained place numbers solution (length solution)
 
-unfoldable pub committedBy : PositionPcg → List Float → List Float → List Float
-committedBy (answers.Accepted r) numbers solution = gainedAfter (r .iterations) numbers solution
-committedBy (answers.Refused number) numbers solution = numbers
+unfoldable pub committedBy : ℕ → PositionPcg → List Float → List Float → List Float
+committedBy place (answers.Accepted r) numbers solution = gainedAfter place (r .iterations) numbers solution
+committedBy place (answers.Refused number) numbers solution = numbers
 
 -- flag, count and the step counted, with what is delivered of it
 unfoldable pub finishedOf : Table → (ℕ → Float) → Centres → Bool × ℕ × Iterate → Answer

@@ -25,10 +25,13 @@ pub record Outcome : Type 0 where
   pub answer : PositionPcg
   pub lent : Lent
 
--- the rows' numbers with these accumulated multipliers in the first k rows
-unfoldable pub withMultipliers : List Float → List Float → ℕ → List Float
-withMultipliers numbers multipliers zero = numbers
-withMultipliers numbers multipliers (suc k) = set (withMultipliers numbers multipliers k) (27 * k + 24) (getD multipliers k nan)
+-- the rows' numbers with these at one place of the first k rows' 27: 24 for the accumulated multipliers, 25 for the accumulated impulses (document 02, a)
+unfoldable pub withAccumulated : ℕ → List Float → List Float → ℕ → List Float
+withAccumulated place numbers accumulated zero = numbers
+withAccumulated place numbers accumulated (suc k) = set (withAccumulated place numbers accumulated k) (27 * k + place) (getD accumulated k nan)
+
+abbrev pub withMultipliers : List Float → List Float → ℕ → List Float
+withMultipliers numbers multipliers k = withAccumulated 24 numbers multipliers k
 
 abbrev pub Answer : Type 0
 Answer = Run ((Bool × ℕ × Iterate) × Delivered) ℕ
@@ -48,29 +51,33 @@ unfoldable pub proposalOf : List Float → List Float → List Float → Answer 
 proposalOf solution impulses centres (going ((flag, count, v), f)) = record { answer = answers.Accepted (resultOf flag count f); solution = v .solution; impulses = f .impulses; centres = f .centres }
 proposalOf solution impulses centres (ended number) = record { answer = answers.Refused number; solution = solution; impulses = impulses; centres = centres }
 
--- What is then written into the n rows: their accumulated multipliers.
-unfoldable pub committedOf : ℕ → List Float → Answer → List Float
-committedOf n numbers (going (a, f)) = withMultipliers numbers (f .accumulated) n
-committedOf n numbers (ended number) = numbers
+-- What is then written into the n rows: their accumulated numbers, at this place.
+unfoldable pub committedOf : ℕ → ℕ → List Float → Answer → List Float
+committedOf place n numbers (going (a, f)) = withAccumulated place numbers (f .accumulated) n
+committedOf place n numbers (ended number) = numbers
 
 -- The solve is both.
-abbrev pub outcomeOf : ℕ → Lent → Answer → Outcome
-outcomeOf n before a =
+abbrev pub outcomeAt : ℕ → ℕ → Lent → Answer → Outcome
+outcomeAt place n before a =
     let p = proposalOf (before .solution) (before .impulses) (before .centres) a in
-    record { answer = p .answer; lent = record { numbers = committedOf n (before .numbers) a; solution = p .solution; impulses = p .impulses; centres = p .centres } }
+    record { answer = p .answer; lent = record { numbers = committedOf place n (before .numbers) a; solution = p .solution; impulses = p .impulses; centres = p .centres } }
 
-abbrev pub lentOf : ℕ → Lent → Iterate → Delivered → Lent
-lentOf n before v f = record { numbers = withMultipliers (before .numbers) (f .accumulated) n; solution = v .solution; impulses = f .impulses; centres = f .centres }
+-- of positions
+abbrev pub outcomeOf : ℕ → Lent → Answer → Outcome
+outcomeOf n before a = outcomeAt 24 n before a
+
+abbrev pub lentOf : ℕ → ℕ → Lent → Iterate → Delivered → Lent
+lentOf place n before v f = record { numbers = withAccumulated place (before .numbers) (f .accumulated) n; solution = v .solution; impulses = f .impulses; centres = f .centres }
 
 -- ---- what an answer means, told by document 01's steps: demand 3
-module _ (m : Method Iterate Carried Delivered) (limit n : ℕ) (before : Lent) where
+module _ (m : Method Iterate Carried Delivered) (limit place n : ℕ) (before : Lent) where
   -- Its count is the first step that meets, or the limit; its flag, solution and maxima are those of that step (`Accepted`, `Counted` in steps/specs/Meaning.antt); nothing turns the job back.
   pub record AcceptedAs (r : PositionPcgResult) (after : Lent) : Type 0 where
     pub step : Iterate
     pub delivered : Delivered
     pub accepted : Accepted m limit (r .converged) (r .iterations) step delivered
     pub result-is : r ≡ resultOf (r .converged) (r .iterations) delivered
-    pub lent-is : after ≡ lentOf n before step delivered
+    pub lent-is : after ≡ lentOf place n before step delivered
     pub none-turns-back : (number : ℕ) → ¬ TurnsBack m limit number
 
   -- Its number turns the job back, in its place and none judged before it, and nothing lent is touched.
@@ -78,6 +85,10 @@ module _ (m : Method Iterate Carried Delivered) (limit n : ℕ) (before : Lent) 
     pub turned : TurnsBack m limit number
     pub kept : after ≡ before
 
-  abbrev pub SolveMeaning : PositionPcg → Lent → Type 0
-  SolveMeaning (answers.Accepted r) after = AcceptedAs r after
-  SolveMeaning (answers.Refused number) after = RefusedAs number after
+  abbrev pub MeaningAt : PositionPcg → Lent → Type 0
+  MeaningAt (answers.Accepted r) after = AcceptedAs r after
+  MeaningAt (answers.Refused number) after = RefusedAs number after
+
+-- of positions
+abbrev pub SolveMeaning : Method Iterate Carried Delivered → ℕ → ℕ → Lent → PositionPcg → Lent → Type 0
+SolveMeaning m limit n before answer after = MeaningAt m limit 24 n before answer after

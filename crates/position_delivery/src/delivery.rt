@@ -1,6 +1,6 @@
 // What is delivered of the step counted: 17 is judged before anything is written.
 ghost use mathlib.Core.Path.{_≡_};
-ghost use Prim.Native.Nat.{_*_, _≤_};
+ghost use Prim.Native.Nat.{_*_, _<_, _≤_};
 ghost use lib.ListN.{length};
 ghost use Rattle.kapitsa_joint.specs.Table.{tableOf};
 ghost use Rattle.kapitsa_joint.specs.Centre.{centresIn};
@@ -10,10 +10,10 @@ ghost use Rattle.loops.specs.Run.{next};
 ghost use Rattle.loops.specs.Cleared.{Free};
 ghost use Rattle.work_memory.specs.Work.{tableMemory, clearedTable};
 ghost use Rattle.work_memory.specs.Lengths.{RowsRoom, TableRoom};
-ghost use Rattle.position.specs.Problem.{multipliers};
+ghost use Rattle.position.specs.Multipliers.{accumulatedIn};
 ghost use Rattle.position_iteration.specs.Standing.{iteratedOut};
 ghost use Rattle.position_iteration.specs.Stands.{StandsAfter, Stands};
-ghost use Rattle.position_delivery.specs.Outcome.{proposalOf, outcomeOf};
+ghost use Rattle.position_delivery.specs.Outcome.{proposalOf, outcomeAt};
 ghost use Rattle.position_delivery.specs.Delivery.{Judged, Shown, acceptedOf, committedBy, finishedOf};
 use crate::answer::PositionPcg;
 use crate::answer::PositionPcgResult;
@@ -30,6 +30,7 @@ use work_memory::clear_table;
 
 // 17, of impulses, multipliers and centres: true where it does not apply.
 fn deliverable(
+    place: usize,
     numbers: &[f64],
     masses: &[f64],
     centres: &[f64],
@@ -37,22 +38,25 @@ fn deliverable(
     links: &[u32],
     pending: &[f64],
     bodies: usize,
+    placed: usize,
     body_impulses: &mut [f64],
 ) -> bool
     requires { ⌜ (27 * length (now pending) ≤ length (now numbers)) × (12 * length (now pending) ≤ length (now jacobians)) × (2 * length (now pending) ≤ length (now links)) × (length (now «body_impulses») ≡ 6 * bodies) ⌝ }
-    requires { ⌜ (10 * bodies ≤ length (now masses)) × (3 * bodies ≤ length (now centres)) ⌝ }
+    requires { ⌜ (place < 27) × (placed ≤ bodies) × (10 * bodies ≤ length (now masses)) × (3 * placed ≤ length (now centres)) ⌝ }
     requires { ⌜ Linked (now links) (length (now pending)) bodies ⌝ }
-    ensures { λ r. ⌜ Judged r bodies (now (numbers .entry)) (now (masses .entry)) (now (centres .entry)) (impulsesOf (compactOf (now (jacobians .entry)) (now (links .entry))) (coefficients (now (pending .entry))) (length (now (pending .entry))) bodies) (now (pending .entry)) (now («body_impulses» .exit)) ⌝ }
+    ensures { λ r. ⌜ Judged r place placed (now (numbers .entry)) (now (masses .entry)) (now (centres .entry)) (impulsesOf (compactOf (now (jacobians .entry)) (now (links .entry))) (coefficients (now (pending .entry))) (length (now (pending .entry))) bodies) (now (pending .entry)) (now («body_impulses» .exit)) ⌝ }
 {
     let Applied::Done = global_velocity_impulse(jacobians, links, pending, bodies, body_impulses)
     else {
         return false;
     };
-    multipliers_finite(numbers, pending) & moved_finite(masses, body_impulses, centres, bodies)
+    multipliers_finite(place, numbers, pending)
+        & moved_finite(masses, body_impulses, centres, placed)
 }
 
 // Solution, impulses and centres, or nothing.
 fn show(
+    place: usize,
     numbers: &[f64],
     masses: &[f64],
     centres: &[f64],
@@ -60,17 +64,19 @@ fn show(
     links: &[u32],
     pending: &[f64],
     bodies: usize,
+    placed: usize,
     body_impulses: &mut [f64],
     solution: &mut [f64],
     impulses: &mut [f64],
     new_centres: &mut [f64],
 ) -> bool
     requires { ⌜ (27 * length (now pending) ≤ length (now numbers)) × (12 * length (now pending) ≤ length (now jacobians)) × (2 * length (now pending) ≤ length (now links)) × (length (now «body_impulses») ≡ 6 * bodies) × (length (now solution) ≡ length (now pending)) × (length (now impulses) ≡ 6 * bodies) ⌝ }
-    requires { ⌜ (10 * bodies ≤ length (now masses)) × (3 * bodies ≤ length (now centres)) × (length (now «new_centres») ≡ 3 * bodies) ⌝ }
+    requires { ⌜ (place < 27) × (placed ≤ bodies) × (10 * bodies ≤ length (now masses)) × (3 * placed ≤ length (now centres)) × (length (now «new_centres») ≡ 3 * placed) ⌝ }
     requires { ⌜ Linked (now links) (length (now pending)) bodies ⌝ }
-    ensures { λ r. ⌜ Shown r bodies (now (numbers .entry)) (now (masses .entry)) (now (centres .entry)) (impulsesOf (compactOf (now (jacobians .entry)) (now (links .entry))) (coefficients (now (pending .entry))) (length (now (pending .entry))) bodies) (now (pending .entry)) (now (solution .entry)) (now (impulses .entry)) (now («new_centres» .entry)) (now (solution .exit)) (now (impulses .exit)) (now («new_centres» .exit)) ⌝ }
+    ensures { λ r. ⌜ Shown r place placed (now (numbers .entry)) (now (masses .entry)) (now (centres .entry)) (impulsesOf (compactOf (now (jacobians .entry)) (now (links .entry))) (coefficients (now (pending .entry))) (length (now (pending .entry))) bodies) (now (pending .entry)) (now (solution .entry)) (now (impulses .entry)) (now («new_centres» .entry)) (now (solution .exit)) (now (impulses .exit)) (now («new_centres» .exit)) ⌝ }
 {
     if !deliverable(
+        place,
         numbers,
         masses,
         centres,
@@ -78,13 +84,14 @@ fn show(
         links,
         pending,
         bodies,
+        placed,
         body_impulses,
     ) {
         return false;
     }
     loops::copy(solution, pending);
     loops::copy(impulses, body_impulses);
-    move_centres(masses, body_impulses, centres, bodies, new_centres);
+    move_centres(masses, body_impulses, centres, placed, new_centres);
     true
 }
 
@@ -106,6 +113,8 @@ fn accept(flag: bool, count: u32, words: &[u32], residual: &[f64]) -> PositionPc
 fn propose_step(
     flag: bool,
     count: u32,
+    place: usize,
+    placed: u32,
     numbers: &[f64],
     words: &[u32],
     masses: &[f64],
@@ -122,10 +131,10 @@ fn propose_step(
     new_centres: &mut [f64],
 ) -> PositionPcg
     requires { ⌜ (length (now numbers) ≡ 27 * rows) × (length (now words) ≡ 8 * rows) × (10 * bodies ≤ length (now masses)) × (length (now solution) ≡ rows) × (length (now impulses) ≡ 6 * bodies) ⌝ }
-    requires { ⌜ (length (now centres) ≡ 3 * bodies) × (length (now «new_centres») ≡ 3 * bodies) ⌝ }
+    requires { ⌜ (place < 27) × (placed ≤ bodies) × (length (now centres) ≡ 3 * placed) × (length (now «new_centres») ≡ 3 * placed) ⌝ }
     requires { ⌜ (12 * rows ≤ length (now jacobians)) × (2 * rows ≤ length (now links)) × (length (now pending) ≡ rows) × (length (now residual) ≡ rows) × (length (now «body_impulses») ≡ 6 * bodies) ⌝ }
     requires { ⌜ Stands (tableOf rows bodies (now numbers) (now words) (now masses)) (now masses) (now jacobians) (now links) ⌝ }
-    ensures { λ r. ⌜ proposalOf (now (solution .entry)) (now (impulses .entry)) (now («new_centres» .entry)) (finishedOf (tableOf rows bodies (now (numbers .entry)) (now (words .entry)) (now (masses .entry))) (multipliers (tableOf rows bodies (now (numbers .entry)) (now (words .entry)) (now (masses .entry)))) (centresIn bodies (now (centres .entry))) (flag, count, record { solution = now (pending .entry); residual = now (residual .entry) })) ≡ record { answer = r; solution = now (solution .exit); impulses = now (impulses .exit); centres = now («new_centres» .exit) } ⌝ }
+    ensures { λ r. ⌜ proposalOf (now (solution .entry)) (now (impulses .entry)) (now («new_centres» .entry)) (finishedOf (tableOf rows bodies (now (numbers .entry)) (now (words .entry)) (now (masses .entry))) (accumulatedIn place (now (numbers .entry))) (centresIn placed (now (centres .entry))) (flag, count, record { solution = now (pending .entry); residual = now (residual .entry) })) ≡ record { answer = r; solution = now (solution .exit); impulses = now (impulses .exit); centres = now («new_centres» .exit) } ⌝ }
 {
     if count == 0 {
         loops::copy(solution, pending);
@@ -134,6 +143,7 @@ fn propose_step(
         return accept(flag, count, words, residual);
     }
     if !show(
+        place,
         numbers,
         masses,
         centres,
@@ -141,6 +151,7 @@ fn propose_step(
         links,
         pending,
         wide(bodies),
+        wide(placed),
         body_impulses,
         solution,
         impulses,
@@ -155,6 +166,8 @@ fn propose_step(
 pub fn propose(
     counted: Iterated,
     limit: u32,
+    place: usize,
+    placed: u32,
     numbers: &[f64],
     words: &[u32],
     masses: &[f64],
@@ -171,10 +184,10 @@ pub fn propose(
     new_centres: &mut [f64],
 ) -> PositionPcg
     requires { ⌜ (length (now numbers) ≡ 27 * rows) × (length (now words) ≡ 8 * rows) × (10 * bodies ≤ length (now masses)) × (length (now solution) ≡ rows) × (length (now impulses) ≡ 6 * bodies) ⌝ }
-    requires { ⌜ (length (now centres) ≡ 3 * bodies) × (length (now «new_centres») ≡ 3 * bodies) ⌝ }
+    requires { ⌜ (place < 27) × (placed ≤ bodies) × (length (now centres) ≡ 3 * placed) × (length (now «new_centres») ≡ 3 * placed) ⌝ }
     requires { ⌜ (12 * rows ≤ length (now jacobians)) × (2 * rows ≤ length (now links)) × (length (now pending) ≡ rows) × (length (now residual) ≡ rows) × (length (now «body_impulses») ≡ 6 * bodies) ⌝ }
     requires { ⌜ StandsAfter (tableOf rows bodies (now numbers) (now words) (now masses)) (now masses) counted (now jacobians) (now links) ⌝ }
-    ensures { λ r. ⌜ proposalOf (now (solution .entry)) (now (impulses .entry)) (now («new_centres» .entry)) (next (iteratedOut counted limit (now (pending .entry)) (now (residual .entry))) (finishedOf (tableOf rows bodies (now (numbers .entry)) (now (words .entry)) (now (masses .entry))) (multipliers (tableOf rows bodies (now (numbers .entry)) (now (words .entry)) (now (masses .entry)))) (centresIn bodies (now (centres .entry))))) ≡ record { answer = r; solution = now (solution .exit); impulses = now (impulses .exit); centres = now («new_centres» .exit) } ⌝ }
+    ensures { λ r. ⌜ proposalOf (now (solution .entry)) (now (impulses .entry)) (now («new_centres» .entry)) (next (iteratedOut counted limit (now (pending .entry)) (now (residual .entry))) (finishedOf (tableOf rows bodies (now (numbers .entry)) (now (words .entry)) (now (masses .entry))) (accumulatedIn place (now (numbers .entry))) (centresIn placed (now (centres .entry))))) ≡ record { answer = r; solution = now (solution .exit); impulses = now (impulses .exit); centres = now («new_centres» .exit) } ⌝ }
     ensures { λ _. ⌜ Free (now («body_impulses» .entry)) (now («body_impulses» .exit)) ⌝ }
 {
     let mut flag = true;
@@ -193,6 +206,8 @@ pub fn propose(
     propose_step(
         flag,
         count,
+        place,
+        placed,
         numbers,
         words,
         masses,
@@ -211,25 +226,27 @@ pub fn propose(
 }
 
 // The multipliers of an answer with this solution: with count 0 they keep their bits.
-pub fn commit(answer: PositionPcg, numbers: &mut [f64], solution: &[f64])
-    requires { ⌜ 27 * length (now solution) ≤ length (now numbers) ⌝ }
-    ensures { λ _. ⌜ now (numbers .exit) ≡ committedBy answer (now (numbers .entry)) (now (solution .entry)) ⌝ }
+pub fn commit(place: usize, answer: PositionPcg, numbers: &mut [f64], solution: &[f64])
+    requires { ⌜ (place < 27) × (27 * length (now solution) ≤ length (now numbers)) ⌝ }
+    ensures { λ _. ⌜ now (numbers .exit) ≡ committedBy place answer (now (numbers .entry)) (now (solution .entry)) ⌝ }
 {
     match answer {
         PositionPcg::Accepted(result) => {
             if result.iterations == 0 {
                 return;
             }
-            add_multipliers(numbers, solution);
+            add_multipliers(place, numbers, solution);
         }
         PositionPcg::Refused(number) => {}
     }
 }
 
-// Both halves: proposed, then committed. What the delivery reads of the work memory is cleared.
+// Both halves: proposed, then committed. `place` is where a row has its accumulated number, and `placed` bodies have a centre: all, or for velocities none. What the delivery reads of the work memory is cleared.
 pub fn deliver(
     counted: Iterated,
     limit: u32,
+    place: usize,
+    placed: u32,
     numbers: &mut [f64],
     words: &[u32],
     masses: &[f64],
@@ -246,15 +263,18 @@ pub fn deliver(
     new_centres: &mut [f64],
 ) -> PositionPcg
     requires { ⌜ RowsRoom rows bodies (now numbers) (now words) (now masses) ⌝ }
-    requires { ⌜ (length (now solution) ≡ rows) × (length (now impulses) ≡ 6 * bodies) × (length (now centres) ≡ 3 * bodies) × (length (now «new_centres») ≡ 3 * bodies) ⌝ }
+    requires { ⌜ (length (now solution) ≡ rows) × (length (now impulses) ≡ 6 * bodies) ⌝ }
+    requires { ⌜ (place < 27) × (placed ≤ bodies) × (length (now centres) ≡ 3 * placed) × (length (now «new_centres») ≡ 3 * placed) ⌝ }
     requires { ⌜ TableRoom rows bodies (tableMemory (now jacobians) (now links) (now residual) (now pending) (now «body_impulses»)) ⌝ }
     requires { ⌜ StandsAfter (tableOf rows bodies (now numbers) (now words) (now masses)) (now masses) counted (now jacobians) (now links) ⌝ }
-    ensures { λ r. ⌜ outcomeOf rows record { numbers = now (numbers .entry); solution = now (solution .entry); impulses = now (impulses .entry); centres = now («new_centres» .entry) } (next (iteratedOut counted limit (now (pending .entry)) (now (residual .entry))) (finishedOf (tableOf rows bodies (now (numbers .entry)) (now (words .entry)) (now (masses .entry))) (multipliers (tableOf rows bodies (now (numbers .entry)) (now (words .entry)) (now (masses .entry)))) (centresIn bodies (now (centres .entry))))) ≡ record { answer = r; lent = record { numbers = now (numbers .exit); solution = now (solution .exit); impulses = now (impulses .exit); centres = now («new_centres» .exit) } } ⌝ }
+    ensures { λ r. ⌜ outcomeAt place rows record { numbers = now (numbers .entry); solution = now (solution .entry); impulses = now (impulses .entry); centres = now («new_centres» .entry) } (next (iteratedOut counted limit (now (pending .entry)) (now (residual .entry))) (finishedOf (tableOf rows bodies (now (numbers .entry)) (now (words .entry)) (now (masses .entry))) (accumulatedIn place (now (numbers .entry))) (centresIn placed (now (centres .entry))))) ≡ record { answer = r; lent = record { numbers = now (numbers .exit); solution = now (solution .exit); impulses = now (impulses .exit); centres = now («new_centres» .exit) } } ⌝ }
     ensures { λ _. ⌜ tableMemory (now (jacobians .exit)) (now (links .exit)) (now (residual .exit)) (now (pending .exit)) (now («body_impulses» .exit)) ≡ clearedTable (tableMemory (now (jacobians .entry)) (now (links .entry)) (now (residual .entry)) (now (pending .entry)) (now («body_impulses» .entry))) ⌝ }
 {
     let answer = propose(
         counted,
         limit,
+        place,
+        placed,
         numbers,
         words,
         masses,
@@ -270,7 +290,7 @@ pub fn deliver(
         impulses,
         new_centres,
     );
-    commit(answer, numbers, solution);
+    commit(place, answer, numbers, solution);
     clear_table(jacobians, links, residual, pending, body_impulses);
     answer
 }

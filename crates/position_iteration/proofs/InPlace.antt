@@ -18,14 +18,14 @@ use Rattle.preconditioner.specs.declared.mode.Mode.{Mode}
 use Rattle.preconditioner.proofs.Numbers.{factor-numbers, z-numbers}
 use Rattle.recurrence.specs.Step.{Carried, Iterate}
 use Rattle.position.specs.Problem.{Problem}
-use Rattle.position_iteration.specs.Position.{shiftedProblem}
+use Rattle.position_iteration.specs.Position.{shiftedProblem, movingProblem}
 use Rattle.position.specs.Prepare.{diagonals, diagonalsJudged, rowJudged, rowsJudged, validJudged}
 use Rattle.steps.specs.InPlace.{InPlace}
 use Rattle.steps.specs.Numbers.{Numbers, advancing, orderOf, renewing}
 use Rattle.steps.specs.Solve.{solve}
 use Rattle.steps.proofs.InPlace as steps
 use Rattle.position_iteration.specs.Method.{beginOf, factorHere, firstOf, methodOf, openingOf, openingTests, tableTests, ownerOf}
-use Rattle.position_iteration.specs.Places.{Apart, beginPlace, factorPlace, placesOf, positionPlaces}
+use Rattle.position_iteration.specs.Places.{Apart, beginPlace, factorPlace, placesOf, positionPlaces, velocityPlaces}
 use Rattle.position_iteration.proofs.Parts.{advance-numbers, finish-numbers, first-numbers, renew-numbers}
 
 -- the numbers of tests that come after others
@@ -170,3 +170,14 @@ module _ (fits : Bool) (t : Table) (rules : Rules) (shift : Float) (centre : ℕ
   pub position-in-place : InPlace (methodOf fits (shiftedProblem t (ruledBy rules t) shift centre) mode) positionPlaces limit
   unfolding numbersOf
   position-in-place = problem-in-place (shiftedProblem t (ruledBy rules t) shift centre) mode fits limit (position-apart t rules shift centre)
+
+-- ---- velocities
+pub velocity-apart : (t : Table) (rules : Rules) (shift : Float) (residual : ℕ → Float) → Apart (movingProblem t (ruledBy rules t) shift residual)
+unfolding once stands numbersOf
+velocity-apart t rules shift residual = record { each = refl }
+
+module _ (fits : Bool) (t : Table) (rules : Rules) (shift : Float) (residual : ℕ → Float) (mode : Mode) (limit : ℕ) where
+  -- to be read beside document 02, a: the places are those of `velocityPlaces`
+  pub velocity-in-place : InPlace (methodOf fits (movingProblem t (ruledBy rules t) shift residual) mode) velocityPlaces limit
+  unfolding numbersOf
+  velocity-in-place = problem-in-place (movingProblem t (ruledBy rules t) shift residual) mode fits limit (velocity-apart t rules shift residual)

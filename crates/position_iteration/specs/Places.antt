@@ -30,6 +30,10 @@ placesOf p = record {
 pub record Apart (p : Problem) : Type 0 where
   pub each : once (0 ∷ orderOf (placesOf p)) ≡ true
 
+-- of velocities, to be read beside document 02 a: 20 right after 6, 7 to 9, then 10 to 13 before the count 0 test
+abbrev pub velocityPlaces : Places
+velocityPlaces = record { opening = 3 ∷ (25 ∷ (4 ∷ (27 ∷ (28 ∷ (5 ∷ (6 ∷ (20 ∷ []))))))); begin = 7 ∷ (8 ∷ (9 ∷ (10 ∷ (11 ∷ (12 ∷ (13 ∷ [])))))); factor = [] }
+
 -- of positions, to be read beside documents 01 and 02: 3, 25, 4, 27, 28, 5, 6, then 7 to 9, the count 0 test, 10 to 13
 abbrev pub positionPlaces : Places
 positionPlaces = record { opening = 3 ∷ (25 ∷ (4 ∷ (27 ∷ (28 ∷ (5 ∷ (6 ∷ [])))))); begin = 7 ∷ (8 ∷ (9 ∷ [])); factor = 10 ∷ (11 ∷ (12 ∷ (13 ∷ []))) }

@@ -1,3 +1,4 @@
--- Laws of the solve with work memory of its own.
+-- Laws of the solves with work memory of their own.
 pub mod Lending
+pub mod Moving
 pub mod Rooms

@@ -2,11 +2,13 @@
 ghost use mathlib.Core.Path.{_≡_};
 ghost use Rattle.position_solve.specs.Job.{jobFits};
 use joint_refusals::counts_fit;
-use pcg::centres_lent;
+use kapitsa_joint::Kind;
+use pcg::beside_lent;
 use pcg::rules_lent;
 use work_memory::table_fits;
 
 pub fn job_fits(
+    kind: Kind,
     rows: u32,
     bodies: u32,
     mode: u32,
@@ -20,11 +22,12 @@ pub fn job_fits(
     rule_words: usize,
     rule_tolerances: usize,
     rule_numbers: usize,
+    given: usize,
 ) -> bool
-    ensures { λ r. ⌜ r ≡ jobFits rows bodies mode numbers words masses solution impulses centres «new_centres» «rule_words» «rule_tolerances» «rule_numbers» ⌝ }
+    ensures { λ r. ⌜ r ≡ jobFits kind rows bodies mode numbers words masses solution impulses centres «new_centres» «rule_words» «rule_tolerances» «rule_numbers» given ⌝ }
 {
     rules_lent(rows, rule_words, rule_tolerances, rule_numbers)
-        & centres_lent(bodies, centres, new_centres)
+        & beside_lent(kind, rows, bodies, centres, new_centres, given)
         & (counts_fit(rows, bodies, mode)
             & table_fits(rows, bodies, numbers, words, masses, solution, impulses))
 }

@@ -1,7 +1,7 @@
 -- The ways from step 0 to the loop over the steps. Assumes nothing.
 use Prim.Native.Nat.{ℕ, _<_}
 use mathlib.Core.Path.{_≡_, refl, sym, ap, _∙_, subst}
-use mathlib.Core.Bool.{Bool, true, false}
+use mathlib.Core.Bool.{Bool, true, false, not, _&&_, true≢false, false≢true}
 use mathlib.Core.List.{List}
 use lib.ListN.{length}
 use lib.Ieee.{Float}
@@ -66,38 +66,81 @@ module _ (s : System) (z z′ : List Float → Run (List Float) ℕ) (f g : ℕ 
       ∙ next-same (firstFrom (z′ (v .residual)) (v .residual)) _ _ (λ c. ap (afterLoop limit) (same-turns s z z′ f g agree same v c long limit))
 
 -- ---- other tolerances that agree on the rows
-pub following-same : (mode : Mode) (s : System) (owner : ℕ → ℕ) (diagonal : List Float) (f g : ℕ → Float) (limit : ℕ) (v : Iterate) → ((i : ℕ) → i < s .rows → f i ≡ g i) → length (v .residual) ≡ s .rows → followingOf mode s owner diagonal f limit v ≡ followingOf mode s owner diagonal g limit v
+pub following-same : (first : Bool) (mode : Mode) (s : System) (owner : ℕ → ℕ) (diagonal : List Float) (f g : ℕ → Float) (limit : ℕ) (v : Iterate) → ((i : ℕ) → i < s .rows → f i ≡ g i) → length (v .residual) ≡ s .rows → followingOf first mode s owner diagonal f limit v ≡ followingOf first mode s owner diagonal g limit v
 unfolding followingOf runningOf
-following-same mode s owner diagonal f g limit v same long =
+following-same first mode s owner diagonal f g limit v same long =
     let z = preconditioned mode s owner diagonal in
-    let run : next (factorJudged mode s owner diagonal) (λ _. steppingBy z s f limit v) ≡ next (factorJudged mode s owner diagonal) (λ _. steppingBy z s g limit v) = next-same (factorJudged mode s owner diagonal) _ _ (λ _. stepping-same s z z f g (λ _ _. refl) same limit v long) in
-    rw (meets-same s z z f g (λ _ _. refl) same (v .residual), run)
+    let step : steppingBy z s f limit v ≡ steppingBy z s g limit v = stepping-same s z z f g (λ _ _. refl) same limit v long in
+    let meets = meets-same s z z f g (λ _ _. refl) same (v .residual) in
+    go first meets step
+  where
+    go : (b : Bool) → meetsOf f (v .residual) (s .rows) ≡ meetsOf g (v .residual) (s .rows) → steppingBy (preconditioned mode s owner diagonal) s f limit v ≡ steppingBy (preconditioned mode s owner diagonal) s g limit v → followingOf b mode s owner diagonal f limit v ≡ followingOf b mode s owner diagonal g limit v
+    go true m h = rw (m, h)
+    go false m h = rw (m, h)
 
 -- ---- `run_steps`
-module _ (mode : Mode) (s : System) (owner : ℕ → ℕ) (diagonal : List Float) (tolerance : ℕ → Float) (limit : ℕ) (a : Begun) (x r : List Float) where
-  pub run-refused : (k : ℕ) → a ≡ begun.Refused k → next (startOut a x r) (followingOf mode s owner diagonal tolerance limit) ≡ ended k
+module _ (first : Bool) (mode : Mode) (s : System) (owner : ℕ → ℕ) (diagonal : List Float) (tolerance : ℕ → Float) (limit : ℕ) (a : Begun) (x r : List Float) where
+  abbrev following : Bool → Iterate → Steps
+  following b = followingOf b mode s owner diagonal tolerance limit
+
+  abbrev ran : Steps
+  ran = next (startOut a x r) (following first)
+
+  pub run-refused : (k : ℕ) → a ≡ begun.Refused k → ran ≡ ended k
   run-refused k e = on-ended _ _ _ {a = k} (rw e)
 
   module _ (done : a ≡ begun.Done) (b : Bool) (eb : b ≡ meetsOf tolerance r (length r)) (long : length r ≡ s .rows) where
     tested : (o : Bool) → b ≡ o → meetsOf tolerance r (s .rows) ≡ o
     tested o e = rw (← long) (sym eb ∙ e)
 
-    begins : {o : Steps} → followingOf mode s owner diagonal tolerance limit (iterate x r) ≡ o → next (startOut a x r) (followingOf mode s owner diagonal tolerance limit) ≡ o
+    begins : {o : Steps} → following first (iterate x r) ≡ o → ran ≡ o
     begins h = on-going _ _ _ {s = iterate x r} (rw done) ∙ h
 
-    pub run-met : b ≡ true → next (startOut a x r) (followingOf mode s owner diagonal tolerance limit) ≡ going (true, 0, iterate x r)
+    -- met, where no factor comes first
+    pub run-met : (b && not first) ≡ true → ran ≡ going (true, 0, iterate x r)
     unfolding followingOf check
-    run-met e = begins (rw (tested true e))
+    run-met h = begins (go first b refl h)
+      where
+        go : (f c : Bool) → b ≡ c → (c && not f) ≡ true → following f (iterate x r) ≡ going (true, 0, iterate x r)
+        go false true e q = rw (tested true e)
+        go true true e q = absurd (false≢true q)
+        go f false e q = absurd (false≢true q)
 
-    module _ (miss : b ≡ false) (f : Prepared) (answered : factorJudged mode s owner diagonal ≡ preparedOut f) where
-      missed : {o : Steps} → runningOf mode s owner diagonal tolerance limit (iterate x r) ≡ o → next (startOut a x r) (followingOf mode s owner diagonal tolerance limit) ≡ o
-      unfolding followingOf check
-      missed h = begins (rw (tested false miss) h)
+    -- the factor is refused, whether it comes first or step 0 misses
+    module _ (f : Prepared) (answered : factorJudged mode s owner diagonal ≡ preparedOut f) where
+      pub run-unbuilt : (k : ℕ) → (b && not first) ≡ false → f ≡ prepared.Refused k → ran ≡ ended (refusalOf f)
+      unfolding followingOf runningOf check
+      run-unbuilt k h e = begins (go first b refl h ∙ rw e)
+        where
+          refused : factorJudged mode s owner diagonal ≡ ended k
+          refused = answered ∙ rw e
 
-      pub run-unbuilt : (k : ℕ) → f ≡ prepared.Refused k → next (startOut a x r) (followingOf mode s owner diagonal tolerance limit) ≡ ended (refusalOf f)
-      unfolding runningOf
-      run-unbuilt k e = missed (on-ended _ _ _ {a = k} (answered ∙ rw e) ∙ rw e)
+          go : (g c : Bool) → b ≡ c → (c && not g) ≡ false → following g (iterate x r) ≡ ended k
+          go true c q n = on-ended _ _ _ {a = k} refused
+          go false true q n = absurd (true≢false n)
+          go false false q n = rw (tested false q) (on-ended _ _ _ {a = k} refused)
 
-      pub run-on : (p : Preconditioner) (m : Memory) {o : Steps} → f ≡ prepared.Done p → Holds s owner diagonal m mode p → steppingBy (zIn p (s .rows) m) s tolerance limit (iterate x r) ≡ o → next (startOut a x r) (followingOf mode s owner diagonal tolerance limit) ≡ o
-      unfolding runningOf
-      run-on p m e h q = missed (on-going _ _ _ {s = tt} (answered ∙ rw e) ∙ sym (stepping-same s (zIn p (s .rows) m) (preconditioned mode s owner diagonal) tolerance tolerance (λ y l. holds-same s owner diagonal m y l mode p h) (λ _ _. refl) limit (iterate x r) long) ∙ q)
+      module _ (p : Preconditioner) (built : f ≡ prepared.Done p) where
+        stands : factorJudged mode s owner diagonal ≡ going tt
+        stands = answered ∙ rw built
+
+        -- met, where the factor came first
+        pub run-built : (b && not first) ≡ false → b ≡ true → ran ≡ going (true, 0, iterate x r)
+        unfolding followingOf check
+        run-built n e = begins (go first b refl e n)
+          where
+            go : (g c : Bool) → b ≡ c → c ≡ true → (c && not g) ≡ false → following g (iterate x r) ≡ going (true, 0, iterate x r)
+            go true c q y n = on-going _ _ _ {s = tt} stands ∙ rw (tested true (q ∙ y))
+            go false true q y n = absurd (true≢false n)
+            go false false q y n = absurd (false≢true y)
+
+        pub run-on : (m : Memory) {o : Steps} → b ≡ false → Holds s owner diagonal m mode p → steppingBy (zIn p (s .rows) m) s tolerance limit (iterate x r) ≡ o → ran ≡ o
+        unfolding followingOf runningOf check
+        run-on m {o} miss h q = begins (go first)
+          where
+            step : steppingBy (preconditioned mode s owner diagonal) s tolerance limit (iterate x r) ≡ o
+            step = sym (stepping-same s (zIn p (s .rows) m) (preconditioned mode s owner diagonal) tolerance tolerance (λ y l. holds-same s owner diagonal m y l mode p h) (λ _ _. refl) limit (iterate x r) long) ∙ q
+
+            go : (g : Bool) → following g (iterate x r) ≡ o
+            go true = on-going _ _ _ {s = tt} stands ∙ rw (tested false miss) step
+            go false = rw (tested false miss) (on-going _ _ _ {s = tt} stands ∙ step)

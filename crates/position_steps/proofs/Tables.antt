@@ -1,17 +1,17 @@
 -- The compact table is that of the table, beyond its rows too: there every list has its default. Assumes nothing.
-use Prim.Native.Nat.{ℕ, suc, _+_, _*_, _<_, _≤_}
+use Prim.Native.Nat.{ℕ, _+_, _*_, _<_, _≤_}
 use mathlib.Core.Path.{_≡_, sym, ap, _∙_, fun-ext}
-use mathlib.Core.Bool.{Bool, true}
-use mathlib.Core.List.{List}
+use mathlib.Core.Bool.{true}
+use mathlib.Core.List.{List, _∷_}
 use native.Mathlib.Decide.{decLt}
 use native.Mathlib.Omega.{arith}
 use lib.Dec.{eqb}
 use lib.ListN.{getD, length, List·getD-eq-default}
 use lib.Ieee.{Float, nan}
 use Rattle.loops.specs.Run.{going}
-use Rattle.loops.specs.Judge.{judge, judged, test}
-use Rattle.loops.proofs.Inverse.{next-going}
-use Rattle.loops.proofs.Judge.{test-going}
+use Rattle.loops.specs.Judge.{judged, AllPass}
+use Rattle.loops.proofs.Judge.{judge-going}
+use Rattle.loops.proofs.Same.{judged-each}
 use Rattle.kapitsa_math.specs.Lent.{vecOf}
 use Rattle.kapitsa_math.specs.declared.vector.Vec3.{Vec3}
 use Rattle.kapitsa_joint.specs.Row.{rowOf, wordsOf, jacobianOf}
@@ -22,9 +22,8 @@ use Rattle.joint_refusals.specs.Refusals.{isValidOf}
 use Rattle.joint_refusals.proofs.Valid.{Bodies, valid-bodies}
 use Rattle.compact_table.specs.Compact.{compactOf, Gathered, Linked}
 use Rattle.mass_operator.specs.System.{System, systemOf, compactSystem}
-use Rattle.loops.proofs.Turned.{turned}
 use Rattle.position.specs.Problem.{Problem}
-use Rattle.position.specs.Prepare.{rowJudged}
+use Rattle.position.specs.Prepare.{rowJudged, validTest, diagonalTests}
 
 -- ---- beyond a list's end
 beyond : {X : Type 0} (l : List X) (k : ℕ) (d : X) → length l ≤ k → getD l k d ≡ d
@@ -70,20 +69,9 @@ module _ (p : Problem) (passed : judged (rowJudged p) (p .table .rows) ≡ going
   abbrev t : Table
   t = p .table
 
-  each : (i : ℕ) → i < t .rows → rowJudged p i ≡ going tt
-  unfolding judged
-  each i h = turned (λ i _. rowJudged p i) tt (t .rows) (λ k _. (i : ℕ) → i < k → rowJudged p i ≡ going tt) (λ i h. absurd (omega arith)) (λ k s u l all q i h. step k u all q i (decLt i k) h) (t .rows) (omega arith) tt passed i h
-    where
-      step : (k : ℕ) (u : Unit) → ((i : ℕ) → i < k → rowJudged p i ≡ going tt) → rowJudged p k ≡ going u → (i : ℕ) → Dec (i < k) → i < suc k → rowJudged p i ≡ going tt
-      step k tt all q i (yes h) l = all i h
-      step k tt all q i (no h) l = let e : i ≡ k = omega arith in rw e q
-
   valid : (i : ℕ) → i < t .rows → isValidOf (t .bodies) (t .row i) ≡ true
-  unfolding rowJudged judge
-  valid i h = let g = next-going _ _ _ .0 (each i h) in test-going (isValidOf (t .bodies) (t .row i)) 7 .0 (only (isValidOf (t .bodies) (t .row i)) (g .0) (g .1))
-    where
-      only : (b : Bool) (u : Unit) → test b 7 ≡ going u → test b 7 ≡ going tt
-      only b tt q = q
+  unfolding rowJudged AllPass
+  valid i h = judge-going (validTest p i ∷ diagonalTests p i) .0 (judged-each (rowJudged p) (t .rows) passed i h) .0
 
   linked : (i : ℕ) → i < t .rows → Bodies (t .bodies) (t .row i .words)
   linked i h = valid-bodies (t .bodies) (t .row i) (valid i h)

@@ -1,6 +1,6 @@
 -- What follows step 0: document 01, "If every |residual| ≤ its row's tolerance: accepted with count 0, before any factor is built. Then the recurrence".
 use Prim.Native.Nat.{ℕ}
-use mathlib.Core.Bool.{Bool, true}
+use mathlib.Core.Bool.{Bool, true, false}
 use mathlib.Core.List.{List}
 use lib.Ieee.{Float}
 use Rattle.loops.specs.Run.{Run, going, next, check, turns}
@@ -31,8 +31,10 @@ steppingBy z s tolerance limit v = next (firstFrom (z (v .residual)) (v .residua
 unfoldable pub runningOf : Mode → System → (ℕ → ℕ) → List Float → (ℕ → Float) → ℕ → Iterate → Steps
 runningOf mode s owner diagonal tolerance limit v = next (factorJudged mode s owner diagonal) (λ _. steppingBy (preconditioned mode s owner diagonal) s tolerance limit v)
 
-unfoldable pub followingOf : Mode → System → (ℕ → ℕ) → List Float → (ℕ → Float) → ℕ → Iterate → Steps
-followingOf mode s owner diagonal tolerance limit v = check (meetsOf tolerance (v .residual) (s .rows)) (going (true, 0, v)) (runningOf mode s owner diagonal tolerance limit v)
+-- the count 0 test before the factor or, for velocities, after it: "factors are built before the first convergence test"
+unfoldable pub followingOf : Bool → Mode → System → (ℕ → ℕ) → List Float → (ℕ → Float) → ℕ → Iterate → Steps
+followingOf false mode s owner diagonal tolerance limit v = check (meetsOf tolerance (v .residual) (s .rows)) (going (true, 0, v)) (runningOf mode s owner diagonal tolerance limit v)
+followingOf true mode s owner diagonal tolerance limit v = next (factorJudged mode s owner diagonal) (λ _. check (meetsOf tolerance (v .residual) (s .rows)) (going (true, 0, v)) (steppingBy (preconditioned mode s owner diagonal) s tolerance limit v))
 
 -- ---- what is written: the factor's memory, and what the steps write
 pub record RunFree (before after : Memory) (bodyImpulses product pending residual direction bodyImpulses₁ product₁ pending₁ residual₁ direction₁ : List Float) : Type 0 where

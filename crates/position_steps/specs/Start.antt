@@ -1,7 +1,6 @@
--- What is judged before step 0 and in it, and what stands in the lent memory after it: the compact table is the system of the table.
+-- What is judged in step 0, by what was judged before it, and what stands in the lent memory after it: the compact table is the system of the table.
 use Prim.Native.Nat.{ℕ}
 use mathlib.Core.Path.{_≡_}
-use mathlib.Core.Bool.{true}
 use mathlib.Core.List.{List}
 use lib.Ieee.{Float}
 use Rattle.loops.specs.Run.{Run, going, ended, next}
@@ -13,8 +12,9 @@ use Rattle.position.specs.Problem.{Problem}
 use Rattle.position.specs.Prepare.{rowsJudged, diagonals, residuals}
 use Rattle.position.specs.declared.prepare.Begun.{Begun}
 use Rattle.position.specs.declared.prepare.Begun.the-variants as begun
-use Rattle.position_iteration.specs.Method.{openingOf}
 use Rattle.position_iteration.specs.Stands.{Stands}
+use Rattle.position_steps.specs.Opening.{openedOut}
+use Rattle.position_steps.specs.declared.opening.Opened.{Opened}
 
 abbrev pub startOut : Begun → List Float → List Float → Run Iterate ℕ
 startOut begun.Done pending residual = going (record { solution = pending; residual = residual })
@@ -29,9 +29,9 @@ pub record Started (p : Problem) (masses jacobians : List Float) (links : List �
   pub tolerances-are : tolerances ≡ tabulate (p .tolerance) (p .table .rows)
   pub diagonal-is : diagonal ≡ diagonals (p .table)
 
--- after a refusal all of it is left free: the count clears it
-pub record StartHeld (p : Problem) (limit : ℕ) (masses : List Float) (answer : Begun) (jacobians : List Float) (links : List ℕ) (tolerances diagonal pending residual : List Float) : Type 0 where
-  pub answered : next (openingOf true p limit) (λ _. stepZeroOf p) ≡ startOut answer pending residual
+-- by what was judged before it; after a refusal all of it is left free: the count clears it
+pub record StartHeld (p : Problem) (opened : Opened) (masses : List Float) (answer : Begun) (jacobians : List Float) (links : List ℕ) (tolerances diagonal pending residual : List Float) : Type 0 where
+  pub answered : next (openedOut opened) (λ _. stepZeroOf p) ≡ startOut answer pending residual
   pub started : answer ≡ begun.Done → Started p masses jacobians links tolerances diagonal
 
 -- all that is written

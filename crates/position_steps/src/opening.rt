@@ -1,17 +1,19 @@
-// Refusals 25, 4, 27, 28, 5 and 6, before step 0.
+// Refusals 25, 4, 27, 28, 5, 6 and, of velocities, 20, before step 0.
 ghost use mathlib.Core.Path.{_≡_};
-ghost use Prim.Native.Nat.{_+_, _*_, _≤_};
+ghost use Prim.Native.Nat.{_*_, _≤_};
 ghost use lib.ListN.{length};
 ghost use Rattle.loops.specs.Judge.{judge};
-ghost use Rattle.kapitsa_joint.specs.Row.{scalarsOf, wordsOf};
-ghost use Rattle.joint_refusals.specs.Refusals.{opensOf};
+ghost use Rattle.position.specs.Kinds.{GivenRoom};
 ghost use Rattle.rules.specs.Rows.{rulesIn};
 ghost use Rattle.position_iteration.specs.Method.{passes5, afterThree};
 ghost use Rattle.position_iteration.specs.Position.{stepsFor};
-ghost use Rattle.position_steps.specs.Opening.{openedOut};
+ghost use Rattle.position_steps.specs.Opening.{opensIn, givenFits, openedOut};
 use joint_refusals::masses_finite;
+use joint_refusals::residuals_finite;
 use joint_refusals::rows_open;
+use joint_refusals::velocity_rows_open;
 use joint_refusals::words_fit;
+use kapitsa_joint::Kind;
 use loops::wide;
 use preconditioner::shift_fits;
 use rules::rows_ruled;
@@ -23,9 +25,9 @@ pub enum Opened {
 }
 
 // 5: no rows open nothing.
-fn opens(numbers: &[f64], words: &[u32], rows: u32, limit: u32) -> bool
+fn opens(kind: Kind, numbers: &[f64], words: &[u32], rows: u32, limit: u32) -> bool
     requires { ⌜ (27 * rows ≤ length (now numbers)) × (8 * rows ≤ length (now words)) ⌝ }
-    ensures { λ r. ⌜ r ≡ passes5 rows (λ i. opensOf (scalarsOf (now (numbers .entry)) (27 * i + 15)) (wordsOf (now (words .entry)) (8 * i))) limit ⌝ }
+    ensures { λ r. ⌜ r ≡ passes5 rows (opensIn kind (now (numbers .entry)) (now (words .entry))) limit ⌝ }
 {
     if rows == 0 {
         return true;
@@ -33,11 +35,26 @@ fn opens(numbers: &[f64], words: &[u32], rows: u32, limit: u32) -> bool
     if limit == 0 {
         return false;
     }
-    rows_open(numbers, words, wide(rows))
+    match kind {
+        Kind::Position => rows_open(numbers, words, wide(rows)),
+        Kind::Velocity => velocity_rows_open(numbers, words, wide(rows)),
+    }
 }
 
-// `placed` tells whether the centres are finite.
+// 20, of velocities alone.
+fn given_fits(kind: Kind, given: &[f64], rows: u32) -> bool
+    requires { ⌜ GivenRoom kind (length (now given)) rows ⌝ }
+    ensures { λ r. ⌜ r ≡ givenFits kind (now (given .entry)) rows ⌝ }
+{
+    match kind {
+        Kind::Position => true,
+        Kind::Velocity => residuals_finite(given, wide(rows)),
+    }
+}
+
+// The residual is looked at for velocities alone; `placed` tells whether the centres are finite.
 pub fn open_table(
+    kind: Kind,
     numbers: &[f64],
     words: &[u32],
     masses: &[f64],
@@ -45,12 +62,14 @@ pub fn open_table(
     bodies: u32,
     rule_words: &[u32],
     rule_tolerances: &[f64],
+    given: &[f64],
     limit: u32,
     shift: f64,
     placed: bool,
 ) -> Opened
     requires { ⌜ (27 * rows ≤ length (now numbers)) × (8 * rows ≤ length (now words)) × (10 * bodies ≤ length (now masses)) × (3 * length (now «rule_tolerances») ≤ length (now «rule_words»)) ⌝ }
-    ensures { λ r. ⌜ judge (afterThree (stepsFor rows bodies (now (numbers .entry)) (now (words .entry)) (now (masses .entry)) (rulesIn (now («rule_words» .entry)) (now («rule_tolerances» .entry))) shift placed) limit) ≡ openedOut r ⌝ }
+    requires { ⌜ GivenRoom kind (length (now given)) rows ⌝ }
+    ensures { λ r. ⌜ judge (afterThree (stepsFor kind rows bodies (now (numbers .entry)) (now (words .entry)) (now (masses .entry)) (now (given .entry)) (rulesIn (now («rule_words» .entry)) (now («rule_tolerances» .entry))) shift placed) limit) ≡ openedOut r ⌝ }
 {
     if !shift_fits(shift) {
         return Opened::Refused(25);
@@ -64,11 +83,14 @@ pub fn open_table(
     if !rows_ruled(words, rule_words, rule_tolerances, wide(rows)) {
         return Opened::Refused(28);
     }
-    if !opens(numbers, words, rows, limit) {
+    if !opens(kind, numbers, words, rows, limit) {
         return Opened::Refused(5);
     }
     if !(masses_finite(masses, wide(bodies)) & placed) {
         return Opened::Refused(6);
+    }
+    if !given_fits(kind, given, rows) {
+        return Opened::Refused(20);
     }
     Opened::Done
 }

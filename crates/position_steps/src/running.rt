@@ -1,4 +1,4 @@
-// What follows step 0: the count 0 test, the factor, the first direction, and the loop.
+// What follows step 0: the count 0 test, the factor, or the factor first, then the first direction, and the loop.
 ghost use mathlib.Core.Path.{_≡_};
 ghost use Prim.Native.Nat.{_*_, _≤_};
 ghost use lib.ListN.{length};
@@ -82,6 +82,7 @@ fn step_on(
 // From how step 0 began. After a refusal all that is written is left free.
 pub fn run_steps(
     begun: Begun,
+    factor_first: bool,
     words: &[u32],
     tolerances: &[f64],
     mode: Mode,
@@ -105,7 +106,7 @@ pub fn run_steps(
     requires { ⌜ Linking begun (now links) rows bodies ⌝ }
     requires { ⌜ Roomy mode rows record { diagonal = now diagonal; pattern = now pattern; order = now order; values = now values } ⌝ }
     requires { ⌜ (length (now «body_impulses») ≡ 6 * bodies) × (length (now product) ≡ rows) × (length (now pending) ≡ rows) × (length (now residual) ≡ rows) × (length (now direction) ≡ rows) ⌝ }
-    ensures { λ r. ⌜ next (startOut begun (now (pending .entry)) (now (residual .entry))) (followingOf mode (compactSystem rows bodies (now (jacobians .entry)) (now (links .entry)) (now (masses .entry))) (jointsIn (now (words .entry))) (now (diagonal .entry)) (tolerancesIn (now (tolerances .entry))) limit)
+    ensures { λ r. ⌜ next (startOut begun (now (pending .entry)) (now (residual .entry))) (followingOf «factor_first» mode (compactSystem rows bodies (now (jacobians .entry)) (now (links .entry)) (now (masses .entry))) (jointsIn (now (words .entry))) (now (diagonal .entry)) (tolerancesIn (now (tolerances .entry))) limit)
         ≡ iteratedOut r limit (now (pending .exit)) (now (residual .exit)) ⌝ }
     ensures { λ _. ⌜ RunFree record { diagonal = now (diagonal .entry); pattern = now (pattern .entry); order = now (order .entry); values = now (values .entry) } record { diagonal = now (diagonal .exit); pattern = now (pattern .exit); order = now (order .exit); values = now (values .exit) } (now («body_impulses» .entry)) (now (product .entry)) (now (pending .entry)) (now (residual .entry)) (now (direction .entry)) (now («body_impulses» .exit)) (now (product .exit)) (now (pending .exit)) (now (residual .exit)) (now (direction .exit)) ⌝ }
 {
@@ -115,7 +116,8 @@ pub fn run_steps(
             return Iterated::Refused(number);
         }
     }
-    if position_vector_converged(tolerances, residual) {
+    let meets = position_vector_converged(tolerances, residual);
+    if meets & !factor_first {
         return Iterated::Met(0);
     }
     let built = build_preconditioner(
@@ -134,6 +136,9 @@ pub fn run_steps(
     let Prepared::Done(preconditioner) = built else {
         return Iterated::Refused(refusal_of(built));
     };
+    if meets {
+        return Iterated::Met(0);
+    }
     step_on(
         tolerances,
         preconditioner,

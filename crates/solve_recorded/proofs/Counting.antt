@@ -8,9 +8,10 @@ use native.Mathlib.Omega.{arith}
 use lib.Dec.{eqb, ltb}
 use lib.ListN.{length}
 use borrow.Author.Tests.{lt-ltb, le-ltb, ltb-true, not-true, not-false}
+use Rattle.kapitsa_joint.specs.declared.kind.Kind.{Kind}
 use Rattle.little_endian.specs.Words.{halfAt, wordAt}
 use Rattle.solve_replay.specs.Seen.{jobSeen}
-use Rattle.solve_replay.specs.declared.replay.Seen.{Seen}
+use Rattle.solve_replay.specs.declared.answer.Seen.{Seen}
 use Rattle.solve_recorded.specs.Tally.{withOf, missingOf, fromOf, beginsAt, nextOf, jobsOf, listOf}
 use Rattle.solve_recorded.specs.declared.tally.Count.{Count}
 
@@ -31,16 +32,17 @@ module _ (list : List ℕ) where
       go true q = refl
       go false q = absurd (true≢false (sym q))
 
+module _ (kind : Kind) (list : List ℕ) where
   module _ (c r : Count) where
-    pub next-missing : length list ≤ c .end → r ≡ missingOf c → r ≡ nextOf list c
+    pub next-missing : length list ≤ c .end → r ≡ missingOf c → r ≡ nextOf kind list c
     unfolding nextOf
     next-missing h e = e ∙ rw (le-ltb (c .end) (length list) h)
 
-    pub next-seen : (s : Seen) → c .end < length list → s ≡ jobSeen list (c .end) → r ≡ withOf c s → r ≡ nextOf list c
+    pub next-seen : (s : Seen) → c .end < length list → s ≡ jobSeen kind list (c .end) → r ≡ withOf c s → r ≡ nextOf kind list c
     unfolding nextOf
     next-seen s h q e = e ∙ rw (q, lt-ltb (c .end) (length list) h)
 
-    pub list-missing : (b : Bool) → b ≡ beginsAt list (c .end) → not b ≡ true → r ≡ missingOf c → r ≡ listOf list c
+    pub list-missing : (b : Bool) → b ≡ beginsAt list (c .end) → not b ≡ true → r ≡ missingOf c → r ≡ listOf kind list c
     unfolding listOf
     list-missing b q t e = e ∙ rw (← q, not-true b t)
 
@@ -48,16 +50,16 @@ module _ (list : List ℕ) where
   module _ (s : Count) (n : ℕ) where
     pub record Jobs (k : ℕ) (c : Count) : Type 0 where
       pub within : k ≤ n
-      pub counted : c ≡ jobsOf list s k
+      pub counted : c ≡ jobsOf kind list s k
 
     pub jobs-none : Jobs 0 s
     unfolding jobsOf
     jobs-none = record { within = omega arith; counted = refl }
 
-    pub jobs-more : {k : ℕ} {c r : Count} → Jobs k c → k < n → r ≡ nextOf list c → Jobs (k + 1) r
+    pub jobs-more : {k : ℕ} {c r : Count} → Jobs k c → k < n → r ≡ nextOf kind list c → Jobs (k + 1) r
     unfolding jobsOf
-    jobs-more {k} {c} {r} h l e = record { within = omega arith; counted = rw add-one (e ∙ ap (nextOf list) (h .counted)) }
+    jobs-more {k} {c} {r} h l e = record { within = omega arith; counted = rw add-one (e ∙ ap (nextOf kind list) (h .counted)) }
 
-    pub jobs-end : {k : ℕ} {c : Count} (before : Count) (b : Bool) → b ≡ beginsAt list (before .end) → not b ≡ false → n ≡ halfAt list (before .end + 8) → s ≡ fromOf before (before .end + 16) → Jobs k c → n ≤ k → c ≡ listOf list before
+    pub jobs-end : {k : ℕ} {c : Count} (before : Count) (b : Bool) → b ≡ beginsAt list (before .end) → not b ≡ false → n ≡ halfAt list (before .end + 8) → s ≡ fromOf before (before .end + 16) → Jobs k c → n ≤ k → c ≡ listOf kind list before
     unfolding listOf
-    jobs-end {k} {c} before b q t e f h l = let z : k ≡ n = omega (arith, h .within) in h .counted ∙ ap (jobsOf list s) z ∙ rw (← q, not-false b t, e, f)
+    jobs-end {k} {c} before b q t e f h l = let z : k ≡ n = omega (arith, h .within) in h .counted ∙ ap (jobsOf kind list s) z ∙ rw (← q, not-false b t, e, f)

@@ -4,9 +4,11 @@ use mathlib.Core.Bool.{Bool, true, false, not, cond}
 use mathlib.Core.List.{List}
 use lib.Dec.{eqb, ltb}
 use lib.ListN.{length}
+use Rattle.kapitsa_joint.specs.declared.kind.Kind.{Kind}
+use Rattle.kapitsa_joint.specs.declared.kind.Kind.the-variants as kinds
 use Rattle.little_endian.specs.Words.{halfAt, wordAt}
 use Rattle.solve_replay.specs.Seen.{jobSeen}
-use Rattle.solve_replay.specs.declared.replay.Seen.{Seen}
+use Rattle.solve_replay.specs.declared.answer.Seen.{Seen}
 use Rattle.solve_recorded.specs.declared.tally.Count.{Count}
 
 -- one more where the test holds, in 32 bits
@@ -43,17 +45,21 @@ unfoldable pub beginsAt : List ℕ → ℕ → Bool
 beginsAt list at = cond (ltb at (length list)) (eqb (wordAt list at) 3549209602817016139) false
 
 -- the job at the count's end, if the list has bytes there
-unfoldable pub nextOf : List ℕ → Count → Count
-nextOf list c = cond (ltb (c .end) (length list)) (withOf c (jobSeen list (c .end))) (missingOf c)
+unfoldable pub nextOf : Kind → List ℕ → Count → Count
+nextOf kind list c = cond (ltb (c .end) (length list)) (withOf c (jobSeen kind list (c .end))) (missingOf c)
 
-unfoldable pub jobsOf : List ℕ → Count → ℕ → Count
-jobsOf list c zero = c
-jobsOf list c (suc k) = nextOf list (jobsOf list c k)
+unfoldable pub jobsOf : Kind → List ℕ → Count → ℕ → Count
+jobsOf kind list c zero = c
+jobsOf kind list c (suc k) = nextOf kind list (jobsOf kind list c k)
 
 -- the list that begins at the count's end
-unfoldable pub listOf : List ℕ → Count → Count
-listOf list c = cond (beginsAt list (c .end)) (jobsOf list (fromOf c (c .end + 16)) (halfAt list (c .end + 8))) (missingOf c)
+unfoldable pub listOf : Kind → List ℕ → Count → Count
+listOf kind list c = cond (beginsAt list (c .end)) (jobsOf kind list (fromOf c (c .end + 16)) (halfAt list (c .end + 8))) (missingOf c)
 
--- both lists, and nothing after them
-unfoldable pub bothOf : List ℕ → Count
-bothOf list = closedOf (listOf list (listOf list noneYet)) (length list)
+-- two lists of a kind, one after the other
+unfoldable pub bothOf : Kind → List ℕ → Count → Count
+bothOf kind list c = listOf kind list (listOf kind list c)
+
+-- those of positions, those of velocities, and nothing after them
+unfoldable pub allOf : List ℕ → Count
+allOf list = closedOf (bothOf kinds.Velocity list (bothOf kinds.Position list noneYet)) (length list)

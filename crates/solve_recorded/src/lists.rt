@@ -1,9 +1,10 @@
-// The recorded lists, job by job.
+// The recorded lists, job by job: two of positions, then two of velocities (document 02, a).
 ghost use mathlib.Core.Path.{_≡_};
 ghost use Prim.Native.Nat.{_<_};
 ghost use lib.ListN.{length};
-ghost use Rattle.solve_recorded.specs.Tally.{beginsAt, nextOf, listOf, bothOf};
+ghost use Rattle.solve_recorded.specs.Tally.{beginsAt, nextOf, listOf, bothOf, allOf};
 use crate::tally::Count;
+use kapitsa_joint::Kind;
 use packed_list::half;
 use packed_list::word;
 use solve_replay::job_seen;
@@ -22,21 +23,21 @@ fn begins(list: &[u8], at: usize) -> bool
 }
 
 // One job more.
-fn next_counted(list: &[u8], count: Count) -> Count
+fn next_counted(kind: Kind, list: &[u8], count: Count) -> Count
     requires { ⌜ length (now list) < 1000000000 ⌝ }
-    ensures { λ r. ⌜ r ≡ nextOf (now (list .entry)) count ⌝ }
+    ensures { λ r. ⌜ r ≡ nextOf kind (now (list .entry)) count ⌝ }
 {
     let at = count.end;
     if list.len() <= at {
         return count.missing();
     }
-    count.with(job_seen(list, at))
+    count.with(job_seen(kind, list, at))
 }
 
 // The jobs of the list that begins at the count's end.
-fn list_counted(list: &[u8], before: Count) -> Count
+fn list_counted(kind: Kind, list: &[u8], before: Count) -> Count
     requires { ⌜ length (now list) < 1000000000 ⌝ }
-    ensures { λ r. ⌜ r ≡ listOf (now (list .entry)) before ⌝ }
+    ensures { λ r. ⌜ r ≡ listOf kind (now (list .entry)) before ⌝ }
 {
     let at = before.end;
     if !begins(list, at) {
@@ -46,17 +47,26 @@ fn list_counted(list: &[u8], before: Count) -> Count
     let mut count = before.from(at + 16);
     let mut i = 0;
     while i < jobs {
-        count = next_counted(list, count);
+        count = next_counted(kind, list, count);
         i += 1;
     }
     count
 }
 
-pub fn both_counted(list: &[u8]) -> Count
+// Both lists of a kind: the reference's answers, then the definition's.
+fn both_counted(kind: Kind, list: &[u8], before: Count) -> Count
     requires { ⌜ length (now list) < 1000000000 ⌝ }
-    ensures { λ r. ⌜ r ≡ bothOf (now (list .entry)) ⌝ }
+    ensures { λ r. ⌜ r ≡ bothOf kind (now (list .entry)) before ⌝ }
 {
-    let first = list_counted(list, Count::none());
-    let second = list_counted(list, first);
-    second.closed(list.len())
+    let first = list_counted(kind, list, before);
+    list_counted(kind, list, first)
+}
+
+pub fn all_counted(list: &[u8]) -> Count
+    requires { ⌜ length (now list) < 1000000000 ⌝ }
+    ensures { λ r. ⌜ r ≡ allOf (now (list .entry)) ⌝ }
+{
+    let positions = both_counted(Kind::Position, list, Count::none());
+    let velocities = both_counted(Kind::Velocity, list, positions);
+    velocities.closed(list.len())
 }

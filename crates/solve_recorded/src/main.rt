@@ -1,4 +1,4 @@
-// Replays the recorded solves, two lists on one standard input (oracle/README.md has their form, `oracle/run record` makes them), through `solve_position`,
+// Replays the recorded solves, two lists of positions and two of velocities on one standard input (oracle/README.md has their form, `oracle/run record` makes them), through `solve_table`,
 // and prints how many jobs there are, how they end, and how many differ from what is recorded.
 ghost use mathlib.Core.Path.{_≡_};
 ghost use Prim.Native.Nat.{_<_};
@@ -9,7 +9,7 @@ mod tally; // tally.rt: the counts
 
 use libc::STDIN_FILENO;
 use libc::STDOUT_FILENO;
-use lists::both_counted;
+use lists::all_counted;
 
 fn part(n: u32, text: &[u8]) {
     io::print_decimal(STDOUT_FILENO, n as u64);
@@ -19,7 +19,7 @@ fn part(n: u32, text: &[u8]) {
 fn lines(list: &[u8])
     requires { ⌜ length (now list) < 1000000000 ⌝ }
 {
-    let count = both_counted(list);
+    let count = all_counted(list);
     part(count.jobs, b" jobs\n");
     part(count.met, b" accepted with flag 1\n");
     part(count.open, b" accepted with flag 0\n");
@@ -27,11 +27,11 @@ fn lines(list: &[u8])
     part(count.differ, b" differ\n");
 }
 
-// Room for both lists; its length alone matters.
-fn room() -> [u8; 2000000]
-    ensures { λ r. ⌜ 2000000 ≡ length r ⌝ }
+// Room for all lists; its length alone matters.
+fn room() -> [u8; 3600000]
+    ensures { λ r. ⌜ 3600000 ≡ length r ⌝ }
 {
-    [0; 2000000]
+    [0; 3600000]
 }
 
 fn main() {

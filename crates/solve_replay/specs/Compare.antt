@@ -18,19 +18,19 @@ sameNumber x bits = eqb (toBits binary64 x) (toBits binary64 (ofBits binary64 bi
 unfoldable pub sameDoubles : List Float → List ℕ → Bool
 sameDoubles numbers words = every (λ i. sameDouble (getD numbers i nan) (getD words i 0)) (length numbers)
 
--- number i of the rows is as it was read; an accepted answer writes each row's number 24, the accumulated multiplier
-unfoldable pub keptNumber : Bool → List Float → List ℕ → ℕ → Bool
-keptNumber accepted numbers words i = cond (accepted && eqb (i % 27) 24) true (sameNumber (getD numbers i nan) (getD words (35 * (i / 27) + i % 27) 0))
+-- number i of the rows is as it was read; an accepted answer writes each row's number at this place: 24, the accumulated multiplier, or of velocities 25, the accumulated impulse
+unfoldable pub keptNumber : ℕ → Bool → List Float → List ℕ → ℕ → Bool
+keptNumber place accepted numbers words i = cond (accepted && eqb (i % 27) place) true (sameNumber (getD numbers i nan) (getD words (35 * (i / 27) + i % 27) 0))
 
-unfoldable pub keptNumbers : Bool → List Float → List ℕ → Bool
-keptNumbers accepted numbers words = every (keptNumber accepted numbers words) (length numbers)
+unfoldable pub keptNumbers : ℕ → Bool → List Float → List ℕ → Bool
+keptNumbers place accepted numbers words = every (keptNumber place accepted numbers words) (length numbers)
 
--- "solution, new multiplier" of row i
-unfoldable pub sameAnswer : List Float → List Float → List ℕ → ℕ → Bool
-sameAnswer solution numbers words i = sameDouble (getD solution i nan) (getD words (2 * i) 0) && sameDouble (getD numbers (27 * i + 24) nan) (getD words (2 * i + 1) 0)
+-- "solution, new multiplier or new accumulated impulse" of row i
+unfoldable pub sameAnswer : ℕ → List Float → List Float → List ℕ → ℕ → Bool
+sameAnswer place solution numbers words i = sameDouble (getD solution i nan) (getD words (2 * i) 0) && sameDouble (getD numbers (27 * i + place) nan) (getD words (2 * i + 1) 0)
 
-unfoldable pub sameAnswers : List Float → List Float → List ℕ → Bool
-sameAnswers solution numbers words = every (sameAnswer solution numbers words) (length solution)
+unfoldable pub sameAnswers : ℕ → List Float → List Float → List ℕ → Bool
+sameAnswers place solution numbers words = every (sameAnswer place solution numbers words) (length solution)
 
 -- every number has the bits of 0.5
 unfoldable pub unwrittenOf : List Float → Bool

@@ -31,24 +31,24 @@ pub fn same_doubles(numbers: &[f64], words: &[u64]) -> bool
     true
 }
 
-// Is number i of the rows as it was read? An accepted answer writes each row's number 24.
-fn kept_number(accepted: bool, numbers: &[f64], words: &[u64], i: usize) -> bool
+// Is number i of the rows as it was read? An accepted answer writes each row's number at `place`.
+fn kept_number(place: usize, accepted: bool, numbers: &[f64], words: &[u64], i: usize) -> bool
     requires { ⌜ (i < length (now numbers)) × (35 * length (now numbers) ≤ 27 * length (now words)) × (length (now numbers) ≤ 13851) ⌝ }
-    ensures { λ r. ⌜ r ≡ keptNumber accepted (now (numbers .entry)) (now (words .entry)) i ⌝ }
+    ensures { λ r. ⌜ r ≡ keptNumber place accepted (now (numbers .entry)) (now (words .entry)) i ⌝ }
 {
-    if accepted & (i % 27 == 24) {
+    if accepted & (i % 27 == place) {
         return true;
     }
     same_number(numbers[i], words[35 * (i / 27) + i % 27])
 }
 
-pub fn kept_numbers(accepted: bool, numbers: &[f64], words: &[u64]) -> bool
+pub fn kept_numbers(place: usize, accepted: bool, numbers: &[f64], words: &[u64]) -> bool
     requires { ⌜ (35 * length (now numbers) ≤ 27 * length (now words)) × (length (now numbers) ≤ 13851) ⌝ }
-    ensures { λ r. ⌜ r ≡ keptNumbers accepted (now (numbers .entry)) (now (words .entry)) ⌝ }
+    ensures { λ r. ⌜ r ≡ keptNumbers place accepted (now (numbers .entry)) (now (words .entry)) ⌝ }
 {
     let mut i = 0;
     while i < numbers.len() {
-        if !kept_number(accepted, numbers, words, i) {
+        if !kept_number(place, accepted, numbers, words, i) {
             return false;
         }
         i += 1;
@@ -56,21 +56,21 @@ pub fn kept_numbers(accepted: bool, numbers: &[f64], words: &[u64]) -> bool
     true
 }
 
-// Of each row, two words: the solution and the new multiplier.
-fn same_answer(solution: &[f64], numbers: &[f64], words: &[u64], i: usize) -> bool
-    requires { ⌜ (i < length (now solution)) × (length (now numbers) ≡ 27 * length (now solution)) × (2 * length (now solution) ≤ length (now words)) × (length (now solution) ≤ 513) ⌝ }
-    ensures { λ r. ⌜ r ≡ sameAnswer (now (solution .entry)) (now (numbers .entry)) (now (words .entry)) i ⌝ }
+// Of each row, two words: the solution and the new accumulated number.
+fn same_answer(place: usize, solution: &[f64], numbers: &[f64], words: &[u64], i: usize) -> bool
+    requires { ⌜ (i < length (now solution)) × (length (now numbers) ≡ 27 * length (now solution)) × (2 * length (now solution) ≤ length (now words)) × (length (now solution) ≤ 513) × (place < 27) ⌝ }
+    ensures { λ r. ⌜ r ≡ sameAnswer place (now (solution .entry)) (now (numbers .entry)) (now (words .entry)) i ⌝ }
 {
-    same_double(solution[i], words[2 * i]) & same_double(numbers[27 * i + 24], words[2 * i + 1])
+    same_double(solution[i], words[2 * i]) & same_double(numbers[27 * i + place], words[2 * i + 1])
 }
 
-pub fn same_answers(solution: &[f64], numbers: &[f64], words: &[u64]) -> bool
-    requires { ⌜ (length (now numbers) ≡ 27 * length (now solution)) × (2 * length (now solution) ≤ length (now words)) × (length (now solution) ≤ 513) ⌝ }
-    ensures { λ r. ⌜ r ≡ sameAnswers (now (solution .entry)) (now (numbers .entry)) (now (words .entry)) ⌝ }
+pub fn same_answers(place: usize, solution: &[f64], numbers: &[f64], words: &[u64]) -> bool
+    requires { ⌜ (length (now numbers) ≡ 27 * length (now solution)) × (2 * length (now solution) ≤ length (now words)) × (length (now solution) ≤ 513) × (place < 27) ⌝ }
+    ensures { λ r. ⌜ r ≡ sameAnswers place (now (solution .entry)) (now (numbers .entry)) (now (words .entry)) ⌝ }
 {
     let mut i = 0;
     while i < solution.len() {
-        if !same_answer(solution, numbers, words, i) {
+        if !same_answer(place, solution, numbers, words, i) {
             return false;
         }
         i += 1;

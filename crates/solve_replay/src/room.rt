@@ -38,21 +38,28 @@ pub fn mass_room() -> [f64; 2570]
     [0.0; 2570]
 }
 
-// three words for each centre,
-pub fn centre_word_room() -> [u64; 771]
+// three words for each centre or, of velocities, one for each row,
+pub fn beside_word_room() -> [u64; 771]
     ensures { λ r. ⌜ r ≡ replicate 771 0 ⌝ }
 {
     [0; 771]
 }
 
 // numbers too;
-pub fn centre_room() -> [f64; 771]
+pub fn beside_room() -> [f64; 771]
     ensures { λ r. ⌜ 771 ≡ length r ⌝ }
 {
     [0.0; 771]
 }
 
-// solution and multiplier of each row,
+// three words for each new centre,
+pub fn centre_word_room() -> [u64; 771]
+    ensures { λ r. ⌜ r ≡ replicate 771 0 ⌝ }
+{
+    [0; 771]
+}
+
+// solution and accumulated number of each row,
 pub fn answer_room() -> [u64; 1026]
     ensures { λ r. ⌜ r ≡ replicate 1026 0 ⌝ }
 {

@@ -43,7 +43,7 @@ on-same (ended k) x y e = refl
 
 -- c with all that a row or a body has from d; the counts are c's
 abbrev with : Closing → Closing → Closing
-with c d = record { table = tableWith (c .table) (d .table); error = d .error; listed = d .listed; tolerance = d .tolerance; rule = d .rule; toleranceTests = c .toleranceTests; placed = c .placed }
+with c d = record { table = tableWith (c .table) (d .table); error = d .error; listed = d .listed; tolerance = d .tolerance; rule = d .rule; toleranceTests = c .toleranceTests; lent = c .lent; placed = c .placed }
 
 module _ (c d : Closing) (w : ClosingsAgree c d) where
   eighteens : tableInRange (with c d .table) (d .error) (d .listed) ≡ tableInRange (c .table) (c .error) (c .listed)
@@ -100,6 +100,7 @@ module _ (c d : Closing) (w : ClosingsAgree c d) where
     tolerance = d .tolerance;
     rule = d .rule;
     toleranceTests = w .toleranceTests i;
+    lent = w .lent i;
     placed = w .placed i;
   }
 

@@ -12,24 +12,30 @@ use lib.ListN.{length, getD}
 use lib.Ieee.{Float, nan, inf, fin, binary64, add, mul, le, lt, fits, ofBits, ofFields, up, down}
 use lib.Ieee.Fits.{add-fits, up-pos, down-pos}
 use lib.Ieee.Scale.{finite}
+use Rattle.loops.specs.Run.{check, going, next}
+use Rattle.loops.specs.Judge.{judged, AllPass}
 use Rattle.loops.specs.Tabulate.{tabulate}
+use Rattle.loops.proofs.Inverse.{next-going}
+use Rattle.loops.proofs.Judge.{judge-going}
+use Rattle.loops.proofs.Same.{judged-each}
 use Rattle.loops.proofs.Tabulate.{length-tabulate, tabulate-same, getD-tabulate}
 use Rattle.binary64.specs.SquareRoot.{unsigned}
 use Rattle.binary64.specs.Order.{minPositive}
 use Rattle.kapitsa_math.specs.declared.vector.Vec3.{Vec3}
 use Rattle.kapitsa_joint.specs.Table.{Table}
+use Rattle.kapitsa_joint.specs.Centre.{Centres, noCentres}
 use Rattle.joint_refusals.specs.Refusals.{centresFinite}
 use Rattle.joint_refusals.specs.Tolerances.{Tolerances}
-use Rattle.mass_operator.specs.System.{System}
+use Rattle.mass_operator.specs.System.{System, systemOf}
 use Rattle.incomplete_cholesky.specs.Build.{choleskyRun}
 use Rattle.preconditioner.specs.Mode.{modeOf}
 use Rattle.preconditioner.specs.declared.mode.Mode.{Mode}
-use Rattle.position.specs.Problem.{positionProblem, withTests}
+use Rattle.position.specs.Problem.{Problem, positionProblem, velocityProblem, withTests}
 use Rattle.preconditioner.specs.Shift.{one, shiftedBy, shifted, passes25}
-use Rattle.position.specs.Prepare.{rowDiagonal, passes8, isLow, preparedDiagonal, diagonals}
+use Rattle.position.specs.Prepare.{rowDiagonal, passes8, isLow, diagonalTests, validTest, rowJudged, validJudged, diagonalsJudged, rowsJudged, preparedDiagonal, diagonals}
 use Rattle.steps.specs.Solve.{solve}
 use Rattle.position_iteration.specs.Method.{methodOf}
-use Rattle.position_iteration.specs.Position.{shiftedProblem}
+use Rattle.position_iteration.specs.Position.{shiftTests, shiftedProblem, movingProblem}
 use Rattle.rounding.proofs.TimesOne.{times-one, one-more}
 use Rattle.theorems.proofs.Centres.{centresOf}
 
@@ -86,6 +92,31 @@ unshifted t s eight =
 pub unshifted-factor : (a : System) (t : Table) (s : Bool) → ((i : ℕ) → i < t .rows → passes8 (rowDiagonal (t .mass) (t .row i)) ≡ true) → choleskyRun a (shifted (fin s 0 (pos 0)) (diagonals t)) ≡ choleskyRun a (diagonals t)
 unshifted-factor a t s eight = ap (choleskyRun a) (unshifted t s eight)
 
+-- ---- of a problem of either kind, past 7 to 9: no row's diagonal overflows
+module _ (p : Problem) where
+  abbrev passed8 : ℕ → Type 0
+  passed8 i = passes8 (rowDiagonal (p .table .mass) (p .table .row i)) ≡ true
+
+  by-diagonals : diagonalsJudged p ≡ going tt → (i : ℕ) → i < p .table .rows → passed8 i
+  unfolding diagonalsJudged AllPass
+  by-diagonals h i k = judge-going (diagonalTests p i) .0 (judged-each _ (p .table .rows) h i k) .0
+
+  by-rows : judged (rowJudged p) (p .table .rows) ≡ going tt → (i : ℕ) → i < p .table .rows → passed8 i
+  unfolding rowJudged AllPass
+  by-rows h i k = judge-going (validTest p i ∷ diagonalTests p i) .0 (judged-each (rowJudged p) (p .table .rows) h i k) .1 .0
+
+  no-overflow : rowsJudged p ≡ going tt → (i : ℕ) → i < p .table .rows → passed8 i
+  unfolding rowsJudged check
+  no-overflow h = go (p .validFirst) h
+    where
+      go : (b : Bool) → check b (next (validJudged p) (λ _. diagonalsJudged p)) (judged (rowJudged p) (p .table .rows)) ≡ going tt → (i : ℕ) → i < p .table .rows → passed8 i
+      go true e = let (_, _, q) = next-going (validJudged p) _ tt .0 e in by-diagonals q
+      go false e = by-rows e
+
+  -- its factor in mode 1 is that of the diagonal itself
+  pub unshifted-step0 : (s : Bool) → rowsJudged p ≡ going tt → choleskyRun (systemOf (p .table)) (shifted (fin s 0 (pos 0)) (diagonals (p .table))) ≡ choleskyRun (systemOf (p .table)) (diagonals (p .table))
+  unshifted-step0 s h = unshifted-factor (systemOf (p .table)) (p .table) s (no-overflow h)
+
 -- ---- "Past 25, modes 0 and 2 pay no heed to it"
 pub no-heed : (word : ℕ) (a b : Float) → (word ≡ 1 → ⊥) → modeOf word a ≡ modeOf word b
 unfolding modeOf
@@ -93,8 +124,17 @@ no-heed zero a b h = refl
 no-heed (suc zero) a b h = absurd (h refl)
 no-heed (suc (suc n)) a b h = refl
 
+-- whatever else the problem is
+unheeded : (fits : Bool) (p : Problem) (limits : Tolerances) (placed : Bool) (centres : Centres) (word limit : ℕ) (a b : Float) → (word ≡ 1 → ⊥) → passes25 a ≡ true → passes25 b ≡ true
+    → solve (methodOf fits (withTests (shiftTests a) limits placed centres p) (modeOf word a)) limit ≡ solve (methodOf fits (withTests (shiftTests b) limits placed centres p) (modeOf word b)) limit
+unheeded fits p limits placed centres word limit a b h ea eb =
+    ap (λ (m : Mode). solve (methodOf fits (withTests (shiftTests a) limits placed centres p) m) limit) (no-heed word a b h)
+    ∙ ap (λ (x : Bool). solve (methodOf fits (withTests ((25, x) ∷ []) limits placed centres p) (modeOf word b)) limit) (ea ∙ sym eb)
+
 pub shift-unheeded : (fits : Bool) (t : Table) (tolerances : Tolerances) (centre : ℕ → Vec3) (word limit : ℕ) (a b : Float) → (word ≡ 1 → ⊥) → passes25 a ≡ true → passes25 b ≡ true
     → solve (methodOf fits (shiftedProblem t tolerances a centre) (modeOf word a)) limit ≡ solve (methodOf fits (shiftedProblem t tolerances b centre) (modeOf word b)) limit
-shift-unheeded fits t tolerances centre word limit a b h ea eb =
-    ap (λ (m : Mode). solve (methodOf fits (shiftedProblem t tolerances a centre) m) limit) (no-heed word a b h)
-    ∙ ap (λ (x : Bool). solve (methodOf fits (withTests ((25, x) ∷ []) tolerances (centresFinite (centresOf t centre)) (centresOf t centre) (positionProblem t (tolerances .row))) (modeOf word b)) limit) (ea ∙ sym eb)
+shift-unheeded fits t tolerances centre = unheeded fits (positionProblem t (tolerances .row)) tolerances (centresFinite (centresOf t centre)) (centresOf t centre)
+
+pub moving-unheeded : (fits : Bool) (t : Table) (tolerances : Tolerances) (residual : ℕ → Float) (word limit : ℕ) (a b : Float) → (word ≡ 1 → ⊥) → passes25 a ≡ true → passes25 b ≡ true
+    → solve (methodOf fits (movingProblem t tolerances a residual) (modeOf word a)) limit ≡ solve (methodOf fits (movingProblem t tolerances b residual) (modeOf word b)) limit
+moving-unheeded fits t tolerances residual = unheeded fits (velocityProblem t (tolerances .row) residual) tolerances true noCentres

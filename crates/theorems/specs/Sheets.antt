@@ -15,6 +15,7 @@ use Rattle.kapitsa_joint.specs.declared.maxima.Maxima.{Maxima}
 use Rattle.rules.specs.Rules.{Rules, ruledBy, twoRules}
 use Rattle.preconditioner.specs.declared.mode.Mode.{Mode}
 use Rattle.preconditioner.specs.declared.mode.Mode.the-variants as modes
+use Rattle.position.specs.Problem.{Problem}
 use Rattle.steps.specs.Solve.{solve}
 use Rattle.position_iteration.specs.Position.{shiftedProblem}
 use Rattle.position_iteration.specs.Method.{methodOf}
@@ -91,21 +92,25 @@ thousandth = ofBits binary64 0x3f50624dd2f1a9fc
 abbrev pub alike : Float → Rules
 alike tolerance = twoRules (record { «linear_m» = tolerance; «angular_rad» = tolerance })
 
--- with shift 0 and centres of +0.0; of an accepted answer flag, count, solution, multipliers and the linear residual, of a refused one its number
+-- of an accepted answer flag, count, solution, the rows' accumulated numbers afterwards and the linear residual, of a refused one its number
 pub record Accepted : Type 0 where
   pub flag : Bool
   pub count : ℕ
   pub solution : List Float
-  pub multipliers : List Float
+  pub accumulated : List Float
   pub residual : Float
 
 abbrev pub Worked : Type 0
 Worked = Run Accepted ℕ
 
+abbrev pub toldOf : Problem → Mode → ℕ → Worked
+toldOf p mode limit =
+    on (solve (methodOf true p mode) limit)
+    (λ r. going (record { flag = r .0 .0; count = r .0 .1; solution = r .0 .2 .solution; accumulated = r .1 .accumulated; residual = r .1 .maxima .linear })) ended
+
+-- with shift 0 and centres of +0.0
 abbrev pub workedOf : Table → Float → Mode → ℕ → Worked
-workedOf t tolerance mode limit =
-    on (solve (methodOf true (shiftedProblem t (ruledBy (alike tolerance) t) plusZero (λ b. along plusZero)) mode) limit)
-    (λ r. going (record { flag = r .0 .0; count = r .0 .1; solution = r .0 .2 .solution; multipliers = r .1 .accumulated; residual = r .1 .maxima .linear })) ended
+workedOf t tolerance mode limit = toldOf (shiftedProblem t (ruledBy (alike tolerance) t) plusZero (λ b. along plusZero)) mode limit
 
 -- P1's check: its row with the multiplier that P1 ends with
 abbrev pub checked : Float → Closing
@@ -134,14 +139,14 @@ abbrev pub sheets : List Entry
 sheets =
     -- P1: "count 1, flag 1, multiplier 0.25"
     solved (workedOf p1 thousandth modes.Diagonal 4)
-    (going (record { flag = true; count = 1; solution = ofBits binary64 0x3fd0000000000000 ∷ []; multipliers = ofBits binary64 0x3fd0000000000000 ∷ []; residual = plusZero }))
+    (going (record { flag = true; count = 1; solution = ofBits binary64 0x3fd0000000000000 ∷ []; accumulated = ofBits binary64 0x3fd0000000000000 ∷ []; residual = plusZero }))
     -- P2: "P1's check at tolerance 2^-47: closed, as E = 17·2^-52". P3: "at 2^-48: open"
     ∷ (verdict (checkOf true (checked (ofBits binary64 0x3d00000000000000))) (Closed p1Gap)
     ∷ (number (radius (checked (ofBits binary64 0x3d00000000000000)) 0) (ofBits binary64 0x3cf1000000000000)
     ∷ (verdict (checkOf true (checked (ofBits binary64 0x3cf0000000000000))) (Open p1Gap)
     -- P4: "limit 1, mode 0: count 1, flag 0, linear residual 0.5, solution 0.5 and 0"
     ∷ (solved (workedOf chain thousandth modes.Diagonal 1)
-    (going (record { flag = false; count = 1; solution = ofBits binary64 0x3fe0000000000000 ∷ (plusZero ∷ []); multipliers = ofBits binary64 0x3fe0000000000000 ∷ (plusZero ∷ []); residual = ofBits binary64 0x3fe0000000000000 }))
+    (going (record { flag = false; count = 1; solution = ofBits binary64 0x3fe0000000000000 ∷ (plusZero ∷ []); accumulated = ofBits binary64 0x3fe0000000000000 ∷ (plusZero ∷ []); residual = ofBits binary64 0x3fe0000000000000 }))
     -- P5: "mode 0: 15". P6: "mode 1: 13"
     ∷ (solved (workedOf twice thousandth modes.Diagonal 4) (ended 15)
     ∷ (solved (workedOf twice thousandth (modes.IncompleteCholesky plusZero) 4) (ended 13)
@@ -150,4 +155,4 @@ sheets =
     -- P8: "limit 0: 5"
     ∷ (solved (workedOf p1 thousandth modes.Diagonal 0) (ended 5)
     -- P9: "no rows, limit 0: accepted"
-    ∷ (solved (workedOf noRows thousandth modes.Diagonal 0) (going (record { flag = true; count = 0; solution = []; multipliers = []; residual = plusZero })) ∷ [])))))))))
+    ∷ (solved (workedOf noRows thousandth modes.Diagonal 0) (going (record { flag = true; count = 0; solution = []; accumulated = []; residual = plusZero })) ∷ [])))))))))

@@ -2,9 +2,11 @@
 
 use super::Seen;
 use super::slip::{SLIPS, Slip};
+use super::speeds::speeds;
+use crate::job::Kind;
 
 /// Enough jobs of an item, and of one that takes a large table.
-const ENOUGH: usize = 10;
+pub const ENOUGH: usize = 10;
 const ENOUGH_LARGE: usize = 2;
 
 /// The refusals of each mode's factor and of the recurrence.
@@ -31,10 +33,16 @@ pub struct Item {
 }
 
 #[derive(Default)]
-struct Items(Vec<Item>);
+pub struct Items(Vec<Item>);
 
 impl Items {
-    fn add(&mut self, mode: u32, enough: usize, name: &str, met: impl Fn(&Seen) -> bool + 'static) {
+    pub fn add(
+        &mut self,
+        mode: u32,
+        enough: usize,
+        name: &str,
+        met: impl Fn(&Seen) -> bool + 'static,
+    ) {
         let (name, met) = (name.to_string(), Box::new(met));
         self.0.push(Item { mode, name, enough, centred: false, met });
     }
@@ -45,9 +53,13 @@ impl Items {
     }
 }
 
-pub fn items() -> Vec<Item> {
+/// What positions meet, and what velocities do: all but the centres of it, and what is their own.
+pub fn items(kind: Kind) -> Vec<Item> {
     let mut items = Items::default();
     for (slip, name, modes) in SLIPS {
+        if kind == Kind::Velocity && slip.of_centres() {
+            continue;
+        }
         let enough = if slip == Slip::CountAfterValues { ENOUGH_LARGE } else { ENOUGH };
         let name = format!("another answer with {name}");
         let from = items.0.len();
@@ -66,10 +78,15 @@ pub fn items() -> Vec<Item> {
         }
     }
     tolerances(&mut items);
-    limits(&mut items);
+    limits(&mut items, kind);
     let from = items.0.len();
-    centres(&mut items);
-    items.centred(from);
+    match kind {
+        Kind::Position => {
+            centres(&mut items);
+            items.centred(from);
+        }
+        Kind::Velocity => speeds(&mut items),
+    }
     items.0
 }
 
@@ -141,13 +158,14 @@ fn centres(items: &mut Items) {
     }
 }
 
-/// The most rows, bodies and pairs.
-fn limits(items: &mut Items) {
+/// The most rows, bodies and pairs; of velocities one job each is enough.
+fn limits(items: &mut Items, kind: Kind) {
+    let enough = if kind == Kind::Position { ENOUGH_LARGE } else { 1 };
     for mode in 0..3 {
         let rows = |seen: &Seen| seen.accepted && seen.rows == 512;
         let bodies = |seen: &Seen| seen.accepted && seen.bodies == 256;
-        items.add(mode, ENOUGH_LARGE, "512 rows, accepted", rows);
-        items.add(mode, ENOUGH_LARGE, "256 bodies, accepted", bodies);
+        items.add(mode, enough, "512 rows, accepted", rows);
+        items.add(mode, enough, "256 bodies, accepted", bodies);
         let rows = |seen: &Seen| seen.refusal == 3 && seen.rows == 513;
         let bodies = |seen: &Seen| seen.refusal == 3 && seen.bodies == 257;
         items.add(mode, 1, "513 rows, refused by 3", rows);
@@ -155,6 +173,6 @@ fn limits(items: &mut Items) {
     }
     let most = |seen: &Seen| seen.accepted && seen.pairs.stored == 16_384;
     let over = |seen: &Seen| seen.refusal == 10 && seen.pairs.stored == 16_385;
-    items.add(1, ENOUGH_LARGE, "16,384 pairs, accepted", most);
-    items.add(1, ENOUGH_LARGE, "16,385 pairs, refused by 10", over);
+    items.add(1, enough, "16,384 pairs, accepted", most);
+    items.add(1, enough, "16,385 pairs, refused by 10", over);
 }

@@ -2,8 +2,10 @@
 //! one is asked for. A job whose answer a slip changes holds an implementation to what the
 //! slip is about. Without a slip the answer must be the recorded one.
 
+mod factor;
+
 use super::slip::Slip;
-use crate::job::{BLOCK_JACOBI, INCOMPLETE_CHOLESKY, Job, Solved};
+use crate::job::{BLOCK_JACOBI, INCOMPLETE_CHOLESKY, Job, Kind, Solved};
 use crate::model::{self, Begun, Row, Side, Table, Vector, cross, scaled};
 use std::ops::Range;
 
@@ -25,9 +27,6 @@ fn finite(what: &'static str, values: &[f64]) -> Judged<()> {
     if passes { Ok(()) } else { Err(Turned { refusal: 16, what }) }
 }
 
-/// A row's factors, None where the pattern has none; its root of the pivot comes last.
-type Factors = Vec<Option<f64>>;
-
 /// The rows of each run of equal owner.
 pub fn runs(table: &Table) -> Vec<Range<usize>> {
     let rows = &table.rows;
@@ -42,11 +41,6 @@ pub fn shared<'a>(first: &'a Row, second: &'a Row) -> Vec<(&'a Side, &'a Side)> 
     let with = |left: &'a Side| [&second.a, &second.b].map(|right| (left, right));
     let ends = [&first.a, &first.b].into_iter().flat_map(with);
     ends.filter(|(left, right)| left.body == right.body).collect()
-}
-
-/// Rows of one block have one body pair.
-fn one_pair(first: &Row, second: &Row) -> bool {
-    first.a.body == second.a.body && first.b.body == second.b.body
 }
 
 /// A row's diagonal before it is replaced.
@@ -73,7 +67,11 @@ impl Work<'_> {
             Some(lower) => self.both_solves(lower, residual),
             None => residual.iter().zip(&diagonal).map(|(r, d)| r / d).collect(),
         };
-        self.steps(job, z)
+        let residual = self.residual();
+        if job.kind == Kind::Velocity && self.table.meets(&residual) {
+            return Ok(model::at_step_zero(job, self.table, &residual));
+        }
+        self.steps(job, residual, z)
     }
 
     fn is(&self, slip: Slip) -> bool {
@@ -90,135 +88,6 @@ impl Work<'_> {
         let kept = |row: &Row| self.is(Slip::ResidualKept).then_some(-row.error);
         let rows = self.table.rows.iter().zip(&self.begun.residual);
         rows.map(|(row, used)| kept(row).unwrap_or(*used)).collect()
-    }
-
-    /// One rounding for each product that is taken away.
-    fn less(&self, from: f64, products: impl Iterator<Item = f64>, backwards: Slip) -> f64 {
-        let mut products: Vec<f64> = products.collect();
-        if self.is(backwards) {
-            products.reverse();
-        }
-        products.into_iter().fold(from, |left, product| left - product)
-    }
-
-    /// A value less the products over common earlier columns.
-    fn reduced(&self, value: f64, own: &[Option<f64>], column: &[Option<f64>]) -> f64 {
-        let common = own.iter().zip(column).filter_map(|(left, right)| Some((*left)? * (*right)?));
-        self.less(value, common, Slip::ProductsDescending)
-    }
-
-    fn pivot(&self, value: f64, own: &[Option<f64>]) -> f64 {
-        let squares = own.iter().flatten().map(|factor| factor * factor);
-        self.less(value, squares, Slip::SquaresDescending)
-    }
-
-    pub fn pair_value(&self, low: &Row, high: &Row) -> Option<f64> {
-        let other = self.is(Slip::OtherRowFirst);
-        let ends = if other { shared(high, low) } else { shared(low, high) };
-        let taken = if self.is(Slip::OneSharedBody) { 1 } else { 2 };
-        let value =
-            |(left, right): (&Side, &Side)| cross(&self.table.masses[left.body], left, right);
-        match ends.into_iter().take(taken).map(value).reduce(|sum, one| sum + one) {
-            None if self.is(Slip::AbsentAsZero) => Some(0.0),
-            Some(value) if value == 0.0 && self.is(Slip::ZeroAsAbsent) => None,
-            found => found,
-        }
-    }
-
-    fn cholesky(&self, diagonal: &[f64]) -> Judged<Vec<Factors>> {
-        let rows = &self.table.rows;
-        let below = |row: usize| rows[..row].iter().map(move |low| (low, &rows[row]));
-        let pairs = (0..rows.len()).flat_map(below);
-        let few = pairs.filter(|(low, high)| !shared(low, high).is_empty()).count() <= 16_384;
-        let values =
-            |row: usize| below(row).map(|(low, high)| self.pair_value(low, high)).collect();
-        let values: Vec<Factors> = (0..rows.len()).map(values).collect();
-        let finite = |row: &Factors| row.iter().flatten().all(|value| value.is_finite());
-        pass(10, few || self.is(Slip::CountAfterValues))?;
-        pass(12, self.is(Slip::ValuesByRow) || values.iter().all(finite))?;
-        pass(10, few)?;
-        let mut lower: Vec<Factors> = Vec::new();
-        for (values, diagonal) in values.iter().zip(diagonal) {
-            pass(12, finite(values))?;
-            let mut own = Vec::new();
-            for (value, column) in values.iter().zip(&lower) {
-                let factor = value.map(|value| self.reduced(value, &own, column) / root(column));
-                pass(13, factor.is_none_or(f64::is_finite))?;
-                own.push(factor);
-            }
-            let pivot = self.pivot(*diagonal, &own);
-            pass(13, pivot.is_finite() && pivot > f64::MIN_POSITIVE)?;
-            own.push(Some(pivot.sqrt()));
-            lower.push(own);
-        }
-        Ok(lower)
-    }
-
-    fn blocks(&self, diagonal: &[f64]) -> Judged<Vec<Factors>> {
-        let rows = &self.table.rows;
-        let fits = |run: &Range<usize>| {
-            run.len() <= 6 && rows[run.clone()].iter().all(|row| one_pair(row, &rows[run.start]))
-        };
-        let runs = runs(self.table);
-        pass(11, !self.is(Slip::RunsBeforeFactors) || runs.iter().all(fits))?;
-        let mut lower = Vec::new();
-        for run in runs {
-            pass(11, run.len() <= 6 || self.is(Slip::LengthAfterRows))?;
-            for row in run.clone() {
-                pass(11, row < run.start + 6)?;
-                let own = self.block_row(run.start, row, diagonal[row], &lower)?;
-                lower.push(own);
-            }
-        }
-        Ok(lower)
-    }
-
-    fn block_row(
-        &self,
-        start: usize,
-        row: usize,
-        diagonal: f64,
-        lower: &[Factors],
-    ) -> Judged<Factors> {
-        let high = &self.table.rows[row];
-        let mut own = vec![None; start];
-        for column in start..row {
-            let low = &self.table.rows[column];
-            pass(11, self.is(Slip::ValueBeforeBodies) || one_pair(low, high))?;
-            let value = self.reduced(self.block_value(low, high), &own, &lower[column]);
-            pass(12, value.is_finite())?;
-            pass(11, one_pair(low, high))?;
-            let factor = value / root(&lower[column]);
-            pass(13, factor.is_finite())?;
-            own.push(Some(factor));
-        }
-        let found = self.block_value(high, high);
-        let replaced = self.is(Slip::ReplacedInBlocks) && found <= f64::MIN_POSITIVE;
-        let pivot = self.pivot(if replaced { diagonal } else { found }, &own);
-        pass(12, pivot.is_finite())?;
-        pass(13, pivot > f64::MIN_POSITIVE)?;
-        own.push(Some(pivot.sqrt()));
-        Ok(own)
-    }
-
-    fn block_value(&self, low: &Row, high: &Row) -> f64 {
-        let (first, second) = if self.is(Slip::OtherRowFirst) { (low, high) } else { (high, low) };
-        let at = |left: &Side, right: &Side| cross(&self.table.masses[left.body], left, right);
-        at(&first.a, &second.a) + at(&first.b, &second.b)
-    }
-
-    fn both_solves(&self, lower: &[Factors], residual: &[f64]) -> Vec<f64> {
-        let mut z = residual.to_vec();
-        for row in 0..z.len() {
-            let taken = lower[row][..row].iter().zip(&z).filter_map(|(f, z)| Some((*f)? * z));
-            z[row] = self.less(z[row], taken, Slip::ForwardDescending) / root(&lower[row]);
-        }
-        for row in (0..z.len()).rev() {
-            let later = lower[row + 1..].iter().zip(&z[row + 1..]);
-            let taken = later.filter_map(|(factors, z)| Some(factors[row]? * z));
-            z[row] = self.less(z[row], taken, Slip::BackwardDescending) / root(&lower[row]);
-        }
-        z
     }
 
     fn impulses(&self, list: &[f64]) -> Vec<[f64; 6]> {
@@ -277,8 +146,12 @@ impl Work<'_> {
         self.table.rows.iter().map(value).collect()
     }
 
-    fn steps(&self, job: &Job, solve: impl Fn(&[f64]) -> Vec<f64>) -> Judged<Solved> {
-        let mut residual = self.residual();
+    fn steps(
+        &self,
+        job: &Job,
+        mut residual: Vec<f64>,
+        solve: impl Fn(&[f64]) -> Vec<f64>,
+    ) -> Judged<Solved> {
         let mut solution = vec![0.0; residual.len()];
         let (mut direction, mut s) = renewed(&residual, &solve)?;
         let (mut count, mut flag) = (0, false);
@@ -311,19 +184,15 @@ impl Work<'_> {
             s = new;
         }
         let impulses = self.impulses(&solution).concat();
-        let multipliers = job.multipliers().into_iter().zip(&solution);
-        let multipliers: Vec<f64> = multipliers.map(|(old, gain)| old + gain).collect();
+        let accumulated = job.accumulated().into_iter().zip(&solution);
+        let accumulated: Vec<f64> = accumulated.map(|(old, gain)| old + gain).collect();
         let centres = self.centres(job, &impulses);
-        let mut last = impulses.iter().chain(&multipliers).chain(&centres);
+        let mut last = impulses.iter().chain(&accumulated).chain(&centres);
         pass(17, last.all(|value| value.is_finite()))?;
         let answer = model::answer(self.table, &residual, count, flag);
         let rules = self.table.rules.clone();
-        Ok(Solved { answer, solution, multipliers, impulses, centres, rules })
+        Ok(Solved { answer, solution, accumulated, impulses, centres, rules })
     }
-}
-
-fn root(factors: &[Option<f64>]) -> f64 {
-    factors.last().copied().flatten().expect("a row of factors ends in its root")
 }
 
 /// z, and the residual times it.

@@ -37,6 +37,11 @@ pub fn pin(seed: u64, index: u64) -> Job {
     job
 }
 
+/// Any pin, in its mode or any.
+pub fn pin_of(random: &mut Random) -> Job {
+    random.pick(&PINS)(random)
+}
+
 fn short(random: &mut Random) -> f64 {
     double(Style::Short, random)
 }

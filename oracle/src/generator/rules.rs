@@ -17,15 +17,20 @@ const CHANGES: [Change; 12] = [
 pub fn ruled(seed: u64, index: u64) -> Job {
     let mut random = Random::of(seed.rotate_left(32) ^ 0x2b1e, index);
     let mut job = job(seed, index, Sizes::Any);
+    under_rules(&mut job, &mut random);
+    job
+}
+
+/// Gives a job its rules.
+pub fn under_rules(job: &mut Job, random: &mut Random) {
     if random.chance(50) {
-        few_keys(&mut job, &mut random);
+        few_keys(job, random);
     }
-    let mut rules = sound(&job, &mut random);
+    let mut rules = sound(job, random);
     if random.chance(50) {
-        random.pick(&CHANGES)(&mut rules, &job, &mut random);
+        random.pick(&CHANGES)(&mut rules, job, random);
     }
     job.rules = Some(rules);
-    job
 }
 
 /// Pins, slides and gears: each key that 4 lets pass becomes one of a few.

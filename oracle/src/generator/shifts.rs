@@ -32,14 +32,19 @@ const SHIFTS: [f64; 18] = [
 pub fn shifted(seed: u64, index: u64) -> Job {
     let mut random = Random::of(seed.rotate_left(32) ^ 0x5417, index);
     let mut job = job(seed, index, Sizes::Any);
+    with_shift(&mut job, &mut random);
+    job
+}
+
+/// Gives a job its shift.
+pub fn with_shift(job: &mut Job, random: &mut Random) {
     if job.mode <= BLOCK_JACOBI && random.chance(60) {
         job.mode = INCOMPLETE_CHOLESKY;
     }
     if random.chance(30) {
-        near_equal_row(&mut job, &mut random);
+        near_equal_row(job, random);
     }
-    job.shift = shift(&mut random);
-    job
+    job.shift = shift(random);
 }
 
 fn shift(random: &mut Random) -> f64 {
@@ -54,13 +59,19 @@ fn shift(random: &mut Random) -> f64 {
 /// A row once more at the end: as it is, or one of its numbers a unit or a little beside.
 fn near_equal_row(job: &mut Job, random: &mut Random) {
     let rows = job.rows as usize;
-    let sound = job.numbers.len() == ROW_NUMBERS * rows && job.words.len() == ROW_WORDS * rows;
+    let lent = if job.kind == Kind::Velocity { rows } else { 0 };
+    let sound = job.numbers.len() == ROW_NUMBERS * rows
+        && job.words.len() == ROW_WORDS * rows
+        && job.residuals.len() == lent;
     if rows == 0 || rows >= 512 || !sound {
         return;
     }
     let row = random.below(rows);
     job.numbers.extend_from_within(ROW_NUMBERS * row..ROW_NUMBERS * (row + 1));
     job.words.extend_from_within(ROW_WORDS * row..ROW_WORDS * (row + 1));
+    if job.kind == Kind::Velocity {
+        job.residuals.push(job.residuals[row]);
+    }
     job.rows += 1;
     let place = random.pick(&[LINEAR_A, LINEAR_A + 1, ANGULAR_A, LINEAR_B, ANGULAR_B + 2]);
     let number = job.number(rows, place);

@@ -2,7 +2,7 @@
 
 use super::algebra::{Mass, Side};
 use super::operator;
-use super::table::{Row, Table, counts_fit, masses_finite, words_fit};
+use super::table::{Row, Table, counts_fit, masses_finite, residuals_finite, words_fit};
 use super::{Judged, pass};
 use crate::job::*;
 
@@ -16,15 +16,16 @@ pub struct Checked {
     pub measured: Vec<Measured>,
 }
 
-/// Verdict and gap, or refusal 3, 4, 27, 28, 6, 7 or 18. The job's limit and mode are not read,
+/// Verdict and gap, or refusal 3, 4, 27, 28, 6, 20, 7 or 18. The job's limit and mode are not read,
 /// its centres by 6 alone.
 pub fn closing_check(job: &Job, list: &[f64]) -> Judged<Checked> {
     pass(3, counts_fit(job) && list.len() == job.rows as usize)?;
     pass(4, words_fit(job))?;
     let table = Table::of(job)?;
     pass(6, masses_finite(job))?;
+    pass(20, residuals_finite(job))?;
     pass(7, table.rows.iter().all(|row| row.valid))?;
-    pass(18, sized(job, list))?;
+    pass(18, sized(job, &table, list))?;
     let measured = measure(&table, list);
     let within = |(row, found): (usize, &Measured)| found.reach() <= table.tolerance(row);
     let closed = measured.iter().enumerate().all(within);
@@ -71,14 +72,16 @@ fn measure(table: &Table, list: &[f64]) -> Vec<Measured> {
     table.rows.iter().zip(values.iter().zip(&sizes)).map(row).collect()
 }
 
-/// Refusal 18's test: zero, or from 2^-150 to 2^150 in size.
-fn sized(job: &Job, list: &[f64]) -> bool {
+/// Refusal 18's test: zero, or from 2^-150 to 2^150 in size. Of a velocity job it looks at what stands
+/// in the error's place, and not at the error.
+fn sized(job: &Job, table: &Table, list: &[f64]) -> bool {
     let bound = two(150);
     let fits = |value: &f64| *value == 0.0 || (1.0 / bound <= value.abs() && value.abs() <= bound);
     let row_fits = |row: &[f64]| {
-        row[LINEAR_A..POSITION_ANGULAR_A].iter().all(fits) && row[LINEAR_B..=ERROR].iter().all(fits)
+        row[LINEAR_A..POSITION_ANGULAR_A].iter().all(fits) && row[LINEAR_B..ERROR].iter().all(fits)
     };
     job.numbers.chunks_exact(ROW_NUMBERS).all(row_fits)
+        && table.rows.iter().all(|row| fits(&row.error))
         && job.masses.iter().all(fits)
         && list.iter().all(fits)
 }

@@ -9,6 +9,7 @@ pub struct Row {
     pub dimension: usize,
     pub a: Side,
     pub b: Side,
+    /// Of a velocity job the negated residual, which stands in the error's place.
     pub error: f64,
     pub owner: u32,
     pub valid: bool,
@@ -28,8 +29,9 @@ impl Table {
         let rules = rules_of_rows(job)?;
         let given = job.rules().tolerances;
         let rows = job.numbers.chunks_exact(ROW_NUMBERS).zip(job.words.chunks_exact(ROW_WORDS));
+        let rows = rows.zip(errors(job));
         Ok(Self {
-            rows: rows.map(|(numbers, words)| row(numbers, words, job.bodies)).collect(),
+            rows: rows.map(|((n, w), error)| row(n, w, error, job.bodies)).collect(),
             masses: job.masses.chunks_exact(MASS_NUMBERS).map(Mass::of).collect(),
             tolerances: rules.iter().map(|rule| given[*rule as usize]).collect(),
             rules,
@@ -52,7 +54,15 @@ impl Table {
     }
 }
 
-fn row(numbers: &[f64], words: &[u32], bodies: u32) -> Row {
+/// What the solve starts from and the check measures against, with the sign of an error.
+fn errors(job: &Job) -> Vec<f64> {
+    match job.kind {
+        Kind::Position => job.numbers.chunks_exact(ROW_NUMBERS).map(|row| row[ERROR]).collect(),
+        Kind::Velocity => job.residuals.iter().map(|residual| -residual).collect(),
+    }
+}
+
+fn row(numbers: &[f64], words: &[u32], error: f64, bodies: u32) -> Row {
     let vector = |at: usize| -> Vector { [numbers[at], numbers[at + 1], numbers[at + 2]] };
     let side = |body: usize, linear: usize, angular: usize| Side {
         body: words[body] as usize,
@@ -63,7 +73,7 @@ fn row(numbers: &[f64], words: &[u32], bodies: u32) -> Row {
         dimension: words[DIMENSION] as usize,
         a: side(BODY_A, LINEAR_A, ANGULAR_A),
         b: side(BODY_B, LINEAR_B, ANGULAR_B),
-        error: numbers[ERROR],
+        error,
         owner: words[OWNER],
         valid: is_valid(numbers, words, bodies),
     }
@@ -84,14 +94,23 @@ fn is_valid(numbers: &[f64], words: &[u32], bodies: u32) -> bool {
         && numbers[CACHED_MASS] >= 0.0
 }
 
-/// Refusals 3, 25, 4, 27, 28, 5 and 6 of a solve, in their order.
+/// Refusals before the first diagonal: those of `opened`, and of a velocity job 7, which all its
+/// rows pass first.
 pub fn opening(job: &Job) -> Judged<Table> {
+    let table = opened(job)?;
+    pass(7, job.kind == Kind::Position || table.rows.iter().all(|row| row.valid))?;
+    Ok(table)
+}
+
+/// Refusals 3, 25, 4, 27, 28, 5, 6 and 20 of a solve, in their order.
+pub fn opened(job: &Job) -> Judged<Table> {
     pass(3, job.mode <= BLOCK_JACOBI && counts_fit(job))?;
     pass(25, shift_fits(job.shift))?;
     pass(4, words_fit(job))?;
     let table = Table::of(job)?;
     pass(5, job.rows == 0 || (job.limit != 0 && opens(job)))?;
     pass(6, masses_finite(job))?;
+    pass(20, residuals_finite(job))?;
     Ok(table)
 }
 
@@ -99,18 +118,27 @@ pub fn opening(job: &Job) -> Judged<Table> {
 /// rules' own.
 pub fn counts_fit(job: &Job) -> bool {
     let (rows, bodies) = (job.rows as usize, job.bodies as usize);
+    let lent = match job.kind {
+        Kind::Position => job.centres.len() == CENTRE_NUMBERS * bodies,
+        Kind::Velocity => job.residuals.len() == rows,
+    };
     rows <= 512
         && bodies <= 256
         && job.numbers.len() == ROW_NUMBERS * rows
         && job.words.len() == ROW_WORDS * rows
         && job.masses.len() == MASS_NUMBERS * bodies
-        && job.centres.len() == CENTRE_NUMBERS * bodies
+        && lent
         && job.rules().fit()
 }
 
 /// Refusal 6's test: the ten numbers of each mass, and the three of its centre.
 pub fn masses_finite(job: &Job) -> bool {
     all_finite(&job.masses) && all_finite(&job.centres)
+}
+
+/// Refusal 20's test of the lent residual; a position job has none.
+pub fn residuals_finite(job: &Job) -> bool {
+    all_finite(&job.residuals)
 }
 
 /// Refusal 25's test: from 0 to 1, −0.0 too, whatever the mode and the rows. No NaN is.
@@ -142,12 +170,13 @@ pub fn tolerances_fit(job: &Job) -> bool {
 /// The Rust's opening test over all rows (refusal 5).
 fn opens(job: &Job) -> bool {
     let mut rows = job.numbers.chunks_exact(ROW_NUMBERS).zip(job.words.chunks_exact(ROW_WORDS));
+    let [lower, upper] = job.kind.bounds();
     rows.all(|(numbers, words)| {
-        words[POSITION_ENABLED] == 1
+        (words[POSITION_ENABLED] == 1 || job.kind == Kind::Velocity)
             && words[FORCE_DRIVEN] == 0
             && numbers[COMPLIANCE] == 0.0
             && numbers[DAMPING] == 0.0
-            && numbers[MIN_MULTIPLIER] == f64::NEG_INFINITY
-            && numbers[MAX_MULTIPLIER] == f64::INFINITY
+            && numbers[lower] == f64::NEG_INFINITY
+            && numbers[upper] == f64::INFINITY
     })
 }

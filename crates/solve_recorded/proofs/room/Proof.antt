@@ -9,4 +9,4 @@ pub room-spec : {M : Type 1} → statement M
 room-spec =
     tie.close
     (tie.spec
-    (λ c. sym (length-replicate {A = ℕ} 2000000 0)))  -- returns
+    (λ c. sym (length-replicate {A = ℕ} 3600000 0)))  -- returns

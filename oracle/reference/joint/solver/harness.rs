@@ -1,4 +1,4 @@
-//! Calls solve_position_pcg_prepared on document 01's tables of numbers.
+//! Calls solve_position_pcg_prepared and solve_velocity_pcg_prepared on document 01's tables of numbers.
 
 pub use super::pcg::operator::Operator;
 
@@ -75,18 +75,42 @@ impl Prepared {
         }
     }
 
-    /// The velocity side with blocks, one worker and a fresh scratch: its residual
-    /// is the target velocity, since every body is at rest.
-    pub fn solve_velocity_blocks(&mut self, limit: usize, tolerances: [f64; 2]) -> Outcome {
+    /// Lends the velocity side its residual: `row_velocity` is 0.0 here, so that its residual is the
+    /// target velocity, bit for bit. A row whose own target is not finite keeps it, as 7 reads it; and
+    /// where the residual is not finite, it is by the velocity that it becomes so, as in the Rust.
+    pub fn lend(&mut self, residuals: &[f64]) {
+        for (row, residual) in self.rows.iter_mut().zip(residuals) {
+            if !residual.is_finite() {
+                if let Some(body) = self.bodies.get_mut(row.body_a) {
+                    body.body.row_velocity = -residual;
+                }
+            } else if row.target_velocity.is_finite() {
+                row.target_velocity = *residual;
+            }
+        }
+    }
+
+    /// The velocity side with one worker and a fresh scratch.
+    pub fn solve_velocity(&mut self, limit: usize, tolerances: [f64; 2], mode: u32) -> Outcome {
         self.scratch.begin_step();
+        self.solve_velocity_again(limit, tolerances, mode)
+    }
+
+    /// The same with the scratch as the call before left it.
+    pub fn solve_velocity_again(
+        &mut self,
+        limit: usize,
+        tolerances: [f64; 2],
+        mode: u32,
+    ) -> Outcome {
         let result = solve_velocity_pcg_prepared(
             &mut self.rows,
             &self.owners,
             &mut self.bodies,
             limit,
             tolerance(tolerances),
-            false,
-            true,
+            mode == 1,
+            mode == 2,
             &SequentialExecutor,
             1,
             &mut self.scratch,
@@ -105,6 +129,17 @@ impl Prepared {
 
     pub fn multipliers(&self) -> Vec<f64> {
         self.rows.iter().map(|row| row.accumulated_multiplier).collect()
+    }
+
+    pub fn accumulated_impulses(&self) -> Vec<f64> {
+        self.rows.iter().map(|row| row.accumulated_impulse).collect()
+    }
+
+    /// Other masses for the bodies; a scratch that was used keeps its own.
+    pub fn exchange_masses(&mut self, masses: &[f64]) {
+        for (body, mass) in self.bodies.iter_mut().zip(masses_of(masses, &[])) {
+            body.body = RigidBody::of(mass);
+        }
     }
 
     /// Meaningful after an accepted solve with a count above 0.
@@ -151,9 +186,10 @@ fn vector(numbers: &[f64]) -> Vec3 {
     Vec3::new(numbers[0], numbers[1], numbers[2])
 }
 
+/// Where no centres are given, as to a velocity solve, all are 0.
 pub(super) fn masses_of(numbers: &[f64], centres: &[f64]) -> Vec<SolverMass> {
-    let bodies = numbers.chunks_exact(10).zip(centres.chunks_exact(3));
-    bodies.map(|(numbers, centre)| mass(numbers, vector(centre))).collect()
+    let given = centres.chunks_exact(3).map(vector).chain(std::iter::repeat(Vec3::ZERO));
+    numbers.chunks_exact(10).zip(given).map(|(numbers, centre)| mass(numbers, centre)).collect()
 }
 
 /// A mass is inverse_mass, then inverse_inertia by columns; no step reads the centre.

@@ -3,6 +3,7 @@ use mathlib.Core.Path.{refl, sym}
 use native.Mathlib.Omega.{arith}
 use lib.Seq.{length-take-le}
 use borrow.Author.Needs.{needs}
+use Rattle.kapitsa_joint.specs.declared.kind.Kind.the-variants.{Position}
 use Rattle.check_alone.proofs.Alone.{taken, alone}
 use Rattle.check_alone.proofs.small.with_small_memory.Statement.{statement}
 use Rattle.check_alone.proofs.small.with_small_memory.Tie as tie
@@ -34,4 +35,4 @@ with-small-memory-spec =
     (λ c.
     let at-closing-check = c .before .before .before .before .before .before .before .before .before in
     let start = at-closing-check .before .before .before .before .before .before .before .before .before .before .before .before .before .before .before .before .before in
-    alone _ (start .pre .0) (taken 128 64 _ _ _ _ _ _ _ (start .pre .1 .0) (start .pre .1 .1) refl refl refl refl refl refl refl) ((at-closing-check .closing-check) .ensures)))  -- returns
+    alone Position _ (start .pre .0) (taken 128 64 _ _ _ _ _ _ _ (start .pre .1 .0) (start .pre .1 .1) refl refl refl refl refl refl refl) ((at-closing-check .closing-check) .ensures)))  -- returns

@@ -11,12 +11,9 @@ row-in-range-at-spec =
     (tie.spec
     (λ c κs. search needs)  -- jacobian-at-requires
     (λ c κs. search needs)  -- jacobian-in-range-requires
-    (λ c. search needs)  -- mul-in-range
-    (λ c. search needs)  -- add-in-range
-    (λ c. search needs)  -- mul-in-range-2
-    (λ c. search needs)  -- shared-slice-read-in-range
+    (λ c κs. search needs)  -- error-at-requires
     (λ c κs. search needs)  -- in-range-requires
-    (λ c. search needs)  -- mul-in-range-3
-    (λ c. search needs)  -- shared-slice-read-in-range-2
+    (λ c. search needs)  -- mul-in-range
+    (λ c. search needs)  -- shared-slice-read-in-range
     (λ c κs. search needs)  -- in-range-requires-2
-    (λ c. rw ((c .in-range2) .ensures, (c .before .before .in-range) .ensures, (c .before .before .before .before .jacobian-in-range) .ensures, (c .before .before .before .before .before .jacobian-at) .ensures)))  -- returns
+    (λ c. rw ((c .in-range2) .ensures, (c .before .before .in-range) .ensures, (c .before .before .before .error-at) .ensures, (c .before .before .before .before .jacobian-in-range) .ensures, (c .before .before .before .before .before .jacobian-at) .ensures)))  -- returns

@@ -1,12 +1,11 @@
 -- `check_range::table::table_in_range` meets its contract. Assumes nothing.
 use borrow.Author.Needs.{needs}
-use Rattle.kapitsa_joint.specs.Row.{rowOf, scalarsOf}
 use Rattle.check_range.specs.Range.{tableInRange}
 use Rattle.check_range.proofs.table.table_in_range.Statement.{statement}
 use Rattle.check_range.proofs.table.table_in_range.Tie as tie
 
 pub table-in-range-spec : {M : Type 1} → statement M
-unfolding tableInRange rowOf scalarsOf
+unfolding tableInRange
 table-in-range-spec =
     tie.close
     (tie.spec

@@ -12,6 +12,6 @@ table-fits-spec =
     (λ c. search needs)  -- mul-result
     (λ c. search needs)  -- mul-result-2
     (λ c. search needs)  -- mul-result-3
-    (λ c. search needs)  -- mul-result-4
+    (λ c κs. search needs)  -- beside-requires
     (λ c κs. search needs)  -- rule-lengths-fit-requires
-    (λ c. rw ((c .before .rule-lengths-fit) .ensures)))  -- returns
+    (λ c. rw ((c .before .rule-lengths-fit) .ensures, (c .before .before .before .before .beside) .ensures)))  -- returns

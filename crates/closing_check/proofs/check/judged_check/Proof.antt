@@ -2,6 +2,7 @@
 use mathlib.Core.Path.{refl, _∙_}
 use native.Mathlib.Omega.{arith}
 use borrow.Author.Needs.{needs}
+use Rattle.mass_operator.specs.Flat.{coefficients}
 use Rattle.closing_check.proofs.Entry.{room-same}
 use Rattle.closing_check.proofs.Judged.{passed-judged, refused-judged, ruled-judged, valid-judged, valid-same}
 use Rattle.closing_check.proofs.Measured.{named-is, verdict-is}
@@ -12,64 +13,60 @@ pub judged-check-spec : {M : Type 1} → statement M
 judged-check-spec =
     tie.close
     (tie.spec
-    (λ c κs.
-    let start = c .before .before .before .before .before .before .before .before .before .before .before .before .before .before in
-    (omega (arith, start .pre .0 .numbers), omega (arith, start .pre .0 .words), omega (arith, start .pre .0 .masses), omega (arith, start .pre .0 .multipliers), omega (arith, start .pre .1 .0 .0)))  -- judge-table-requires
+    (λ c κs. (
+      omega (arith, (c .before .before .before .before .before .before .before .before .before .before .before .before .before .before .before) .pre .0 .numbers),
+      omega (arith, (c .before .before .before .before .before .before .before .before .before .before .before .before .before .before .before) .pre .0 .words),
+      omega (arith, (c .before .before .before .before .before .before .before .before .before .before .before .before .before .before .before) .pre .0 .masses),
+      omega (arith, (c .before .before .before .before .before .before .before .before .before .before .before .before .before .before .before) .pre .0 .multipliers),
+      omega (arith, (c .before .before .before .before .before .before .before .before .before .before .before .before .before .before .before) .pre .1 .0 .0),
+      (c .before .before .before .before .before .before .before .before .before .before .before .before .before .before .before) .pre .1 .1 .1,
+    ))  -- judge-table-requires
     (λ c. search needs)  -- enum-known-judged
     (λ c. (refused-judged _ ((c .before .before .before .judge-table) .ensures) _ ((c .before .judged) .given .1), refl))  -- returns
     (λ c. search needs)  -- enum-told
     (λ c κs. (
-      room-same ((c .before .before .before .before .before .before .before .before .before .before .before .before .before .before .before .before .before .before .before .before .before .before .before .before) .pre .0 .multipliers) ((c .before .before .before .before .before .before .before .before .before .before .before .before .before .before .before .before .before .before .before .before .before .before .before .before) .pre .0),
+      room-same ((c .before .before .before .before .before .before .before .before .before .before .before .before .before .before .before .before .before .before .before .before .before .before .before .before .before) .pre .0 .multipliers) ((c .before .before .before .before .before .before .before .before .before .before .before .before .before .before .before .before .before .before .before .before .before .before .before .before .before) .pre .0),
       valid-same
-          ((c .before .before .before .before .before .before .before .before .before .before .before .before .before .before .before .before .before .before .before .before .before .before .before .before) .pre .0 .multipliers)
-          (valid-judged _ _ _ _ _ _ _ _
+          ((c .before .before .before .before .before .before .before .before .before .before .before .before .before .before .before .before .before .before .before .before .before .before .before .before .before) .pre .0 .multipliers)
+          (valid-judged ((c .before .before .before .before .before .before .before .before .before .before .before .before .before .before .before .before .before .before .before .before .before .before .before .before .before) .args .kind) _ _ _ _ _ _ _ (coefficients ((c .before .before .before .before .before .before .before .before .before .before .before .before .before .before .before .before .before .before .before .before .before .before .before .before .before) .args .given .now)) _
           ((c .before .before .before .before .before .before .before .before .before .judge-table) .ensures)
           ((c .before .before .before .before .before .before .before .enum-told) .given .1)),
     ))  -- measure-rows-requires
-    (λ c κs.
-    let at-sizes = c .before .before .before in
-    let at-values = at-sizes .before .before in
-    let start = at-values .before .before .before .before .before .before .before .before .before .before .before .before .before .before .before .before .before .before .before .before .before .before .before .before .before .before .before .before .before .before .before .before .before .before .before .before in
-    (start .pre .1 .1, omega (arith, start .pre .0 .numbers), omega (arith, (at-sizes .sizes) .given, start .pre .0 .sizes), (at-values .values) .given ∙ start .pre .0 .values))  -- measure-reaches-requires
-    (λ c κs.
-    let start = c .before .before .before .before .before .before .before .before .before .before .before .before .before .before .before .before .before .before .before .before .before .before .before .before .before .before .before .before .before .before .before .before .before .before .before .before .before .before .before .before .before .before .before .before .before in
-    (omega (arith, start .pre .1 .0 .2, start .pre .0 .words), omega (arith, start .pre .1 .0 .0), start .pre .1 .0 .1))  -- name-rules-requires
+    (λ c κs. (
+      (c .before .before .before .before .before .before .before .before .before .before .before .before .before .before .before .before .before .before .before .before .before .before .before .before .before .before .before .before .before .before .before .before .before .before .before .before .before .before .before .before .before .before) .pre .1 .1 .0,
+      omega (arith, (c .before .before .before .before .before .before .before .before .before .before .before .before .before .before .before .before .before .before .before .before .before .before .before .before .before .before .before .before .before .before .before .before .before .before .before .before .before .before .before .before .before .before) .pre .0 .numbers),
+      omega (arith, (c .before .before .before .sizes) .given, (c .before .before .before .before .before .before .before .before .before .before .before .before .before .before .before .before .before .before .before .before .before .before .before .before .before .before .before .before .before .before .before .before .before .before .before .before .before .before .before .before .before .before) .pre .0 .sizes),
+      (c .before .before .before .before .before .values) .given ∙ (c .before .before .before .before .before .before .before .before .before .before .before .before .before .before .before .before .before .before .before .before .before .before .before .before .before .before .before .before .before .before .before .before .before .before .before .before .before .before .before .before .before .before) .pre .0 .values,
+      (c .before .before .before .before .before .before .before .before .before .before .before .before .before .before .before .before .before .before .before .before .before .before .before .before .before .before .before .before .before .before .before .before .before .before .before .before .before .before .before .before .before .before) .pre .1 .1 .1,
+    ))  -- measure-reaches-requires
+    (λ c κs. (omega (arith, (c .before .before .before .before .before .before .before .before .before .before .before .before .before .before .before .before .before .before .before .before .before .before .before .before .before .before .before .before .before .before .before .before .before .before .before .before .before .before .before .before .before .before .before .before .before .before) .pre .1 .0 .2, (c .before .before .before .before .before .before .before .before .before .before .before .before .before .before .before .before .before .before .before .before .before .before .before .before .before .before .before .before .before .before .before .before .before .before .before .before .before .before .before .before .before .before .before .before .before .before) .pre .0 .words), omega (arith, (c .before .before .before .before .before .before .before .before .before .before .before .before .before .before .before .before .before .before .before .before .before .before .before .before .before .before .before .before .before .before .before .before .before .before .before .before .before .before .before .before .before .before .before .before .before .before) .pre .1 .0 .0), (c .before .before .before .before .before .before .before .before .before .before .before .before .before .before .before .before .before .before .before .before .before .before .before .before .before .before .before .before .before .before .before .before .before .before .before .before .before .before .before .before .before .before .before .before .before .before) .pre .1 .0 .1))  -- name-rules-requires
     (λ c κs. (
       (
-        omega (arith, (c .before .before .before .before .before .before .before .before .before .before .before .before .before .before .before .before .before .before .before .before .before .before .before .before .before .before .before .before .before .before .before .before .before .before .before .before .before .before .before .before .before .before .before .before .before .before .before .before .before) .pre .0 .words),
-        omega (arith, (c .before .before .before .before .before .before .values2) .given, (c .before .before .before .before .before .before .before .before .before .before .before .before .before .values) .given, (c .before .before .before .before .before .before .before .before .before .before .before .before .before .before .before .before .before .before .before .before .before .before .before .before .before .before .before .before .before .before .before .before .before .before .before .before .before .before .before .before .before .before .before .before .before .before .before .before .before) .pre .0 .values),
-        omega (arith, (c .before .before .before .before .before .before .before .before .before .before .before .before .before .before .before .before .before .before .before .before .before .before .before .before .before .before .before .before .before .before .before .before .before .before .before .before .before .before .before .before .before .before .before .before .before .before .before .before .before) .pre .1 .0 .0),
+        omega (arith, (c .before .before .before .before .before .before .before .before .before .before .before .before .before .before .before .before .before .before .before .before .before .before .before .before .before .before .before .before .before .before .before .before .before .before .before .before .before .before .before .before .before .before .before .before .before .before .before .before .before .before) .pre .0 .words),
+        omega (arith, (c .before .before .before .before .before .before .values2) .given, (c .before .before .before .before .before .before .before .before .before .before .before .before .before .values) .given, (c .before .before .before .before .before .before .before .before .before .before .before .before .before .before .before .before .before .before .before .before .before .before .before .before .before .before .before .before .before .before .before .before .before .before .before .before .before .before .before .before .before .before .before .before .before .before .before .before .before .before) .pre .0 .values),
+        omega (arith, (c .before .before .before .before .before .before .before .before .before .before .before .before .before .before .before .before .before .before .before .before .before .before .before .before .before .before .before .before .before .before .before .before .before .before .before .before .before .before .before .before .before .before .before .before .before .before .before .before .before .before) .pre .1 .0 .0),
       ),
-      ruled-judged _ _ _ _ _ _ _ _
+      ruled-judged ((c .before .before .before .before .before .before .before .before .before .before .before .before .before .before .before .before .before .before .before .before .before .before .before .before .before .before .before .before .before .before .before .before .before .before .before .before .before .before .before .before .before .before .before .before .before .before .before .before .before .before) .args .kind) _ _ _ _ _ _ _ (coefficients ((c .before .before .before .before .before .before .before .before .before .before .before .before .before .before .before .before .before .before .before .before .before .before .before .before .before .before .before .before .before .before .before .before .before .before .before .before .before .before .before .before .before .before .before .before .before .before .before .before .before .before) .args .given .now)) _
           ((c .before .before .before .before .before .before .before .before .before .before .before .before .before .before .before .before .before .before .before .before .before .before .before .before .before .before .before .before .before .before .before .before .before .before .judge-table) .ensures)
           ((c .before .before .before .before .before .before .before .before .before .before .before .before .before .before .before .before .before .before .before .before .before .before .before .before .before .before .before .before .before .before .before .before .enum-told) .given .1),
     ))  -- verdict-requires
     (λ c. (c .before .before .before .rule-numbers) .given)  -- same-length
-    (λ c.
-    let at-jacobians = c .before .before .before .before .before .before .before .before .before .before .before .before .before .before .before .before .before .before .before .before .before .before .before .before in
-    (at-jacobians .jacobians) .given)  -- same-length-2
-    (λ c.
-    let at-links = c .before .before .before .before .before .before .before .before .before .before .before .before .before .before .before .before .before .before .before .before .before .before in
-    (at-links .links) .given)  -- same-length-3
-    (λ c.
-    let at-mass-sizes = c .before .before .before .before .before .before .before .before .before .before .before .before .before .before .before .before .before .before .before .before in
-    (at-mass-sizes .mass-sizes) .given)  -- same-length-4
+    (λ c. (c .before .before .before .before .before .before .before .before .before .before .before .before .before .before .before .before .before .before .before .before .before .before .before .before .jacobians) .given)  -- same-length-2
+    (λ c. (c .before .before .before .before .before .before .before .before .before .before .before .before .before .before .before .before .before .before .before .before .before .before .links) .given)  -- same-length-3
+    (λ c. (c .before .before .before .before .before .before .before .before .before .before .before .before .before .before .before .before .before .before .before .before .mass-sizes) .given)  -- same-length-4
     (λ c. (c .before .before .before .before .before .before .before .before .before .before .before .before .before .before .before .before .before .before .multiplier-sizes) .given)  -- same-length-5
     (λ c. (c .before .before .before .before .before .before .before .before .before .before .before .before .before .before .before .before .impulses) .given)  -- same-length-6
-    (λ c.
-    let at-values2 = c .before .before .before .before .before .before .before in
-    let at-values = at-values2 .before .before .before .before .before .before .before in
-    (at-values2 .values2) .given ∙ (at-values .values) .given)  -- same-length-7
+    (λ c. (c .before .before .before .before .before .before .before .values2) .given ∙ (c .before .before .before .before .before .before .before .before .before .before .before .before .before .before .values) .given)  -- same-length-7
     (λ c. (c .before .before .before .before .before .before .before .before .before .before .before .before .sizes) .given)  -- same-length-8
     (λ c. (
-      verdict-is _ _
+      verdict-is ((c .before .before .before .before .before .before .before .before .before .before .before .before .before .before .before .before .before .before .before .before .before .before .before .before .before .before .before .before .before .before .before .before .before .before .before .before .before .before .before .before .before .before .before .before .before .before .before .before .before .before .before) .args .kind) _ ((c .before .before .before .before .before .before .before .before .before .before .before .before .before .before .before .before .before .before .before .before .before .before .before .before .before .before .before .before .before .before .before .before .before .before .before .before .before .before .before .before .before .before .before .before .before .before .before .before .before .before .before) .args .given .now) _
           ((c .before .before .before .before .before .before .before .before .before .before .before .before .before .before .before .before .before .before .before .before .before .before .before .before .before .measure-rows) .ensures)
-          ((c .before .before .before .before .before .before .before .before .before .before .before .before .before .before .before .before .before .before .before .before .before .before .before .before .before .before .before .before .before .before .before .before .before .before .before .before .before .before .before .before .before .before .before .before .before .before .before .before .before .before) .pre .0 .multipliers)
+          ((c .before .before .before .before .before .before .before .before .before .before .before .before .before .before .before .before .before .before .before .before .before .before .before .before .before .before .before .before .before .before .before .before .before .before .before .before .before .before .before .before .before .before .before .before .before .before .before .before .before .before .before) .pre .0 .multipliers)
           ((c .before .before .before .before .before .before .before .before .measure-reaches) .ensures) ((c .verdict) .ensures)
           (passed-judged _
           ((c .before .before .before .before .before .before .before .before .before .before .before .before .before .before .before .before .before .before .before .before .before .before .before .before .before .before .before .before .before .before .before .before .before .before .before .judge-table) .ensures)
           ((c .before .before .before .before .before .before .before .before .before .before .before .before .before .before .before .before .before .before .before .before .before .before .before .before .before .before .before .before .before .before .before .before .before .enum-told) .given .1)),
-      named-is _ _ _ _ _ _ _ _ _ _ ((c .verdict) .ensures)
-          ((c .before .before .before .before .before .before .before .before .before .before .before .before .before .before .before .before .before .before .before .before .before .before .before .before .before .before .before .before .before .before .before .before .before .before .before .before .before .before .before .before .before .before .before .before .before .before .before .before .before .before) .pre .1 .0 .2)
+      named-is _ _ _ _ _ _ _ ((c .before .before .before .before .before .before .before .before .before .before .before .before .before .before .before .before .before .before .before .before .before .before .before .before .before .before .before .before .before .before .before .before .before .before .before .before .before .before .before .before .before .before .before .before .before .before .before .before .before .before .before) .args .kind) (coefficients ((c .before .before .before .before .before .before .before .before .before .before .before .before .before .before .before .before .before .before .before .before .before .before .before .before .before .before .before .before .before .before .before .before .before .before .before .before .before .before .before .before .before .before .before .before .before .before .before .before .before .before .before) .args .given .now)) _ _ _ ((c .verdict) .ensures)
+          ((c .before .before .before .before .before .before .before .before .before .before .before .before .before .before .before .before .before .before .before .before .before .before .before .before .before .before .before .before .before .before .before .before .before .before .before .before .before .before .before .before .before .before .before .before .before .before .before .before .before .before .before) .pre .1 .0 .2)
           ((c .before .before .before .before .name-rules) .ensures),
     )))  -- returns-2

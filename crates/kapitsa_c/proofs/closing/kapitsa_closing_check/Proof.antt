@@ -1,6 +1,9 @@
 -- `kapitsa_c::closing::kapitsa_closing_check` meets its contract. Assumes nothing.
+use mathlib.Core.List.{[]}
 use borrow.Author.Needs.{needs}
-use Rattle.kapitsa_c.proofs.closing.Verdicts.{told-lengths, told-on, untold}
+use Rattle.kapitsa_joint.specs.declared.kind.Kind.the-variants as kinds
+use Rattle.mass_operator.specs.Flat.{coefficients}
+use Rattle.kapitsa_c.proofs.Verdicts.{told-lengths, told-on, untold}
 use Rattle.kapitsa_c.proofs.closing.kapitsa_closing_check.Statement.{statement}
 use Rattle.kapitsa_c.proofs.closing.kapitsa_closing_check.Tie as tie
 
@@ -11,7 +14,7 @@ kapitsa-closing-check-spec =
     (λ c κs. search needs)  -- verdict-fits-requires
     (λ c. search needs)  -- same-length
     (λ c. search needs)  -- same-length-2
-    (λ c. untold _ _ _ _ _ _ _ _ _ ((c .before .verdict-fits) .ensures) ((c .if1) .taken))  -- returns
+    (λ c. untold kinds.Position _ _ _ (coefficients []) _ _ _ _ _ _ ((c .before .verdict-fits) .ensures) ((c .if1) .taken))  -- returns
     (λ c κs. search needs)  -- closing-check-requires
     (λ c κs.
     told-lengths _ _
@@ -28,7 +31,7 @@ kapitsa-closing-check-spec =
     (λ c. (c .before .before .before .before .before .before .before .before .before .before .values) .given)  -- same-length-11
     (λ c. (c .before .before .before .before .before .before .before .before .sizes) .given)  -- same-length-12
     (λ c.
-    told-on _ _ _ _ _ _ _ _ _
+    told-on kinds.Position _ _ _ (coefficients []) _ _ _ _ _ _
     ((c .before .before .before .before .before .before .before .before .before .before .before .before .before .before .before .before .before .before .before .before .before .before .before .before .before .before .before .before .before .before .before .before .before .verdict-fits) .ensures)
     ((c .before .before .before .before .before .before .before .before .before .before .before .before .before .before .before .before .before .before .before .before .before .before .before .before .before .before .before .before .before .before .before .before .if1) .left)
     ((c .before .before .before .before .before .before .before .before .before .before .before .before .before .before .before .before .before .before .before .before .before .before .before .closing-check) .ensures)

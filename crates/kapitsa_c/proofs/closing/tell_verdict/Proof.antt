@@ -1,6 +1,6 @@
 -- `kapitsa_c::closing::tell_verdict` meets its contract. Assumes nothing.
 use borrow.Author.Needs.{needs}
-use Rattle.kapitsa_c.proofs.closing.Verdicts.{told-closed, told-open, told-refused}
+use Rattle.kapitsa_c.proofs.Verdicts.{told-closed, told-open, told-refused}
 use Rattle.kapitsa_c.proofs.closing.tell_verdict.Statement.{statement}
 use Rattle.kapitsa_c.proofs.closing.tell_verdict.Tie as tie
 

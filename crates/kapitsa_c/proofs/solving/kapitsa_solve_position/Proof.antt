@@ -12,7 +12,7 @@ kapitsa-solve-position-spec =
     (λ c κs. record {})  -- told-fits-requires
     (λ c. refl)  -- same-length
     (λ c. refl)  -- same-length-2
-    (λ c. untold _ _ _ _ _ _ _ _ _ _ (position-apart _ _ _ _) _ _ _ ((c .before .told-fits) .ensures) ((c .if1) .taken))  -- returns
+    (λ c. untold _ _ _ _ _ _ _ _ _ _ _ (position-apart _ _ _ _) _ _ _ ((c .before .told-fits) .ensures) ((c .if1) .taken))  -- returns
     (λ c κs. record {})  -- solve-position-pcg-prepared-requires
     (λ c κs. told-lengths ((c .before .before .before .before .before .before .before .before .before .before .before .before .before .before .before .before .before .before .before .before .before .before .before .before .before .before .before .before .before .before .before .before .before .before .before .before .before .before .before .before .before .before .before .before .before .before .before .before .before .before .before .before .before .before .before .before .before .before .before .before .before .before .before .before .before .before .before .before .before .before .before .before .before .before .before .before .before .before .before .before .before .before) .args .counts .now) ((c .before .before .before .before .before .before .before .before .before .before .before .before .before .before .before .before .before .before .before .before .before .before .before .before .before .before .before .before .before .before .before .before .before .before .before .before .before .before .before .before .before .before .before .before .before .before .before .before .before .before .before .before .before .before .before .before .before .before .before .before .before .before .before .before .before .before .before .before .before .before .before .before .before .before .before .before .before .before .before .before .before .before) .args .maxima .now) _ ((c .before .before .before .before .before .before .before .before .before .before .before .before .before .before .before .before .before .before .before .before .before .before .before .before .before .before .before .before .before .before .before .before .before .before .before .before .before .before .before .before .before .before .before .before .before .before .before .before .before .before .before .before .before .before .before .told-fits) .ensures) ((c .before .before .before .before .before .before .before .before .before .before .before .before .before .before .before .before .before .before .before .before .before .before .before .before .before .before .before .before .before .before .before .before .before .before .before .before .before .before .before .before .before .before .before .before .before .before .before .before .before .before .before .before .before .before .if1) .left))  -- tell-requires
     (λ c. (c .before .before .before .before .before .before .before .before .before .before .before .before .before .before .before .before .before .before .before .before .before .before .before .before .before .before .before .before .before .before .before .before .before .before .before .before .before .before .before .before .numbers) .given)  -- same-length-3
@@ -34,4 +34,4 @@ kapitsa-solve-position-spec =
     (λ c. (c .before .before .before .before .before .before .before .before .before .before .before .before .pattern) .given)  -- same-length-19
     (λ c. (c .before .before .before .before .before .before .before .before .before .before .order) .given)  -- same-length-20
     (λ c. (c .before .before .before .before .before .before .before .before .values) .given)  -- same-length-21
-    (λ c. told-on _ _ _ _ _ _ _ _ _ _ (position-apart _ _ _ _) _ _ _ ((c .before .before .before .before .before .before .before .before .before .before .before .before .before .before .before .before .before .before .before .before .before .before .before .before .before .before .before .before .before .before .before .before .before .before .before .before .before .before .before .before .before .before .before .before .before .before .before .before .before .before .before .before .before .before .before .before .before .before .before .before .told-fits) .ensures) _ _ _ _ _ ((c .before .before .before .before .before .before .before .before .before .before .before .before .before .before .before .before .before .before .before .before .before .before .before .before .before .before .before .before .before .before .before .before .before .before .before .before .before .before .before .before .before .before .before .before .before .before .before .before .before .before .before .before .before .before .before .before .before .before .before .if1) .left) ((c .before .before .before .before .before .before .before .before .before .before .before .before .before .before .before .before .before .before .before .before .before .before .before .before .before .before .before .before .before .before .before .before .before .before .before .before .before .before .before .before .before .solve-position-pcg-prepared) .ensures) ((c .before .before .before .before .tell) .ensures)))  -- returns-2
+    (λ c. told-on _ _ _ _ _ _ _ _ _ _ _ (position-apart _ _ _ _) _ _ _ ((c .before .before .before .before .before .before .before .before .before .before .before .before .before .before .before .before .before .before .before .before .before .before .before .before .before .before .before .before .before .before .before .before .before .before .before .before .before .before .before .before .before .before .before .before .before .before .before .before .before .before .before .before .before .before .before .before .before .before .before .before .told-fits) .ensures) _ _ _ _ _ ((c .before .before .before .before .before .before .before .before .before .before .before .before .before .before .before .before .before .before .before .before .before .before .before .before .before .before .before .before .before .before .before .before .before .before .before .before .before .before .before .before .before .before .before .before .before .before .before .before .before .before .before .before .before .before .before .before .before .before .before .if1) .left) ((c .before .before .before .before .before .before .before .before .before .before .before .before .before .before .before .before .before .before .before .before .before .before .before .before .before .before .before .before .before .before .before .before .before .before .before .before .before .before .before .before .before .solve-position-pcg-prepared) .ensures) ((c .before .before .before .before .tell) .ensures)))  -- returns-2

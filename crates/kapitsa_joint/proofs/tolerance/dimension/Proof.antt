@@ -1,6 +1,6 @@
 -- `kapitsa_joint::tolerance::dimension` meets its contract. Assumes nothing.
 use borrow.Author.Needs.{needs}
-use Rattle.kapitsa_joint.proofs.Kind.{angular-word, linear-word}
+use Rattle.kapitsa_joint.proofs.Dimensions.{angular-word, linear-word}
 use Rattle.kapitsa_joint.proofs.tolerance.dimension.Statement.{statement}
 use Rattle.kapitsa_joint.proofs.tolerance.dimension.Tie as tie
 

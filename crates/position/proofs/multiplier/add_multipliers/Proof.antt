@@ -7,10 +7,10 @@ use Rattle.position.proofs.multiplier.add_multipliers.Statement.{statem
 use Rattle.position.proofs.multiplier.add_multipliers.Tie as tie
 
 abbrev Inv-loop : tie.InvT-loop
-Inv-loop numbers₀ solution i₀ numbers i = Gains numbers₀ solution (length solution) i numbers
+Inv-loop place numbers₀ solution i₀ numbers i = Gains place numbers₀ solution (length solution) i numbers
 
 abbrev μ-loop : tie.MeasureT-loop
-μ-loop numbers₀ solution i₀ numbers i = length solution - i
+μ-loop place numbers₀ solution i₀ numbers i = length solution - i
 
 ruleset known = (gains-none, gains-more, gains-end, needs)
 
@@ -20,7 +20,10 @@ add-multipliers-spec =
     (tie.spec Inv-loop μ-loop
     (λ c. search known)  -- loop-holds
     (λ c κs. search known)  -- gain-requires
-    (λ c κs. search known)  -- put-multiplier-requires
+    (λ c. search known)  -- mul-numbers
+    (λ c. search known)  -- add-numbers
+    (λ c. search known)  -- mul-numbers-2
+    (λ c. search known)  -- slice-write-numbers
     (λ c. search known)  -- add-i
     (λ c. search known)  -- loop-less
     (λ c. search known)  -- loop-again

@@ -9,10 +9,10 @@ use Rattle.position.proofs.multiplier.multipliers_finite.Statement.{sta
 use Rattle.position.proofs.multiplier.multipliers_finite.Tie as tie
 
 abbrev Inv-loop : tie.InvT-loop
-Inv-loop numbers solution i₀ i = Holds (λ k. finite (gainOf numbers solution k)) (length solution) i
+Inv-loop place numbers solution i₀ i = Holds (λ k. finite (gainOf place numbers solution k)) (length solution) i
 
 abbrev μ-loop : tie.MeasureT-loop
-μ-loop numbers solution i₀ i = length solution - i
+μ-loop place numbers solution i₀ i = length solution - i
 
 ruleset known = (gain-tested, called)
 

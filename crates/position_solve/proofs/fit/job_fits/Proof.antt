@@ -10,7 +10,7 @@ job-fits-spec =
     tie.close
     (tie.spec
     (λ c κs. search needs)  -- rules-lent-requires
-    (λ c κs. search needs)  -- centres-lent-requires
+    (λ c κs. search needs)  -- beside-lent-requires
     (λ c κs. search needs)  -- counts-fit-requires
     (λ c κs. search needs)  -- table-fits-requires
-    (λ c. rw ((c .before .before .before .rules-lent) .ensures, (c .before .before .centres-lent) .ensures, (c .before .counts-fit) .ensures, (c .table-fits) .ensures)))  -- returns
+    (λ c. rw ((c .before .before .before .rules-lent) .ensures, (c .before .before .beside-lent) .ensures, (c .before .counts-fit) .ensures, (c .table-fits) .ensures)))  -- returns

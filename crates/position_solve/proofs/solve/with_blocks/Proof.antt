@@ -13,12 +13,12 @@ with-blocks-spec =
     (tie.spec
     (λ c κs. search needs)  -- pattern-room-requires
     (λ c κs. search needs)  -- values-room-requires
-    (λ c. omega (arith, (c .before .before .before .before .before .before .pattern-room) .ensures, owners-within _ 512 ((c .before .before .before .before .before .before .before .before .before .before .before .before .before .before .before .before .before) .pre .1 .0 .0)))  -- array-borrow-prefix-pattern
-    (λ c. sym (length-take-le _ _ (omega (arith, (c .before .before .before .before .before .before .before .pattern-room) .ensures, owners-within _ 512 ((c .before .before .before .before .before .before .before .before .before .before .before .before .before .before .before .before .before .before) .pre .1 .0 .0)))))  -- slice-aggregate-with-vectors
+    (λ c. omega (arith, (c .before .before .before .before .before .before .pattern-room) .ensures, owners-within _ 512 ((c .before .before .before .before .before .before .before .before .before .before .before .before .before .before .before .before .before .before) .pre .1 .0 .0)))  -- array-borrow-prefix-pattern
+    (λ c. sym (length-take-le _ _ (omega (arith, (c .before .before .before .before .before .before .before .pattern-room) .ensures, owners-within _ 512 ((c .before .before .before .before .before .before .before .before .before .before .before .before .before .before .before .before .before .before .before) .pre .1 .0 .0)))))  -- slice-aggregate-with-vectors
     (λ c. search needs)  -- slice-aggregate-with-vectors-2
-    (λ c. omega (arith, (c .before .before .before .before .before .before .before .values-room) .ensures, blocks-within _ 512 ((c .before .before .before .before .before .before .before .before .before .before .before .before .before .before .before .before .before .before .before) .pre .1 .0 .0)))  -- array-borrow-prefix-values
-    (λ c. sym (length-take-le _ _ (omega (arith, (c .before .before .before .before .before .before .before .before .values-room) .ensures, blocks-within _ 512 ((c .before .before .before .before .before .before .before .before .before .before .before .before .before .before .before .before .before .before .before .before) .pre .1 .0 .0)))))  -- slice-aggregate-with-vectors-3
-    (λ c κs. ((c .before .before .before .before .before .before .before .before .before .before .before .before .before .before .before .before .before .before .before .before) .pre .0, ((c .before .before .before .before .before .before .before .before .before .before .before .before .before .before .before .before .before .before .before .before) .pre .1 .0, factor-room (mode-2 _ ((c .before .before .before .before .before .before .before .before .before .before .before .before .before .before .before .before .before .before .before .before) .pre .1 .1)) (length-take-le _ _ (omega (arith, (c .before .before .before .before .before .before .before .before .before .pattern-room) .ensures, owners-within _ 512 ((c .before .before .before .before .before .before .before .before .before .before .before .before .before .before .before .before .before .before .before .before) .pre .1 .0 .0))) ∙ (c .before .before .before .before .before .before .before .before .before .pattern-room) .ensures) (no-order _) (length-take-le _ _ (omega (arith, (c .before .before .before .before .before .before .before .before .values-room) .ensures, blocks-within _ 512 ((c .before .before .before .before .before .before .before .before .before .before .before .before .before .before .before .before .before .before .before .before) .pre .1 .0 .0))) ∙ (c .before .before .before .before .before .before .before .before .values-room) .ensures))))  -- with-vectors-requires
+    (λ c. omega (arith, (c .before .before .before .before .before .before .before .values-room) .ensures, blocks-within _ 512 ((c .before .before .before .before .before .before .before .before .before .before .before .before .before .before .before .before .before .before .before .before) .pre .1 .0 .0)))  -- array-borrow-prefix-values
+    (λ c. sym (length-take-le _ _ (omega (arith, (c .before .before .before .before .before .before .before .before .values-room) .ensures, blocks-within _ 512 ((c .before .before .before .before .before .before .before .before .before .before .before .before .before .before .before .before .before .before .before .before .before) .pre .1 .0 .0)))))  -- slice-aggregate-with-vectors-3
+    (λ c κs. ((c .before .before .before .before .before .before .before .before .before .before .before .before .before .before .before .before .before .before .before .before .before) .pre .0, ((c .before .before .before .before .before .before .before .before .before .before .before .before .before .before .before .before .before .before .before .before .before) .pre .1 .0, factor-room (mode-2 _ ((c .before .before .before .before .before .before .before .before .before .before .before .before .before .before .before .before .before .before .before .before .before) .pre .1 .1)) (length-take-le _ _ (omega (arith, (c .before .before .before .before .before .before .before .before .before .pattern-room) .ensures, owners-within _ 512 ((c .before .before .before .before .before .before .before .before .before .before .before .before .before .before .before .before .before .before .before .before .before) .pre .1 .0 .0))) ∙ (c .before .before .before .before .before .before .before .before .before .pattern-room) .ensures) (no-order _) (length-take-le _ _ (omega (arith, (c .before .before .before .before .before .before .before .before .values-room) .ensures, blocks-within _ 512 ((c .before .before .before .before .before .before .before .before .before .before .before .before .before .before .before .before .before .before .before .before .before) .pre .1 .0 .0))) ∙ (c .before .before .before .before .before .before .before .before .values-room) .ensures))))  -- with-vectors-requires
     (λ c. (c .before .before .before .before .before .before .before .before .before .before .before .before .numbers) .given)  -- same-length
     (λ c. (c .before .before .before .before .before .before .before .before .before .before .solution) .given)  -- same-length-2
     (λ c. (c .before .before .before .before .before .before .before .before .impulses) .given)  -- same-length-3

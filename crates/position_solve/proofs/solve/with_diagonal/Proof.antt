@@ -11,7 +11,7 @@ with-diagonal-spec =
     (λ c. search needs)  -- slice-aggregate-with-vectors
     (λ c. search needs)  -- slice-aggregate-with-vectors-2
     (λ c. search needs)  -- slice-aggregate-with-vectors-3
-    (λ c κs. ((c .before .before .before .before .before .before .before .before .before .before .before .before .before .before .before .before .before .before) .pre .0, ((c .before .before .before .before .before .before .before .before .before .before .before .before .before .before .before .before .before .before) .pre .1 .0, no-factor _ _ ((c .before .before .before .before .before .before .before .before .before .before .before .before .before .before .before .before .before .before) .pre .1 .1))))  -- with-vectors-requires
+    (λ c κs. ((c .before .before .before .before .before .before .before .before .before .before .before .before .before .before .before .before .before .before .before) .pre .0, ((c .before .before .before .before .before .before .before .before .before .before .before .before .before .before .before .before .before .before .before) .pre .1 .0, no-factor _ _ ((c .before .before .before .before .before .before .before .before .before .before .before .before .before .before .before .before .before .before .before) .pre .1 .1))))  -- with-vectors-requires
     (λ c. (c .before .before .before .before .before .before .before .before .before .before .before .before .numbers) .given)  -- same-length
     (λ c. (c .before .before .before .before .before .before .before .before .before .before .solution) .given)  -- same-length-2
     (λ c. (c .before .before .before .before .before .before .before .before .impulses) .given)  -- same-length-3

@@ -15,13 +15,13 @@ with-factor-spec =
     (λ c κs. search needs)  -- pattern-room-requires
     (λ c κs. search needs)  -- order-room-requires
     (λ c κs. search needs)  -- values-room-requires
-    (λ c. omega (arith, (c .before .before .before .before .before .before .before .pattern-room) .ensures, pattern-within _ 512 16384 ((c .before .before .before .before .before .before .before .before .before .before .before .before .before .before .before .before .before .before) .pre .1 .0 .0) (room-limit _)))  -- array-borrow-prefix-pattern
-    (λ c. sym (length-take-le _ _ (omega (arith, (c .before .before .before .before .before .before .before .before .pattern-room) .ensures, pattern-within _ 512 16384 ((c .before .before .before .before .before .before .before .before .before .before .before .before .before .before .before .before .before .before .before) .pre .1 .0 .0) (room-limit _)))))  -- slice-aggregate-with-vectors
-    (λ c. omega (arith, (c .before .before .before .before .before .before .before .order-room) .ensures, order-within _ 512 16384 ((c .before .before .before .before .before .before .before .before .before .before .before .before .before .before .before .before .before .before .before) .pre .1 .0 .0) (room-limit _)))  -- array-borrow-prefix-order
-    (λ c. sym (length-take-le _ _ (omega (arith, (c .before .before .before .before .before .before .before .before .order-room) .ensures, order-within _ 512 16384 ((c .before .before .before .before .before .before .before .before .before .before .before .before .before .before .before .before .before .before .before .before) .pre .1 .0 .0) (room-limit _)))))  -- slice-aggregate-with-vectors-2
-    (λ c. omega (arith, (c .before .before .before .before .before .before .before .values-room) .ensures, values-within _ 512 16384 ((c .before .before .before .before .before .before .before .before .before .before .before .before .before .before .before .before .before .before .before .before) .pre .1 .0 .0) (room-limit _)))  -- array-borrow-prefix-values
-    (λ c. sym (length-take-le _ _ (omega (arith, (c .before .before .before .before .before .before .before .before .values-room) .ensures, values-within _ 512 16384 ((c .before .before .before .before .before .before .before .before .before .before .before .before .before .before .before .before .before .before .before .before .before) .pre .1 .0 .0) (room-limit _)))))  -- slice-aggregate-with-vectors-3
-    (λ c κs. ((c .before .before .before .before .before .before .before .before .before .before .before .before .before .before .before .before .before .before .before .before .before) .pre .0, ((c .before .before .before .before .before .before .before .before .before .before .before .before .before .before .before .before .before .before .before .before .before) .pre .1 .0, factor-room (mode-1 _ ((c .before .before .before .before .before .before .before .before .before .before .before .before .before .before .before .before .before .before .before .before .before) .pre .1 .1)) (length-take-le _ _ (omega (arith, (c .before .before .before .before .before .before .before .before .before .before .pattern-room) .ensures, pattern-within _ 512 16384 ((c .before .before .before .before .before .before .before .before .before .before .before .before .before .before .before .before .before .before .before .before .before) .pre .1 .0 .0) (room-limit _))) ∙ (c .before .before .before .before .before .before .before .before .before .before .pattern-room) .ensures) (length-take-le _ _ (omega (arith, (c .before .before .before .before .before .before .before .before .before .order-room) .ensures, order-within _ 512 16384 ((c .before .before .before .before .before .before .before .before .before .before .before .before .before .before .before .before .before .before .before .before .before) .pre .1 .0 .0) (room-limit _))) ∙ (c .before .before .before .before .before .before .before .before .before .order-room) .ensures) (length-take-le _ _ (omega (arith, (c .before .before .before .before .before .before .before .before .values-room) .ensures, values-within _ 512 16384 ((c .before .before .before .before .before .before .before .before .before .before .before .before .before .before .before .before .before .before .before .before .before) .pre .1 .0 .0) (room-limit _))) ∙ (c .before .before .before .before .before .before .before .before .values-room) .ensures))))  -- with-vectors-requires
+    (λ c. omega (arith, (c .before .before .before .before .before .before .before .pattern-room) .ensures, pattern-within _ 512 16384 ((c .before .before .before .before .before .before .before .before .before .before .before .before .before .before .before .before .before .before .before) .pre .1 .0 .0) (room-limit _)))  -- array-borrow-prefix-pattern
+    (λ c. sym (length-take-le _ _ (omega (arith, (c .before .before .before .before .before .before .before .before .pattern-room) .ensures, pattern-within _ 512 16384 ((c .before .before .before .before .before .before .before .before .before .before .before .before .before .before .before .before .before .before .before .before) .pre .1 .0 .0) (room-limit _)))))  -- slice-aggregate-with-vectors
+    (λ c. omega (arith, (c .before .before .before .before .before .before .before .order-room) .ensures, order-within _ 512 16384 ((c .before .before .before .before .before .before .before .before .before .before .before .before .before .before .before .before .before .before .before .before) .pre .1 .0 .0) (room-limit _)))  -- array-borrow-prefix-order
+    (λ c. sym (length-take-le _ _ (omega (arith, (c .before .before .before .before .before .before .before .before .order-room) .ensures, order-within _ 512 16384 ((c .before .before .before .before .before .before .before .before .before .before .before .before .before .before .before .before .before .before .before .before .before) .pre .1 .0 .0) (room-limit _)))))  -- slice-aggregate-with-vectors-2
+    (λ c. omega (arith, (c .before .before .before .before .before .before .before .values-room) .ensures, values-within _ 512 16384 ((c .before .before .before .before .before .before .before .before .before .before .before .before .before .before .before .before .before .before .before .before .before) .pre .1 .0 .0) (room-limit _)))  -- array-borrow-prefix-values
+    (λ c. sym (length-take-le _ _ (omega (arith, (c .before .before .before .before .before .before .before .before .values-room) .ensures, values-within _ 512 16384 ((c .before .before .before .before .before .before .before .before .before .before .before .before .before .before .before .before .before .before .before .before .before .before) .pre .1 .0 .0) (room-limit _)))))  -- slice-aggregate-with-vectors-3
+    (λ c κs. ((c .before .before .before .before .before .before .before .before .before .before .before .before .before .before .before .before .before .before .before .before .before .before) .pre .0, ((c .before .before .before .before .before .before .before .before .before .before .before .before .before .before .before .before .before .before .before .before .before .before) .pre .1 .0, factor-room (mode-1 _ ((c .before .before .before .before .before .before .before .before .before .before .before .before .before .before .before .before .before .before .before .before .before .before) .pre .1 .1)) (length-take-le _ _ (omega (arith, (c .before .before .before .before .before .before .before .before .before .before .pattern-room) .ensures, pattern-within _ 512 16384 ((c .before .before .before .before .before .before .before .before .before .before .before .before .before .before .before .before .before .before .before .before .before .before) .pre .1 .0 .0) (room-limit _))) ∙ (c .before .before .before .before .before .before .before .before .before .before .pattern-room) .ensures) (length-take-le _ _ (omega (arith, (c .before .before .before .before .before .before .before .before .before .order-room) .ensures, order-within _ 512 16384 ((c .before .before .before .before .before .before .before .before .before .before .before .before .before .before .before .before .before .before .before .before .before .before) .pre .1 .0 .0) (room-limit _))) ∙ (c .before .before .before .before .before .before .before .before .before .order-room) .ensures) (length-take-le _ _ (omega (arith, (c .before .before .before .before .before .before .before .before .values-room) .ensures, values-within _ 512 16384 ((c .before .before .before .before .before .before .before .before .before .before .before .before .before .before .before .before .before .before .before .before .before .before) .pre .1 .0 .0) (room-limit _))) ∙ (c .before .before .before .before .before .before .before .before .values-room) .ensures))))  -- with-vectors-requires
     (λ c. (c .before .before .before .before .before .before .before .before .before .before .before .before .numbers) .given)  -- same-length
     (λ c. (c .before .before .before .before .before .before .before .before .before .before .solution) .given)  -- same-length-2
     (λ c. (c .before .before .before .before .before .before .before .before .impulses) .given)  -- same-length-3

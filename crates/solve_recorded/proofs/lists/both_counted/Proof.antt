@@ -8,8 +8,6 @@ unfolding bothOf
 both-counted-spec =
     tie.close
     (tie.spec
-    (λ c κs. record {})  -- none-requires
-    (λ c κs. (c .before .before) .pre)  -- list-counted-requires
-    (λ c κs. (c .before .before .before) .pre)  -- list-counted-requires-2
-    (λ c κs. record {})  -- closed-requires
-    (λ c. rw ((c .closed) .ensures, (c .before .list-counted2) .ensures, (c .before .before .list-counted) .ensures, (c .before .before .before .none) .ensures)))  -- returns
+    (λ c κs. (c .before) .pre)  -- list-counted-requires
+    (λ c κs. (c .before .before) .pre)  -- list-counted-requires-2
+    (λ c. rw ((c .list-counted2) .ensures, (c .before .list-counted) .ensures)))  -- returns

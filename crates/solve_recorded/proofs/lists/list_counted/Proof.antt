@@ -7,10 +7,10 @@ use Rattle.solve_recorded.proofs.lists.list_counted.Statement.{statemen
 use Rattle.solve_recorded.proofs.lists.list_counted.Tie as tie
 
 abbrev Inv-loop : tie.InvT-loop
-Inv-loop list at jobs count₀ i₀ count i = Jobs list count₀ jobs i count
+Inv-loop kind list at jobs count₀ i₀ count i = Jobs kind list count₀ jobs i count
 
 abbrev μ-loop : tie.MeasureT-loop
-μ-loop list at jobs count₀ i₀ count i = jobs - i
+μ-loop kind list at jobs count₀ i₀ count i = jobs - i
 
 pub list-counted-spec : {M : Type 1} → statement M
 list-counted-spec =
@@ -18,7 +18,7 @@ list-counted-spec =
     (tie.spec Inv-loop μ-loop
     (λ c κs. (c .before) .pre)  -- begins-requires
     (λ c κs. record {})  -- missing-requires
-    (λ c. list-missing _ _ _ _ ((c .before .before .begins) .ensures) ((c .before .if1) .taken) ((c .missing) .ensures))  -- returns
+    (λ c. list-missing ((c .before .before .before .before) .args .kind) _ _ _ _ ((c .before .before .begins) .ensures) ((c .before .if1) .taken) ((c .missing) .ensures))  -- returns
     (λ c. omega (arith, begins-within ((c .before .before .before) .args .list .now) _ _ ((c .before .begins) .ensures) ((c .if1) .left), (c .before .before .before) .pre))  -- add-half
     (λ c κs. omega (arith, begins-within ((c .before .before .before) .args .list .now) _ _ ((c .before .begins) .ensures) ((c .if1) .left), (c .before .before .before) .pre))  -- half-requires
     (λ c. omega (arith, begins-within ((c .before .before .before .before) .args .list .now) _ _ ((c .before .before .begins) .ensures) ((c .before .if1) .left), (c .before .before .before .before) .pre))  -- add-from
@@ -28,4 +28,4 @@ list-counted-spec =
     (λ c. search loops)  -- add-i
     (λ c. search loops)  -- loop-less
     (λ c. search (jobs-more, loops))  -- loop-again
-    (λ c. jobs-end _ _ _ _ _ ((c .before .before .before .before .before .begins) .ensures) ((c .before .before .before .before .if1) .left) ((c .before .before .before .half) .ensures .0) ((c .before .before .from) .ensures) ((c .before .loop) .inv) (omega (arith, (c .loop-test) .left))))  -- returns-2
+    (λ c. jobs-end ((c .before .before .before .before .before .before .before) .args .kind) _ _ _ _ _ ((c .before .before .before .before .before .begins) .ensures) ((c .before .before .before .before .if1) .left) ((c .before .before .before .half) .ensures .0) ((c .before .before .from) .ensures) ((c .before .loop) .inv) (omega (arith, (c .loop-test) .left))))  -- returns-2

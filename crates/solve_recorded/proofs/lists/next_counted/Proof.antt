@@ -9,7 +9,7 @@ next-counted-spec =
     tie.close
     (tie.spec
     (λ c κs. record {})  -- missing-requires
-    (λ c. next-missing _ _ _ (omega (arith, (c .before .if1) .taken)) ((c .missing) .ensures))  -- returns
+    (λ c. next-missing ((c .before .before .before) .args .kind) _ _ _ (omega (arith, (c .before .if1) .taken)) ((c .missing) .ensures))  -- returns
     (λ c κs. omega (arith, (c .if1) .left, (c .before .before) .pre))  -- job-seen-requires
     (λ c κs. record {})  -- with-requires
-    (λ c. next-seen _ _ _ _ (omega (arith, (c .before .before .if1) .left)) ((c .before .job-seen) .ensures) ((c .with) .ensures)))  -- returns-2
+    (λ c. next-seen ((c .before .before .before .before) .args .kind) _ _ _ _ (omega (arith, (c .before .before .if1) .left)) ((c .before .job-seen) .ensures) ((c .with) .ensures)))  -- returns-2

@@ -7,10 +7,10 @@ use Rattle.solve_replay.proofs.compare.kept_numbers.Statement.{statemen
 use Rattle.solve_replay.proofs.compare.kept_numbers.Tie as tie
 
 abbrev Inv-loop : tie.InvT-loop
-Inv-loop accepted numbers words i₀ i = Holds (keptNumber accepted numbers words) (length numbers) i
+Inv-loop place accepted numbers words i₀ i = Holds (keptNumber place accepted numbers words) (length numbers) i
 
 abbrev μ-loop : tie.MeasureT-loop
-μ-loop accepted numbers words i₀ i = length numbers - i
+μ-loop place accepted numbers words i₀ i = length numbers - i
 
 pub kept-numbers-spec : {M : Type 1} → statement M
 unfolding keptNumbers

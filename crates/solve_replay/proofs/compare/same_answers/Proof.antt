@@ -7,10 +7,10 @@ use Rattle.solve_replay.proofs.compare.same_answers.Statement.{statemen
 use Rattle.solve_replay.proofs.compare.same_answers.Tie as tie
 
 abbrev Inv-loop : tie.InvT-loop
-Inv-loop solution numbers words i₀ i = Holds (sameAnswer solution numbers words) (length solution) i
+Inv-loop place solution numbers words i₀ i = Holds (sameAnswer place solution numbers words) (length solution) i
 
 abbrev μ-loop : tie.MeasureT-loop
-μ-loop solution numbers words i₀ i = length solution - i
+μ-loop place solution numbers words i₀ i = length solution - i
 
 pub same-answers-spec : {M : Type 1} → statement M
 unfolding sameAnswers

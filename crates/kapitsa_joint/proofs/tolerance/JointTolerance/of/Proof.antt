@@ -1,6 +1,6 @@
 -- `kapitsa_joint::tolerance::JointTolerance::of` meets its contract. Assumes nothing.
 use borrow.Author.Needs.{needs}
-use Rattle.kapitsa_joint.proofs.Kind.{angular-tolerance, linear-tolerance}
+use Rattle.kapitsa_joint.proofs.Dimensions.{angular-tolerance, linear-tolerance}
 use Rattle.kapitsa_joint.proofs.tolerance.JointTolerance.of.Statement.{statement}
 use Rattle.kapitsa_joint.proofs.tolerance.JointTolerance.of.Tie as tie
 
