@@ -57,7 +57,7 @@ fn one_change() -> Vec<Job> {
     jobs
 }
 
-/// V1's row changed in one thing that a refusal other than 20 and 27 looks at.
+/// Two of P1's rows in a chain, changed in one thing that a refusal other than 20 and 27 looks at.
 fn beside() -> [Job; 9] {
     let changed = |change: fn(&mut Job)| {
         let mut job = chain(&[0.25, 0.25]);
@@ -79,11 +79,9 @@ fn beside() -> [Job; 9] {
 
 /// 20 beside each refusal that is judged before it or after it, in the first row and in the last.
 fn odd_residuals() -> Vec<Job> {
-    let mut jobs = Vec::new();
-    for (place, job) in beside().into_iter().enumerate() {
-        let mut job = job;
+    let mut jobs = beside().to_vec();
+    for (place, job) in jobs.iter_mut().enumerate() {
         job.residuals[place % 2] = NOT_FINITE[place % 4];
-        jobs.push(job);
     }
     let mut both = chain(&[f64::NAN, 0.25]);
     both.tolerances[1] = -1.0;
@@ -91,7 +89,7 @@ fn odd_residuals() -> Vec<Job> {
     jobs
 }
 
-/// 27 beside the others, and without rows.
+/// 27 beside the others, and without rows; tolerances of zero in either sign, which it lets pass.
 fn odd_tolerances() -> Vec<Job> {
     let mut empty = Job { kind: Kind::Velocity, ..Job::default() };
     let mut jobs = vec![empty.clone()];
@@ -102,8 +100,8 @@ fn odd_tolerances() -> Vec<Job> {
     let odd = [-1.0, f64::NAN, f64::INFINITY].into_iter().cycle();
     let with = |(job, tolerance): (Job, f64)| Job { tolerances: [0.001, tolerance], ..job };
     let zeros = [[0.0, -0.0], [-0.0, 0.0]].map(|tolerances| Job { tolerances, ..v1(0.0) });
-    let plain = jobs[..2].to_vec();
-    jobs.into_iter().zip(odd).map(with).chain(zeros).chain(plain).collect()
+    let without_rows = jobs[..2].to_vec();
+    jobs.into_iter().zip(odd).map(with).chain(zeros).chain(without_rows).collect()
 }
 
 /// 512 rows on 256 bodies in each mode, some of middle size, and 9 before 7 in the last two rows.
