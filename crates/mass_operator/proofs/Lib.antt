@@ -5,3 +5,4 @@ pub mod Room
 pub mod Answers
 pub mod Overflow
 pub mod Same
+pub mod AllFinite

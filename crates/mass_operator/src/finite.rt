@@ -7,17 +7,17 @@ pub enum Applied {
     Overflow,
 }
 
+// It goes on where one is not: nearly always all are, and a loop that is never left is the faster one.
 pub fn all_finite(numbers: &[f64]) -> bool
     ensures { λ r. ⌜ r ≡ allFiniteOf (now (numbers .entry)) ⌝ }
 {
+    let mut all = true;
     let mut i = 0;
     while i < numbers.len() {
-        if !binary64::is_finite(numbers[i]) {
-            return false;
-        }
+        all = all & binary64::is_finite(numbers[i]);
         i += 1;
     }
-    true
+    all
 }
 
 pub fn test_finite(numbers: &[f64]) -> Applied
