@@ -1,15 +1,16 @@
 #!/usr/bin/env python3
 """Replays worked cases of document 02 on an implementation, and compares every bit.
 
-    python3 oracle/cases.py [FILE..] [--library SO] [--program BIN] [--converter BIN]
+    python3 oracle/cases.py [FILE..] [--library SO] [--program BIN] [--converter BIN] [--margins BIN]
 
 FILE is a list of cases, one JSON object a line; its folder's README has the format. Without one,
 every *.jsonl of the folder KAPITSA_CASES is read, by default ../shared/cases seen from the
 repository's root. --library is a shared library with the functions that src/adapter.c declares:
 the port's (oracle/target/port.so, the default, made by oracle/port), or the model behind the same
 functions (oracle/target/reference_o0.so, made by oracle/build). --program is the job program, by
-default target/bin/job, and --converter the converter, by default target/bin/convert. Where one of
-them is not there, its cases are left out.
+default target/bin/job, --converter the converter, by default target/bin/convert, and --margins the
+program that lists margins, by default target/bin/margins. Where one of them is not there, its cases
+are left out.
 
 Of document 02, e: a convert case is one run of the converter; a same case two, whose files must be
 equal or not. The writer has no program of its own. A write case is held to a writer in this script,
@@ -17,6 +18,11 @@ and goes through the converter as a job file of its numbers with the masses befo
 of no meaning between them: the converter writes as the writer does, so that bytes and refusals must
 be the case's. What that leaves out is a job that no job file holds, for which this script's writer
 alone speaks, and a slice or an output of another length, of which there is no case.
+
+Of document 02, m: a margins case is a check with its list, held to the check without one besides. The
+program that lists margins gives the check what it solves, and a case a list of its own: a case goes
+through the program too where it has no rules, its job fits into a job file, and the library's solve
+comes to the case's list, bit for bit, or to its refusal; it is then counted once more.
 
 Prints, for each list, how many cases of each kind are equal, which differ, and how many are left
 out and why. The exit status is 1 where one differs, or none was compared.
@@ -37,11 +43,14 @@ import sys
 HOME = pathlib.Path(__file__).resolve().parent
 
 # The requests of document 02 that are in place. A case is left out while it needs another.
-LANDED = {"d", "e", "f", "h", "j", "k"}
+LANDED = {"d", "e", "f", "h", "j", "k", "m"}
 
 # The request that brings a kind of case.
 BROUGHT_BY = {"groups": "g", "margins": "m", "sequence": "l"}
 BROUGHT_BY |= dict.fromkeys(("write", "write beyond a file", "convert", "same"), "e")
+
+# A margins case that the program which lists margins can be given too.
+BY_PROGRAM = "margins by the program"
 
 ROW_NUMBERS, ROW_BYTES = 27, 248
 MULTIPLIER = 24
@@ -228,26 +237,62 @@ class Library:
             ("rule numbers", list(rule_numbers), wanted_rules),
         )
 
-    def check(self, case):
-        job, expect = case.job, case.expect
+    def checked(self, function, case, *lists):
+        """The answer and the rule numbers of a check, with a list where memory is lent for one."""
+        job = case.job
         numbers, masses = lent(ctypes.c_double, job.numbers), lent(ctypes.c_double, job.masses)
         words, centres = lent(ctypes.c_uint32, job.words), lent(ctypes.c_double, job.centres)
         rule_numbers = word_outputs(min(job.rows, 600))
         answer = (ctypes.c_uint64 * 4)(*[UNTOUCHED] * 4)
         self.call(
-            "oracle_closing_check", numbers, words, masses, centres, *case.lent_rules(), job.rows,
-            job.bodies, lent(ctypes.c_double, case.list), rule_numbers, answer,
+            function, numbers, words, masses, centres, *case.lent_rules(), job.rows, job.bodies,
+            lent(ctypes.c_double, case.list), rule_numbers, *lists, answer,
         )  # fmt: skip
-        if expect["refusal"]:
-            wanted = [expect["refusal"], 0, 0, 0]
-            wanted_rules = [UNTOUCHED_WORD] * len(rule_numbers)
-        else:
+        return list(answer), list(rule_numbers)
+
+    def check(self, case):
+        expect = case.expect
+        answer, rule_numbers = self.checked("oracle_closing_check", case)
+        wanted = [expect["refusal"], 0, 0, 0]
+        if not expect["refusal"]:
             wanted = [0, expect["closed"], *bits_of(expect["gap"])]
-            wanted_rules = [rule for row in case.rules_of_rows() for rule in row]
         return self.work() + different(
-            ("refusal, verdict and gap", list(answer), wanted),
-            ("rule numbers", list(rule_numbers), wanted_rules),
+            ("refusal, verdict and gap", answer, wanted),
+            ("rule numbers", rule_numbers, case.wanted_rules()),
         )
+
+    def margins(self, case):
+        rows, expect = min(case.job.rows, 600), case.expect
+        margin_rows, margins = word_outputs(rows), outputs(rows)
+        answer, rule_numbers = self.checked("oracle_closing_margins", case, margin_rows, margins)
+        cleared = self.work()
+        wanted_rows, wanted_margins = [UNTOUCHED_WORD] * rows, [UNTOUCHED] * rows
+        gap = answer[2:]
+        if expect.get("closed"):
+            wanted_rows = [row for row, _ in expect["margins"]]
+            wanted_margins = [bits_of(number)[0] for _, number in expect["margins"]]
+            gap = case.gap_of(wanted_rows, wanted_margins)
+        return cleared + different(
+            ("refusal, verdict and gap", answer, [expect["refusal"], expect.get("closed", 0), *gap]),
+            ("as the check without a list", (answer, rule_numbers), self.checked("oracle_closing_check", case)),
+            ("rule numbers", rule_numbers, case.wanted_rules()),
+            ("rows of the list", list(margin_rows), wanted_rows),
+            ("numbers of the list", bits(margins), wanted_margins),
+        )
+
+    def solution(self, case):
+        """What the solve answers and, where it is accepted, its solution; the rows are not kept."""
+        job = case.job
+        solution, impulses = outputs(job.rows), outputs(6 * job.bodies)
+        new_centres, rule_numbers = outputs(3 * job.bodies), word_outputs(job.rows)
+        answer = (ctypes.c_uint64 * 5)(*[UNTOUCHED] * 5)
+        self.call(
+            "oracle_solve_position", lent(ctypes.c_double, job.numbers), lent(ctypes.c_uint32, job.words),
+            lent(ctypes.c_double, job.masses), lent(ctypes.c_double, job.centres), *case.lent_rules(),
+            job.rows, job.bodies, job.limit, job.mode, 0.0, solution, impulses, new_centres,
+            rule_numbers, answer,
+        )  # fmt: skip
+        return list(answer), bits(solution)
 
 
 class Program:
@@ -260,6 +305,49 @@ class Program:
         run = subprocess.run([self.path], input=case.file, capture_output=True, timeout=60)
         return different(
             ("text", run.stdout.decode("ascii", "replace"), case.expect["text"]),
+            ("exit status", run.returncode, 0),
+        )
+
+
+class Margins:
+    """The process of the program that lists margins, beside the library that solves."""
+
+    def __init__(self, path, library):
+        self.path, self.library = path, library
+
+    def takes(self, case):
+        """Whether what the program gives the check is the case's list, or its solve is turned back as the
+        case's check."""
+        job = case.job
+        if case.has_rules or job.rows > 128 or job.bodies > 64 or len(case.container) > MOST_BYTES:
+            return False
+        (refusal, *_), solution = self.library.solution(case)
+        if refusal:
+            return refusal == case.expect["refusal"]
+        return struct.pack(f"<{job.rows}Q", *solution) == case.list
+
+    def text(self, case):
+        """What the case, and the library's solve and check, make of the lines."""
+        (refusal, count, flag, *carried), _ = self.library.solution(case)
+        if refusal:
+            return f"solve {26 if refusal == 27 else refusal} 0 0\n"
+        (_, _, *gap), _ = self.library.checked("oracle_closing_check", case)
+        told = lambda numbers: "".join(f" {number:016x}" for number in numbers)
+        expect = case.expect
+        verdict = expect["refusal"] or expect["closed"]
+        lines = [
+            f"solve 0 {count} {flag}",
+            "gap none" if expect["refusal"] else "gap" + told(gap),
+            "carried" + told(carried),
+            f"close {verdict}",
+        ]
+        lines += [f"margin {row}{told(bits_of(number))}" for row, number in expect.get("margins", [])]
+        return "".join(line + "\n" for line in lines)
+
+    def margins(self, case):
+        run = subprocess.run([self.path], input=case.container, capture_output=True, timeout=60)
+        return different(
+            ("text", run.stdout.decode("ascii", "replace"), self.text(case)),
             ("exit status", run.returncode, 0),
         )
 
@@ -304,6 +392,8 @@ def different(*compared):
 
 
 def shown(value):
+    if isinstance(value, tuple):
+        return ", ".join(map(shown, value))
     if isinstance(value, list):
         return "[" + " ".join(f"{one:x}" for one in value) + "]"
     return f"{len(value)} bytes" if isinstance(value, bytes) else repr(value)
@@ -349,6 +439,17 @@ class Case:
             held = [first <= key <= last and kind == dimension for kind, first, last, _ in self.rules]
             yield [number for number, holds in enumerate(held) if holds]
 
+    def wanted_rules(self):
+        """The rule numbers that a check leaves."""
+        if self.expect["refusal"]:
+            return [UNTOUCHED_WORD] * min(self.job.rows, 600)
+        return [rule for row in self.rules_of_rows() for rule in row]
+
+    def gap_of(self, rows, numbers):
+        """The largest number of each dimension, as patterns, which grow with the numbers from +0.0."""
+        dimensions = list(lent(ctypes.c_uint32, self.job.words))[1::8]
+        return [max([0] + [number for row, number in zip(rows, numbers) if dimensions[row] == one]) for one in (0, 1)]
+
     def waits_for(self):
         """The requests that must be in place before the case can be compared."""
         needs = {BROUGHT_BY[self.op]} if self.op in BROUGHT_BY else set()
@@ -361,14 +462,14 @@ class Case:
             trailer = trailer_of(self.file.rjust(TRAILER_BYTES, b"\0"))
             needs |= {"d"} if trailer.layout == 1 else set()
             needs |= {"j"} if is_odd(trailer.linear) or is_odd(trailer.angular) else set()
-        elif self.op in ("solve", "check"):
+        elif self.op in ("solve", "check", "margins"):
             needs.add("d")
             needs |= {"j"} if any(map(is_odd, self.job.tolerances)) else set()
         return needs - LANDED
 
     def settle(self):
         """A library that takes rules tells an odd tolerance by 27; 26 is the program's."""
-        if "k" in LANDED and self.op in ("solve", "check") and self.expect.get("refusal") == 26:
+        if "k" in LANDED and self.op in ("solve", "check", "margins") and self.expect.get("refusal") == 26:
             self.expect = {"refusal": 27}
         return self
 
@@ -376,18 +477,25 @@ class Case:
 def replay(path, by_op):
     """Prints one list's tally; how many were compared, and how many differ."""
     equal, left, differing = collections.Counter(), collections.Counter(), []
+    def compare(op, by, case):
+        if isinstance(by, str):
+            left[op, by] += 1
+            return
+        said = by(case)
+        equal[op] += not said
+        if said:
+            differing.append((op, case.name, said))
+
     for line in path.read_text().splitlines():
         case = Case(line).settle()
         waits = case.waits_for()
         if waits:
             left[case.op, "waits for request " + ", ".join(sorted(waits))] += 1
-        elif isinstance(by_op[case.op], str):
-            left[case.op, by_op[case.op]] += 1
-        else:
-            said = by_op[case.op](case)
-            equal[case.op] += not said
-            if said:
-                differing.append((case.op, case.name, said))
+            continue
+        compare(case.op, by_op[case.op], case)
+        program = by_op[BY_PROGRAM]
+        if case.op == "margins" and (isinstance(program, str) or program.takes(case)):
+            compare(BY_PROGRAM, program if isinstance(program, str) else program.margins, case)
     print(f"{path.name}:")
     for op in sorted(set(equal) | {op for op, _, _ in differing}):
         wrong = sum(1 for one in differing if one[0] == op)
@@ -406,18 +514,22 @@ def main():
     parser.add_argument("--library", type=pathlib.Path, default=HOME / "target/port.so")
     parser.add_argument("--program", type=pathlib.Path, default=HOME.parent / "target/bin/job")
     parser.add_argument("--converter", type=pathlib.Path, default=HOME.parent / "target/bin/convert")
+    parser.add_argument("--margins", type=pathlib.Path, default=HOME.parent / "target/bin/margins")
     asked = parser.parse_args()
     files = asked.files or sorted(cases.glob("*.jsonl"))
     if not files:
         sys.exit(f"oracle/cases.py: no cases in '{cases}'; set KAPITSA_CASES to their folder")
     missing = lambda path: f"there is no '{path}'"
-    by_op = dict.fromkeys(("solve", "check"), missing(asked.library))
+    by_op = dict.fromkeys(("solve", "check", "margins"), missing(asked.library))
     by_op["program"] = missing(asked.program)
+    by_op[BY_PROGRAM] = missing(asked.margins)
     by_op |= dict.fromkeys(("write", "convert", "same"), missing(asked.converter))
     by_op["write beyond a file"] = writer
     if asked.library.exists():
         library = Library(asked.library.resolve())
-        by_op.update(solve=library.solve, check=library.check)
+        by_op.update(solve=library.solve, check=library.check, margins=library.margins)
+        if asked.margins.exists():
+            by_op[BY_PROGRAM] = Margins(asked.margins.resolve(), library)
     if asked.program.exists():
         by_op["program"] = Program(asked.program.resolve()).program
     if asked.converter.exists():

@@ -57,7 +57,7 @@ enum { PATTERN = 0x5a };
 
 /* ---- the jobs */
 
-enum { ROWS = 3, BODIES = 3, LIMIT = 50 };
+enum { ROWS = 6, BODIES = 3, LIMIT = 50 };
 
 /* A table of rules, one more than there may be, and what is lent of it: of rule_numbers so many
    more than rows. */
@@ -98,7 +98,10 @@ static struct rules two_rules(double tolerance)
 }
 
 /* What is lent beside rules, answers and work memory; multipliers have the length of a solution. */
-enum { NUMBERS, WORDS, MASSES, CENTRES, RESIDUALS, SOLUTION, IMPULSES, NEW_CENTRES, SLICES };
+enum {
+    NUMBERS, WORDS, MASSES, CENTRES, RESIDUALS, SOLUTION, IMPULSES, NEW_CENTRES, MARGIN_ROWS,
+    MARGINS, SLICES
+};
 
 struct job {
     double numbers[27 * ROWS], masses[10 * BODIES], shift; /* shift 0 but in shifts() */
@@ -180,7 +183,7 @@ static struct job worn(double shift)
     return job;
 }
 
-static const double no_multipliers[ROWS] = {0.0, 0.0, 0.0};
+static const double no_multipliers[ROWS] = {0.0};
 
 /* ---- the calls */
 
@@ -231,7 +234,7 @@ struct lengths {
 static struct lengths lengths_of(const struct job *job)
 {
     const size_t n = job->rows, b = job->bodies;
-    const size_t counted[SLICES] = {27 * n, 8 * n, 10 * b, 3 * b, n, n, 6 * b, 3 * b};
+    const size_t counted[SLICES] = {27 * n, 8 * n, 10 * b, 3 * b, n, n, 6 * b, 3 * b, n, n};
     struct lengths to;
     for (int i = 0; i < SLICES; i++)
         to.of[i] = length(counted[i], job->more[i]);
@@ -279,31 +282,41 @@ static struct solved solve(const struct job *job, uint32_t mode, unsigned contro
 }
 
 struct checked {
-    double gap[2];
-    uint32_t rule_numbers[ROWS + 1], refusal, verdict, control;
+    double gap[2], margins[ROWS + 1];
+    uint32_t rule_numbers[ROWS + 1], margin_rows[ROWS + 1], refusal, verdict, control;
 };
+
+/* A check, alone or with its list. */
+typedef uint32_t calls(const struct job *job, const double *multipliers, struct checked *to,
+                       size_t doubles_len, size_t words_len);
 
 static uint32_t check_called(const struct job *job, const double *multipliers, struct checked *to,
                              size_t doubles_len, size_t words_len)
 {
-    const uint32_t n = job->rows, b = job->bodies;
     const struct lengths l = lengths_of(job);
-    if (speeds)
-        return kapitsa_check_velocity_in(
-            job->numbers, l.of[NUMBERS], job->words, l.of[WORDS], job->masses, l.of[MASSES],
-            job->residuals, l.of[RESIDUALS], job->rules.words, job->rules.words_len,
-            job->rules.tolerances, job->rules.tolerances_len, n, b, multipliers, l.of[SOLUTION],
-            to->rule_numbers, l.rule_numbers, &to->verdict, to->gap, doubles, doubles_len, words,
-            words_len);
-    return kapitsa_check_in(
+    return (speeds ? kapitsa_check_velocity_in : kapitsa_check_in)(
         job->numbers, l.of[NUMBERS], job->words, l.of[WORDS], job->masses, l.of[MASSES],
-        job->centres, l.of[CENTRES], job->rules.words, job->rules.words_len, job->rules.tolerances,
-        job->rules.tolerances_len, n, b, multipliers, l.of[SOLUTION], to->rule_numbers,
-        l.rule_numbers, &to->verdict, to->gap, doubles, doubles_len, words, words_len);
+        speeds ? job->residuals : job->centres, l.of[speeds ? RESIDUALS : CENTRES],
+        job->rules.words, job->rules.words_len, job->rules.tolerances, job->rules.tolerances_len,
+        job->rows, job->bodies, multipliers, l.of[SOLUTION], to->rule_numbers, l.rule_numbers,
+        &to->verdict, to->gap, doubles, doubles_len, words, words_len);
 }
 
-static struct checked check(const struct job *job, const double *multipliers, unsigned control,
-                            struct lent lent)
+static uint32_t margins_called(const struct job *job, const double *multipliers,
+                               struct checked *to, size_t doubles_len, size_t words_len)
+{
+    const struct lengths l = lengths_of(job);
+    return (speeds ? kapitsa_margins_velocity_in : kapitsa_margins_in)(
+        job->numbers, l.of[NUMBERS], job->words, l.of[WORDS], job->masses, l.of[MASSES],
+        speeds ? job->residuals : job->centres, l.of[speeds ? RESIDUALS : CENTRES],
+        job->rules.words, job->rules.words_len, job->rules.tolerances, job->rules.tolerances_len,
+        job->rows, job->bodies, multipliers, l.of[SOLUTION], to->rule_numbers, l.rule_numbers,
+        to->margin_rows, l.of[MARGIN_ROWS], to->margins, l.of[MARGINS], &to->verdict, to->gap,
+        doubles, doubles_len, words, words_len);
+}
+
+static struct checked checked_by(calls *called, const struct job *job, const double *multipliers,
+                                 unsigned control, struct lent lent)
 {
     const uint32_t n = job->rows, b = job->bodies;
     const size_t doubles_len = length(kapitsa_check_doubles(n, b), lent.more_doubles);
@@ -313,7 +326,7 @@ static struct checked check(const struct job *job, const double *multipliers, un
     fill_work();
     const unsigned before = _mm_getcsr();
     _mm_setcsr(control);
-    to.refusal = check_called(job, multipliers, &to, doubles_len, words_len);
+    to.refusal = called(job, multipliers, &to, doubles_len, words_len);
     to.control = _mm_getcsr();
     _mm_setcsr(before);
     return to;
@@ -328,6 +341,64 @@ static int says(struct checked found, uint32_t verdict)
 static int measures(const double gap[2], uint64_t linear, uint64_t angular)
 {
     return bits_of(gap[0]) == linear && bits_of(gap[1]) == angular;
+}
+
+/* Where the check says closed, n rows, each once, in the order of document 02, m, each dimension
+   beginning with its gap. The bits of numbers from +0.0 are in the order of the numbers. */
+static int in_order(const uint32_t *row_words, uint32_t n, const uint32_t *margin_rows,
+                    const double *margins, const double gap[2])
+{
+    static unsigned char seen[KAPITSA_MAX_ROWS];
+    uint64_t first[2] = {0, 0};
+    memset(seen, 0, sizeof seen);
+    for (uint32_t i = 0; i < n; i++) {
+        const uint32_t row = margin_rows[i];
+        const uint64_t number = bits_of(margins[i]);
+        if (row >= n || seen[row]++)
+            return 0;
+        const uint32_t dimension = row_words[8 * row + 1];
+        const uint32_t before = i == 0 ? 2 : row_words[8 * margin_rows[i - 1] + 1];
+        if (before != dimension) {
+            if (before < 2 && before > dimension)
+                return 0;
+            first[dimension] = number;
+            continue;
+        }
+        const uint64_t above = bits_of(margins[i - 1]);
+        if (number > above || (number == above && row < margin_rows[i - 1]))
+            return 0;
+    }
+    return measures(gap, first[0], first[1]);
+}
+
+/* The list is there where it is closed, with nothing behind it, and nowhere else. */
+static int listed_well(const struct job *job, const struct checked *found)
+{
+    const uint32_t n = says(*found, KAPITSA_CLOSED) ? job->rows : 0;
+    return all(PATTERN, found->margin_rows + n, sizeof found->margin_rows - n * sizeof(uint32_t))
+        && all(PATTERN, found->margins + n, sizeof found->margins - n * sizeof(double))
+        && (n == 0 || in_order(job->words, n, found->margin_rows, found->margins, found->gap));
+}
+
+/* What a check leaves of the work memory that it needs. */
+static int check_cleared(const struct job *job, uint32_t refusal)
+{
+    const size_t clears = refusal != KAPITSA_REFUSED_LENGTH;
+    return work_clear(clears * kapitsa_check_doubles(job->rows, job->bodies),
+                      clears * kapitsa_check_words(job->rows, job->bodies));
+}
+
+/* The check, and beside it the check with its list, which answers alike; the list is of that. */
+static struct checked check(const struct job *job, const double *multipliers, unsigned control,
+                            struct lent lent)
+{
+    const struct checked listed = checked_by(margins_called, job, multipliers, control, lent);
+    expect(listed_well(job, &listed) && check_cleared(job, listed.refusal), "the list", "margins");
+    struct checked to = checked_by(check_called, job, multipliers, control, lent);
+    memcpy(to.margin_rows, listed.margin_rows, sizeof to.margin_rows);
+    memcpy(to.margins, listed.margins, sizeof to.margins);
+    expect(!memcmp(&to, &listed, sizeof to), "as the check without a list", "margins");
+    return to;
 }
 
 /* The raw functions, in mode 0. */
@@ -376,6 +447,31 @@ static uint32_t raw_check(const struct job *job, const double *multipliers, unsi
         speeds ? job->residuals : job->centres, speeds ? n : 3 * b,
         job->rules.words, job->rules.words_len, job->rules.tolerances, job->rules.tolerances_len, n,
         b, multipliers, n, rule_numbers, n, verdict, verdict_len, gap, gap_len,
+        jacobians, 12 * n, links, 2 * n, mass_sizes, 10 * b, multiplier_sizes, n, impulses,
+        6 * b, values, n, sizes, n);
+    _mm_setcsr(before);
+    return refusal;
+}
+
+/* The raw check with its list, in the default mode; how much of each answer is lent. */
+enum { RAW_ROWS, RAW_MARGINS, RAW_VERDICT, RAW_GAP, RAW_SLICES };
+
+static uint32_t raw_margins(const struct job *job, const double *multipliers, struct checked *to,
+                            const size_t lengths[RAW_SLICES])
+{
+    double jacobians[12 * ROWS], mass_sizes[10 * BODIES], multiplier_sizes[ROWS];
+    double impulses[6 * BODIES], values[ROWS], sizes[ROWS];
+    uint32_t links[2 * ROWS];
+    const uint32_t n = job->rows, b = job->bodies;
+    const unsigned before = _mm_getcsr();
+    _mm_setcsr(KAPITSA_CONTROL);
+    uint32_t refusal = (speeds ? kapitsa_velocity_closing_margins : kapitsa_closing_margins)(
+        job->numbers, 27 * n, job->words, 8 * n, job->masses, 10 * b,
+        speeds ? job->residuals : job->centres, speeds ? n : 3 * b,
+        job->rules.words, job->rules.words_len, job->rules.tolerances, job->rules.tolerances_len, n,
+        b, multipliers, n, to->rule_numbers, n, to->margin_rows, lengths[RAW_ROWS],
+        to->margins, lengths[RAW_MARGINS], &to->verdict, lengths[RAW_VERDICT],
+        to->gap, lengths[RAW_GAP],
         jacobians, 12 * n, links, 2 * n, mass_sizes, 10 * b, multiplier_sizes, n, impulses,
         6 * b, values, n, sizes, n);
     _mm_setcsr(before);
@@ -447,7 +543,7 @@ static uint64_t least_tolerance(struct job job, const double *multipliers, unsig
     while (closed - open > 1) {
         uint64_t middle = open + (closed - open) / 2;
         job.rules = two_rules(from_bits(middle));
-        if (says(check(&job, multipliers, control, exactly), KAPITSA_CLOSED))
+        if (says(checked_by(check_called, &job, multipliers, control, exactly), KAPITSA_CLOSED))
             closed = middle;
         else
             open = middle;
@@ -504,7 +600,7 @@ static void raw_modes(void)
     double found[ROWS];
     for (size_t i = 0; i < 4; i++)
         expect(raw_solve(&rows, controls[i].word, found) == 0
-               && (memcmp(found, solved.solution, sizeof found) == 0) == (i == 0),
+               && (memcmp(found, solved.solution, 3 * sizeof found[0]) == 0) == (i == 0),
                "the raw solve's bits hang on the rounding", controls[i].name);
     expect(raw_solve(&tiny, KAPITSA_CONTROL, found) == KAPITSA_REFUSED_RESIDUAL
            && raw_solve(&tiny, KAPITSA_CONTROL | FTZ_AND_DAZ, found) == 0,
@@ -994,12 +1090,12 @@ static struct job two_of_the_chain(void)
 /* Each slice by itself too short by one, or too long: 3 by all calls that take it. */
 static void lengths_of_slices(void)
 {
-    static const char *const names[SLICES] = {"numbers", "words", "masses", "centres", "residuals",
-                                              "solution", "impulses", "new centres"};
+    static const char *const names[] = {"numbers", "words", "masses", "centres", "residuals",
+                                        "solution", "impulses", "new centres"};
     const struct job fitting = two_of_the_chain();
     for (uint32_t mode = 0; mode < 3; mode++)
         expect(solve(&fitting, mode, KAPITSA_CONTROL, exactly).refusal == 0, "two rows", "solve");
-    for (int slice = 0; slice < SLICES; slice++)
+    for (int slice = 0; slice < MARGIN_ROWS; slice++)
         for (int more = -1; more < 2; more += 2) {
             struct job job = fitting;
             if (speeds ? slice == CENTRES || slice == NEW_CENTRES : slice == RESIDUALS)
@@ -1010,6 +1106,135 @@ static void lengths_of_slices(void)
             if (slice != IMPULSES && slice != NEW_CENTRES)
                 check_refused_by(KAPITSA_REFUSED_LENGTH, names[slice], &job);
         }
+}
+
+/* ---- margins: document 02, m */
+
+/* Rows on the same two bodies. With no multipliers each one's number is its error's size and
+   (n + 16) * 2^-51 of that: for a power of two, 2 (n + 16) units above it. */
+static struct job rows_of(const double *errors, const uint32_t *dimensions, uint32_t n)
+{
+    struct job job = p1(0.0, 2.0);
+    for (uint32_t i = 0; i < n; i++) {
+        set_row(job.numbers + 27 * i, job.words + 8 * i, 0, 1, i);
+        set_error(job.numbers + 27 * i, job.residuals + i, errors[i]);
+        job.words[8 * i + 1] = dimensions[i];
+    }
+    job.rows = n;
+    return job;
+}
+
+/* True where the list has these rows, and beside each the number of its error. */
+static int lists(const struct checked *found, const double *errors, const uint32_t *rows,
+                 uint32_t n)
+{
+    for (uint32_t i = 0; i < n; i++) {
+        const uint64_t size = bits_of(errors[rows[i]]) & ~MINUS;
+        if (found->margin_rows[i] != rows[i]
+            || bits_of(found->margins[i]) != (size == 0 ? 0 : size + 2 * (n + 16)))
+            return 0;
+    }
+    return says(*found, KAPITSA_CLOSED);
+}
+
+static void order_of_lists(void)
+{
+    static const double errors[] = {0.25, -0.5, 1.0, -0.25, 0.5, 0.5};
+    static const uint32_t dimensions[] = {1, 0, 0, 1, 0, 1}, order[] = {2, 1, 4, 5, 0, 3};
+    static const uint32_t linear[] = {0, 0, 0, 0, 0, 0}, by_size[] = {2, 1, 4, 5, 0, 3};
+    static const uint32_t angular[] = {1, 1, 1}, zeros_last[] = {1, 0, 2};
+    const double small[] = {from_bits(MINUS), -0.125, 0.0};
+    const uint64_t below_1 = bits_of(1.0) + 2 * (6 + 16) - 1;
+    struct job job = rows_of(errors, dimensions, 6);
+    for (size_t i = 0; i < CONTROLS; i++) {
+        const struct checked found = check(&job, no_multipliers, controls[i].word, exactly);
+        expect(lists(&found, errors, order, 6), "linear first, largest first, lower row first",
+               controls[i].name);
+    }
+    job = rows_of(errors, linear, 6);
+    struct checked found = check(&job, no_multipliers, KAPITSA_CONTROL, exactly);
+    expect(lists(&found, errors, by_size, 6), "linear rows alone", "margins");
+    job = rows_of(small, angular, 3);
+    job.rules.tolerances[0] = 0.0; /* of no row */
+    found = check(&job, no_multipliers, KAPITSA_CONTROL, exactly);
+    expect(lists(&found, small, zeros_last, 3), "numbers of +0.0", "margins");
+    job = rows_of(errors, dimensions, 6);
+    job.rules.tolerances[0] = from_bits(below_1);
+    found = check(&job, no_multipliers, KAPITSA_CONTROL, exactly);
+    expect(says(found, KAPITSA_OPEN) && KEPT(found.margin_rows) && KEPT(found.margins),
+           "no list where it is open", "margins");
+}
+
+/* P1's number, of velocities V1's: it closes by it, and opens by the double below. */
+static void margin_of_p1(void)
+{
+    static const double multiplier[] = {0.25};
+    const uint64_t tolerances[] = {bits_of(0.001), P1_GAP, P1_GAP - 1, 0};
+    for (size_t i = 0; i < 4; i++) {
+        const struct job sheet = p1(-0.25, from_bits(tolerances[i]));
+        const struct checked found = check(&sheet, multiplier, KAPITSA_CONTROL, exactly);
+        expect(i < 2 ? says(found, KAPITSA_CLOSED) && found.margin_rows[0] == 0
+                           && bits_of(found.margins[0]) == P1_GAP
+                     : says(found, KAPITSA_OPEN) && KEPT(found.margins),
+               "P1's number", i < 2 ? "closed" : "open");
+    }
+}
+
+/* One row judged by its number, or by less, and the others by their own. */
+static void rows_alone(void)
+{
+    struct job job = kinds();
+    const struct solved solved = solve(&job, 0, KAPITSA_CONTROL, exactly);
+    const struct checked plain = check(&job, solved.solution, KAPITSA_CONTROL, exactly);
+    expect(says(plain, KAPITSA_CLOSED), "the chain is closed", "margins");
+    for (uint32_t i = 0; i < 3; i++) {
+        const uint64_t number = bits_of(plain.margins[i]);
+        const uint64_t tolerances[] = {number, number - 1, SMALLEST, MINUS};
+        for (size_t k = 0; k < 4; k++) {
+            job.rules = three_rules(1e-9, 1e-9, 1e-9);
+            job.rules.tolerances[2 - plain.margin_rows[i]] = from_bits(tolerances[k]);
+            const struct checked found = check(&job, solved.solution, KAPITSA_CONTROL, exactly);
+            const int same = !memcmp(found.margin_rows, plain.margin_rows, sizeof found.margin_rows)
+                && !memcmp(found.margins, plain.margins, sizeof found.margins);
+            expect(says(found, k == 0 ? KAPITSA_CLOSED : KAPITSA_OPEN) && same == (k == 0),
+                   "a row alone, by its number or by less", "margins");
+        }
+    }
+}
+
+/* A number a row in each list, no more and no fewer: 3, and nothing is written. */
+static void lengths_of_lists(void)
+{
+    static const int more[] = {-1, 1, -2, NONE};
+    for (int slice = MARGIN_ROWS; slice <= MARGINS; slice++)
+        for (size_t i = 0; i < sizeof more / sizeof more[0]; i++) {
+            struct job job = two_of_the_chain();
+            job.more[slice] = more[i];
+            for (uint32_t odd = 0; odd < 2; odd++, job.words[7] = 1 /* spare: 4 */) {
+                const struct checked found =
+                    checked_by(margins_called, &job, no_multipliers, KAPITSA_CONTROL, exactly);
+                expect(found.refusal == KAPITSA_REFUSED_LENGTH && work_clear(0, 0)
+                       && KEPT(found.verdict) && KEPT(found.gap) && KEPT(found.rule_numbers)
+                       && KEPT(found.margin_rows) && KEPT(found.margins),
+                       "a list of another length", "margins");
+            }
+        }
+    /* the raw one, which takes a verdict of 1 and a gap of 2 besides */
+    static const double multiplier[] = {0.25};
+    const struct job sheet = p1(-0.25, 0.001);
+    for (size_t which = 0; which < 81; which++) {
+        const size_t lengths[] = {which % 3, which / 3 % 3, which / 9 % 3, 1 + which / 27};
+        const int fits =
+            lengths[0] == 1 && lengths[1] == 1 && lengths[2] == 1 && lengths[3] == 2;
+        struct checked found;
+        memset(&found, PATTERN, sizeof found);
+        const uint32_t refusal = raw_margins(&sheet, multiplier, &found, lengths);
+        expect(fits ? refusal == 0 && found.verdict == KAPITSA_CLOSED
+                          && measures(found.gap, P1_GAP, 0) && found.margin_rows[0] == 0
+                          && bits_of(found.margins[0]) == P1_GAP && found.rule_numbers[0] == 0
+                    : refusal == KAPITSA_REFUSED_LENGTH && all(PATTERN, &found, sizeof found),
+               "lengths of the raw check with its list", "raw");
+    }
 }
 
 /* ---- velocities: document 02, a */
@@ -1310,8 +1535,15 @@ static int check_of_nothing(uint32_t rows, uint32_t bodies, double *work, size_t
     const uint32_t found = (speeds ? kapitsa_check_velocity_in : kapitsa_check_in)(
         NULL, 0, NULL, 0, NULL, 0, NULL, 0, NULL, 0, NULL, 0, rows, bodies, NULL, 0, NULL, 0,
         &verdict, gap, work, work_len, more, more_len);
+    uint32_t listed_verdict = 9;
+    double listed_gap[2];
+    memset(listed_gap, PATTERN, sizeof listed_gap);
+    const uint32_t listed = (speeds ? kapitsa_margins_velocity_in : kapitsa_margins_in)(
+        NULL, 0, NULL, 0, NULL, 0, NULL, 0, NULL, 0, NULL, 0, rows, bodies, NULL, 0, NULL, 0,
+        NULL, 0, NULL, 0, &listed_verdict, listed_gap, work, work_len, more, more_len);
     return found == refusal && verdict == (found ? 9 : KAPITSA_CLOSED)
-        && (found ? KEPT(gap) : measures(gap, 0, 0));
+        && (found ? KEPT(gap) : measures(gap, 0, 0))
+        && listed == found && listed_verdict == verdict && !memcmp(listed_gap, gap, sizeof gap);
 }
 
 static void empty_jobs(void)
@@ -1340,6 +1572,30 @@ static void beyond_the_limits(void)
                    && check_of_nothing(n, b, doubles, d, words, w, KAPITSA_REFUSED_LENGTH)
                    && work_clear(0, 0), "beyond the limits", "check");
     }
+}
+
+/* The list of 512 rows, each of which is there twice, and closed. */
+static void list_at_the_limits(const double *numbers, const uint32_t *row_words,
+                               const double *masses, const double *beside,
+                               const struct rules *rules, const double *multipliers)
+{
+    enum { N = KAPITSA_MAX_ROWS, B = KAPITSA_MAX_BODIES };
+    static uint32_t rule_numbers[N], margin_rows[N + 1];
+    static double margins[N + 1];
+    const size_t d = kapitsa_check_doubles(N, B), w = kapitsa_check_words(N, B);
+    uint32_t verdict = 9;
+    double gap[2];
+    fill_work();
+    memset(margin_rows, PATTERN, sizeof margin_rows);
+    memset(margins, PATTERN, sizeof margins);
+    const uint32_t refusal = (speeds ? kapitsa_margins_velocity_in : kapitsa_margins_in)(
+        numbers, 27 * N, row_words, 8 * N, masses, 10 * B, beside, speeds ? N : 3 * B,
+        rules->words, rules->words_len, rules->tolerances, rules->tolerances_len, N, B,
+        multipliers, N, rule_numbers, N, margin_rows, N, margins, N, &verdict, gap, doubles, d,
+        words, w);
+    expect(refusal == 0 && verdict == KAPITSA_CLOSED && work_clear(d, w)
+           && in_order(row_words, N, margin_rows, margins, gap) && KEPT(margin_rows[N])
+           && KEPT(margins[N]), "512 rows", "margins");
 }
 
 /* 512 rows on 256 bodies under 64 rules, each row twice, so that mode 1 finds a pivot of 0. */
@@ -1402,6 +1658,9 @@ static void at_the_limits(void)
     expect(refusal == 0 && verdict == KAPITSA_OPEN && bits_of(gap[0]) > bits_of(1e-9)
            && bits_of(gap[0]) < INFINITE && bits_of(gap[1]) == 0 && work_clear(d, w), "512 rows",
            "check");
+    for (uint32_t i = 0; i < R; i++)
+        rules.tolerances[i] = from_bits(LARGEST);
+    list_at_the_limits(numbers, row_words, masses, speeds ? residuals : centres, &rules, solution);
 }
 
 int main(void)
@@ -1426,6 +1685,10 @@ int main(void)
         rules_of_rows();
         lengths_of_rules();
         lengths_of_slices();
+        order_of_lists();
+        margin_of_p1();
+        rows_alone();
+        lengths_of_lists();
         work_memory();
         empty_jobs();
         beyond_the_limits();

@@ -1,12 +1,13 @@
-/* Zapekuri for C and C++: the position solve and the velocity solve, the closing check of each and
-   the inverse of a local inertia of `rt staticlib kapitsa_c`, an archive for x86-64.
+/* Zapekuri for C and C++: the position solve and the velocity solve, the closing check of each, alone
+   and with its list of margins, and the inverse of a local inertia of `rt staticlib kapitsa_c`, an
+   archive for x86-64.
 
    A slice is a pointer, then its length; where the length is 0 the pointer may be NULL. For n rows
    and b bodies numbers has 27 n doubles, words 8 n, masses 10 b, centres and new_centres 3 b each;
-   residuals, solution, multipliers and rule_numbers have n, impulses 6 b. Row i has its doubles from
-   numbers[27 * i]: linear_a (3), angular_a (3), position_angular_a (3), linear_b (3), angular_b
-   (3), error, target_velocity, force_bias, compliance, damping, min_multiplier, max_multiplier,
-   min_impulse, max_impulse, accumulated_multiplier, accumulated_impulse,
+   residuals, solution, multipliers, rule_numbers, margin_rows and margins have n, impulses 6 b. Row i
+   has its doubles from numbers[27 * i]: linear_a (3), angular_a (3), position_angular_a (3), linear_b
+   (3), angular_b (3), error, target_velocity, force_bias, compliance, damping, min_multiplier,
+   max_multiplier, min_impulse, max_impulse, accumulated_multiplier, accumulated_impulse,
    cached_velocity_effective_mass; its words from words[8 * i]: key, dimension (0 linear, 1
    angular), body_a, body_b, force_driven, position_enabled, owner, spare (0). Body j has its
    inverse mass and its inverse inertia by columns from masses[10 * j], and its centre from
@@ -30,14 +31,16 @@
    only where it returns 0. The work memory is 0 after every call but one refused by 3, which
    writes nothing at all.
 
-   kapitsa_solve_in, kapitsa_check_in, kapitsa_solve_velocity_in and kapitsa_check_velocity_in, at
-   the end, work in one piece of doubles and one of words and, as kapitsa_inverse_in, in whatever
+   kapitsa_solve_in, kapitsa_check_in and kapitsa_margins_in, and of velocities
+   kapitsa_solve_velocity_in, kapitsa_check_velocity_in and kapitsa_margins_velocity_in, at the end,
+   work in one piece of doubles and one of words and, as kapitsa_inverse_in, in whatever
    floating-point mode the caller is. They ask of a caller that a pointer and its length belong
    together and that no two slices overlap; all else is tested, and refused where it does not fit.
-   The raw functions, kapitsa_solve_position, kapitsa_closing_check, kapitsa_solve_velocity,
-   kapitsa_velocity_closing_check and kapitsa_inverse_spd, take each work slice by itself and assume
-   besides that the control word MXCSR is KAPITSA_CONTROL: in another mode their answers, "closed"
-   too, mean nothing. A program starts in that mode, unless it was linked with -ffast-math. */
+   The raw functions, kapitsa_solve_position, kapitsa_closing_check, kapitsa_closing_margins,
+   kapitsa_solve_velocity, kapitsa_velocity_closing_check, kapitsa_velocity_closing_margins and
+   kapitsa_inverse_spd, take each work slice by itself and assume besides that the control word MXCSR
+   is KAPITSA_CONTROL: in another mode their answers, "closed" too, mean nothing. A program starts in
+   that mode, unless it was linked with -ffast-math. */
 #ifndef KAPITSA_H
 #define KAPITSA_H
 
@@ -232,14 +235,45 @@ KAPITSA_MUST_USE uint32_t kapitsa_velocity_closing_check(
     uint32_t *verdict, size_t verdict_len, double *gap, size_t gap_len
     KAPITSA_CHECK_WORK(KAPITSA_TAKES_DOUBLES, KAPITSA_TAKES_WORDS));
 
+/* kapitsa_closing_check, which answers and is refused as ever, and where it says closed the list of
+   what would open the joint: margin_rows has every row once, and margins beside each the smallest
+   tolerance at which it still closes, from +0.0. Linear rows come before angular ones, the largest
+   number first within each dimension, so that each dimension begins with its gap, and the lower row
+   first among equals. Judged by its number instead of its own tolerance, the others by their own, a
+   row still closes; by any tolerance from 0 below it, where it is above 0, the verdict is open. Where
+   the verdict is open, or the check is refused, both lists stay as they were. 3 judges their lengths
+   too. */
+KAPITSA_MUST_USE uint32_t kapitsa_closing_margins(
+    const double *numbers, size_t numbers_len, const uint32_t *words, size_t words_len,
+    const double *masses, size_t masses_len, const double *centres, size_t centres_len,
+    const uint32_t *rule_words, size_t rule_words_len,
+    const double *rule_tolerances, size_t rule_tolerances_len,
+    uint32_t rows, uint32_t bodies, const double *multipliers, size_t multipliers_len,
+    uint32_t *rule_numbers, size_t rule_numbers_len,
+    uint32_t *margin_rows, size_t margin_rows_len, double *margins, size_t margins_len,
+    uint32_t *verdict, size_t verdict_len, double *gap, size_t gap_len
+    KAPITSA_CHECK_WORK(KAPITSA_TAKES_DOUBLES, KAPITSA_TAKES_WORDS));
+
+/* The same of kapitsa_velocity_closing_check; the numbers are in m/s and rad/s. */
+KAPITSA_MUST_USE uint32_t kapitsa_velocity_closing_margins(
+    const double *numbers, size_t numbers_len, const uint32_t *words, size_t words_len,
+    const double *masses, size_t masses_len, const double *residuals, size_t residuals_len,
+    const uint32_t *rule_words, size_t rule_words_len,
+    const double *rule_tolerances, size_t rule_tolerances_len,
+    uint32_t rows, uint32_t bodies, const double *multipliers, size_t multipliers_len,
+    uint32_t *rule_numbers, size_t rule_numbers_len,
+    uint32_t *margin_rows, size_t margin_rows_len, double *margins, size_t margins_len,
+    uint32_t *verdict, size_t verdict_len, double *gap, size_t gap_len
+    KAPITSA_CHECK_WORK(KAPITSA_TAKES_DOUBLES, KAPITSA_TAKES_WORDS));
+
 /* Refusals 3, 21, 22, 23 and 12, judged in this order. inertia and inverse have 9 doubles each, by
    columns, as a mass has its inverse inertia; inverse is written where 0 is returned. */
 KAPITSA_MUST_USE uint32_t kapitsa_inverse_spd(
     const double *inertia, size_t inertia_len, double *inverse, size_t inverse_len);
 
-/* ---- how much work memory a call needs, exactly, the same for positions and for velocities: more
-   may be lent, less is refused by 3. 0 too where a count or the mode is beyond the limits: whatever
-   is lent, such a call is refused. */
+/* ---- how much work memory a call needs, exactly, the same for positions and for velocities, and for
+   a check with its list of margins as for a check: more may be lent, less is refused by 3. 0 too
+   where a count or the mode is beyond the limits: whatever is lent, such a call is refused. */
 
 static inline int kapitsa_within(uint32_t rows, uint32_t bodies, uint32_t mode)
 {
@@ -326,6 +360,13 @@ static inline uint32_t *kapitsa_carve_words(uint32_t **rest, size_t length)
         return KAPITSA_REFUSED_LENGTH;                                    \
     KAPITSA_CHECK_WORK(KAPITSA_CARVE_DOUBLES, KAPITSA_CARVE_WORDS)
 
+/* What each check lends on, up to its answer; beside is centres or residuals. */
+#define KAPITSA_CHECK_GIVEN(beside)                                       \
+    numbers, numbers_len, words, words_len, masses, masses_len,           \
+        beside, beside##_len, rule_words, rule_words_len,                 \
+        rule_tolerances, rule_tolerances_len, rows, bodies,               \
+        multipliers, multipliers_len, rule_numbers, rule_numbers_len
+
 /* What the call of a raw function answers under KAPITSA_CONTROL. */
 #define KAPITSA_RETURN_CONTROLLED(call)                                   \
     unsigned control = _mm_getcsr();                                      \
@@ -373,7 +414,7 @@ KAPITSA_APART uint32_t kapitsa_solve_velocity_in(
         KAPITSA_SOLVE_WORK(KAPITSA_LEND, KAPITSA_LEND)))
 }
 
-/* Of both checks read *verdict, gap and rule_numbers only where 0 was returned: a refusal leaves
+/* Of all checks read *verdict, gap and rule_numbers only where 0 was returned: a refusal leaves
    there what was there. */
 KAPITSA_APART uint32_t kapitsa_check_in(
     const double *numbers, size_t numbers_len, const uint32_t *words, size_t words_len,
@@ -386,10 +427,7 @@ KAPITSA_APART uint32_t kapitsa_check_in(
 {
     KAPITSA_CHECK_ROOM
     KAPITSA_RETURN_CONTROLLED(kapitsa_closing_check(
-        numbers, numbers_len, words, words_len, masses, masses_len, centres, centres_len,
-        rule_words, rule_words_len, rule_tolerances, rule_tolerances_len,
-        rows, bodies, multipliers, multipliers_len, rule_numbers, rule_numbers_len,
-        verdict, 1, gap, 2
+        KAPITSA_CHECK_GIVEN(centres), verdict, 1, gap, 2
         KAPITSA_CHECK_WORK(KAPITSA_LEND, KAPITSA_LEND)))
 }
 
@@ -404,9 +442,44 @@ KAPITSA_APART uint32_t kapitsa_check_velocity_in(
 {
     KAPITSA_CHECK_ROOM
     KAPITSA_RETURN_CONTROLLED(kapitsa_velocity_closing_check(
-        numbers, numbers_len, words, words_len, masses, masses_len, residuals, residuals_len,
-        rule_words, rule_words_len, rule_tolerances, rule_tolerances_len,
-        rows, bodies, multipliers, multipliers_len, rule_numbers, rule_numbers_len,
+        KAPITSA_CHECK_GIVEN(residuals), verdict, 1, gap, 2
+        KAPITSA_CHECK_WORK(KAPITSA_LEND, KAPITSA_LEND)))
+}
+
+/* Read margin_rows and margins only where 0 was returned and *verdict is KAPITSA_CLOSED: otherwise
+   there is no list, and they keep what was there. */
+KAPITSA_APART uint32_t kapitsa_margins_in(
+    const double *numbers, size_t numbers_len, const uint32_t *words, size_t words_len,
+    const double *masses, size_t masses_len, const double *centres, size_t centres_len,
+    const uint32_t *rule_words, size_t rule_words_len,
+    const double *rule_tolerances, size_t rule_tolerances_len,
+    uint32_t rows, uint32_t bodies, const double *multipliers, size_t multipliers_len,
+    uint32_t *rule_numbers, size_t rule_numbers_len,
+    uint32_t *margin_rows, size_t margin_rows_len, double *margins, size_t margins_len,
+    uint32_t *verdict, double gap[2],
+    double *work_doubles, size_t work_doubles_len, uint32_t *work_words, size_t work_words_len)
+{
+    KAPITSA_CHECK_ROOM
+    KAPITSA_RETURN_CONTROLLED(kapitsa_closing_margins(
+        KAPITSA_CHECK_GIVEN(centres), margin_rows, margin_rows_len, margins, margins_len,
+        verdict, 1, gap, 2
+        KAPITSA_CHECK_WORK(KAPITSA_LEND, KAPITSA_LEND)))
+}
+
+KAPITSA_APART uint32_t kapitsa_margins_velocity_in(
+    const double *numbers, size_t numbers_len, const uint32_t *words, size_t words_len,
+    const double *masses, size_t masses_len, const double *residuals, size_t residuals_len,
+    const uint32_t *rule_words, size_t rule_words_len,
+    const double *rule_tolerances, size_t rule_tolerances_len,
+    uint32_t rows, uint32_t bodies, const double *multipliers, size_t multipliers_len,
+    uint32_t *rule_numbers, size_t rule_numbers_len,
+    uint32_t *margin_rows, size_t margin_rows_len, double *margins, size_t margins_len,
+    uint32_t *verdict, double gap[2],
+    double *work_doubles, size_t work_doubles_len, uint32_t *work_words, size_t work_words_len)
+{
+    KAPITSA_CHECK_ROOM
+    KAPITSA_RETURN_CONTROLLED(kapitsa_velocity_closing_margins(
+        KAPITSA_CHECK_GIVEN(residuals), margin_rows, margin_rows_len, margins, margins_len,
         verdict, 1, gap, 2
         KAPITSA_CHECK_WORK(KAPITSA_LEND, KAPITSA_LEND)))
 }
@@ -428,6 +501,7 @@ KAPITSA_APART uint32_t kapitsa_inverse_in(const double inertia[9], double invers
 #undef KAPITSA_LEND
 #undef KAPITSA_SOLVE_ROOM
 #undef KAPITSA_CHECK_ROOM
+#undef KAPITSA_CHECK_GIVEN
 #undef KAPITSA_RETURN_CONTROLLED
 #undef KAPITSA_MUST_USE
 #undef KAPITSA_APART

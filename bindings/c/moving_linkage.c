@@ -1,7 +1,8 @@
 /* A four-bar linkage in motion: frame, crank, coupler and rocker in a plane, each filmed by itself,
    so that by their recorded speeds the pins would come apart. The velocity solve finds the impulses
    that make every pin's two sides run alike and the crank turn as its tachometer says; the closing
-   check says of the speeds, before and after, whether they fit and how far they are off.
+   check says of the speeds, before and after, whether they fit and how far they are off, and where
+   they fit it lists how near each row was to opening.
    cc -I bindings/c bindings/c/moving_linkage.c target/staticlib/libkapitsa_c.a -o moving_linkage */
 #include "kapitsa.h"
 #include <math.h>
@@ -114,23 +115,37 @@ enum {
     WORDS = sizeof work_words / sizeof work_words[0]
 };
 
+/* What would open the linkage: the smallest tolerance at which each row still closes. */
+static void print_margins(const struct linkage *linkage, const uint32_t *rows, const double *margins)
+{
+    for (uint32_t i = 0; i < ROWS; i++) {
+        const uint32_t *words = linkage->words + 8 * rows[i];
+        const int turns = words[1] == KAPITSA_ANGULAR;
+        printf("  %s and %s, %s: down to %.3g %s\n", PART[words[2]].name, PART[words[3]].name,
+               turns ? "turning" : rows[i] % 2 ? "y" : "x", margins[i], turns ? "rad/s" : "m/s");
+    }
+}
+
 /* Says whether every row's speed, with these multipliers, is within its tolerance, and how far it
-   is off at most. */
+   is off at most; where all are, with the list. */
 static int told(const struct linkage *linkage, const double *multipliers, const char *when,
                 uint32_t wanted)
 {
-    uint32_t rule_numbers[ROWS], verdict;
-    double gap[2];
-    const uint32_t refusal = kapitsa_check_velocity_in(
+    uint32_t rule_numbers[ROWS], margin_rows[ROWS], verdict;
+    double gap[2], margins[ROWS];
+    const uint32_t refusal = kapitsa_margins_velocity_in(
         linkage->numbers, 27 * ROWS, linkage->words, 8 * ROWS, linkage->masses, 10 * PARTS,
         linkage->residuals, ROWS, RULES, 6, TOLERANCES, 2, ROWS, PARTS, multipliers, ROWS,
-        rule_numbers, ROWS, &verdict, gap, work_doubles, DOUBLES, work_words, WORDS);
+        rule_numbers, ROWS, margin_rows, ROWS, margins, ROWS, &verdict, gap, work_doubles, DOUBLES,
+        work_words, WORDS);
     if (refusal != 0) {
         printf("%s: refused by %u\n", when, (unsigned)refusal);
         return 0;
     }
     printf("%s: %s, off by at most %.3g m/s and %.3g rad/s\n", when,
            verdict == KAPITSA_CLOSED ? "closed" : "open", gap[0], gap[1]);
+    if (verdict == KAPITSA_CLOSED)
+        print_margins(linkage, margin_rows, margins);
     return verdict == wanted;
 }
 

@@ -1,6 +1,6 @@
 //! The boundary between the port and Rust, as bindings/c/boundary.c has it for C, for positions and
-//! for velocities: floating-point modes, 18, rules, centres, residuals, lengths, empty jobs and the
-//! limits. The last line is `N passed, 0 failed`.
+//! for velocities: floating-point modes, 18, rules, margins, centres, residuals, lengths, empty jobs and
+//! the limits. The last line is `N passed, 0 failed`.
 //! Rust itself assumes the default mode: in another one nothing is computed here.
 
 #[allow(dead_code)] // the limits of pairs
@@ -137,11 +137,12 @@ fn within<T>(mode: u32, call: impl FnOnce() -> T) -> (T, u32) {
 }
 
 /// Everything that a solve and the check of its solution leave, doubles as bits; the rule numbers
-/// of both, and the new centres, `KEPT` where nothing was written.
+/// of both, and the new centres, `KEPT` where nothing was written; and the list of margins.
 #[derive(Debug, PartialEq)]
 struct Outcome {
     solved: Solved,
     checked: Told,
+    margins: List,
     numbers: Vec<u64>,
     new_centres: Vec<u64>,
     rules: [Vec<u32>; 2],
@@ -152,6 +153,9 @@ const KEPT_BITS: u64 = 0x5eed_5eed_5eed_5eed;
 
 type Solved = Result<(bool, u32, [u64; 2]), Refusal>;
 type Told = Result<(Verdict, [u64; 2]), Refusal>;
+
+/// Each row of a list, and its number's bits.
+type List = Option<Vec<(usize, u64)>>;
 
 /// What is lent of a job to write into.
 struct Lent {
@@ -205,6 +209,43 @@ fn velocities(
     (solved, checked.map(|found| (found.verdict, gap(found).map(f64::to_bits))))
 }
 
+/// The check with its list, of a job that has residuals for velocities.
+fn listed(job: &Job, multipliers: &[f64], numbers: &mut [u32], work: &mut Work) -> (Told, List) {
+    let Job { words, masses, centres, rules, .. } = job;
+    let mut rows = job.numbers.clone();
+    let told = match &job.residuals {
+        None => {
+            let tables = Tables { numbers: &mut rows, words, masses, centres };
+            let found = closing_margins(&tables, rules, multipliers, numbers, work);
+            let gap = |found: Checked| [found.linear_gap_m, found.angular_gap_rad];
+            found.map(|(found, list)| (found.verdict, gap(found), list))
+        }
+        Some(residuals) => {
+            let tables = VelocityTables { numbers: &mut rows, words, masses, residuals };
+            let found = velocity_closing_margins(&tables, rules, multipliers, numbers, work);
+            let gap = |found: VelocityChecked| [found.linear_gap_mps, found.angular_gap_radps];
+            found.map(|(found, list)| (found.verdict, gap(found), list))
+        }
+    };
+    let bits = |list: Margins| list.into_iter().map(|(row, number)| (row, number.to_bits()));
+    match told {
+        Err(refusal) => (Err(refusal), None),
+        Ok((verdict, gap, list)) => {
+            (Ok((verdict, gap.map(f64::to_bits))), list.map(|list| bits(list).collect()))
+        }
+    }
+}
+
+/// The list of a check that answered this; with its list it answers the same, rule numbers too.
+fn list_of(job: &Job, multipliers: &[f64], checked: Told, rules: &[u32], work: &mut Work) -> List {
+    let mut numbers = vec![KEPT; rules.len()];
+    let (told, list) = listed(job, multipliers, &mut numbers, work);
+    assert_eq!(told, checked, "as the check without a list");
+    assert_eq!(list.is_some(), checked.is_ok_and(|(verdict, _)| verdict == Verdict::Closed));
+    assert_eq!(numbers, rules, "the rule numbers of the check without a list");
+    list
+}
+
 fn outcome(job: &Job, mode: Mode, work: &mut Work) -> Outcome {
     let rows = job.words.len() / 8;
     let bodies = job.masses.len() / 10;
@@ -220,9 +261,10 @@ fn outcome(job: &Job, mode: Mode, work: &mut Work) -> Outcome {
         Some(residuals) => velocities(job, residuals, mode, &mut to, work),
     };
     let Lent { numbers, solution, impulses, new_centres, rules } = to;
+    let margins = list_of(job, &solution, checked, &rules[1], work);
     let bits = |list: Vec<f64>| list.iter().map(|number| number.to_bits()).collect();
     let numbers = bits([numbers, solution, impulses].concat());
-    Outcome { solved, checked, numbers, new_centres: bits(new_centres), rules }
+    Outcome { solved, checked, margins, numbers, new_centres: bits(new_centres), rules }
 }
 
 /// The bits of 17 · 2^-52 and of +0.0.
@@ -246,10 +288,12 @@ fn floating_point_modes(tests: &mut Tests, of: Kind) {
         let found = outcome(&sheet, mode, &mut work);
         tests.expect(found.solved == Ok((true, 1, [0; 2])), "P1");
         tests.expect(found.checked == Ok((Verdict::Closed, P1_GAP)), "P1 is closed");
+        tests.expect(found.margins == Some(vec![(0, P1_GAP[0])]), "P1's number");
         tests.expect(found.numbers[grows] == 0.25f64.to_bits(), "P1's multiplier");
         for (exponent, verdict) in [(-47, Verdict::Closed), (-48, Verdict::Open)] {
             let found = outcome(&of(p1(-0.25, 2f64.powi(exponent))), mode, &mut work);
             tests.expect(found.checked == Ok((verdict, P1_GAP)), "closed at 2^-47, open at 2^-48");
+            tests.expect(found.margins.is_some() == (exponent == -47), "a list where it is closed");
         }
         let found = outcome(&of(chain()), mode, &mut work);
         tests.expect(found.solved.is_ok_and(|(flag, ..)| flag), "the chain is solved");
@@ -412,6 +456,62 @@ fn refused_rules(tests: &mut Tests, of: Kind, work: &mut Work) {
     }
 }
 
+/// Rows of these errors and dimensions on the same two bodies, all within tolerance at once.
+fn rows_of(rows: &[(f64, Dimension)]) -> Job {
+    let mut job = Job { rules: Rules::two(2.0, 2.0), limit: 50, ..Job::default() };
+    for (row, (error, dimension)) in rows.iter().enumerate() {
+        job.row(0, 1, row as u32, *error);
+        job.words[8 * row + 1] = *dimension as u32;
+    }
+    (0..2).for_each(|_| job.mass(0.5, 0.0));
+    job
+}
+
+/// The list's order, and that a row alone closes by its number, and opens by the double below.
+fn margins(tests: &mut Tests, of: Kind) {
+    use Dimension::{Angular, Linear};
+    let mut work = Work::default();
+    let rows = [
+        (0.25, Angular),
+        (-0.5, Linear),
+        (1.0, Linear),
+        (-0.25, Angular),
+        (0.5, Linear),
+        (-0.0, Linear),
+    ];
+    // Without multipliers a number is the error's size and (n + 16) · 2^-51 of it: here 44 units.
+    let number = |row: usize| match f64::to_bits(rows[row].0) << 1 >> 1 {
+        0 => (row, 0),
+        bits => (row, bits + 44),
+    };
+    let job = of(rows_of(&rows));
+    for mode in ALL {
+        let found = outcome(&job, mode, &mut work);
+        let order = [2, 1, 4, 5, 0, 3].map(number);
+        tests.expect(found.margins == Some(order.to_vec()), "the list's order");
+    }
+    let none =
+        outcome(&of(Job { rules: Rules::two(1.0, 1.0), ..Job::default() }), ALL[0], &mut work);
+    tests.expect(none.margins == Some(vec![]), "the list of no rows");
+    let job = of(kinds(Rules::two(1e-9, 1e-9)));
+    let plain = outcome(&job, Mode::Diagonal, &mut work);
+    let solution: Vec<f64> =
+        plain.numbers[81..84].iter().map(|bits| f64::from_bits(*bits)).collect();
+    let list = plain.margins.expect("the chain is closed");
+    for (row, number) in &list {
+        let own = f64::from_bits(*number);
+        for (tolerance, closes) in [(own, true), (own.next_down(), false), (0.0, false)] {
+            let mut tolerances = [1e-9; 3];
+            tolerances[*row] = tolerance;
+            let job = Job { rules: three(tolerances), ..job.clone() };
+            let (told, found) = listed(&job, &solution, &mut [KEPT; 3], &mut work);
+            let verdict = if closes { Verdict::Closed } else { Verdict::Open };
+            tests.expect(told.is_ok_and(|(found, _)| found == verdict), "a row alone");
+            tests.expect(found == closes.then(|| list.clone()), "the same list, or none");
+        }
+    }
+}
+
 /// P1, which moves its bodies by 1/8 along x, the one there and the other back.
 fn centres(tests: &mut Tests) {
     let mut work = Work::default();
@@ -514,6 +614,7 @@ fn as_positions(tests: &mut Tests) {
             let found = outcome(&moving, mode, &mut work);
             tests.expect(found.solved.is_ok() && found.solved == places.solved, "solved alike");
             tests.expect(found.checked.is_ok() && found.checked == places.checked, "checked alike");
+            tests.expect(found.margins.is_some() && found.margins == places.margins, "one list");
             tests.expect(found.rules == places.rules, "the same rules");
             let rows = job.numbers.len();
             let same = found.numbers[rows..] == places.numbers[rows..];
@@ -660,7 +761,8 @@ fn tried(
         rules: Rules::two(1.0, 1.0),
         shift,
         limit: 1,
-        ..Job::default()
+        residuals: speeds.then(|| vec![0.0; beside]),
+        numbers: vec![0.0; numbers],
     };
     let mut to = Lent {
         numbers: vec![0.0; numbers],
@@ -671,11 +773,12 @@ fn tried(
     };
     let mut work = Work::default();
     ALL.map(|mode| {
-        let (solved, checked) = if speeds {
-            velocities(&job, &vec![0.0; beside], mode, &mut to, &mut work)
-        } else {
-            positions(&job, mode, &mut to, &mut work)
+        let (solved, checked) = match &job.residuals {
+            Some(residuals) => velocities(&job, residuals, mode, &mut to, &mut work),
+            None => positions(&job, mode, &mut to, &mut work),
         };
+        let (told, _) = listed(&job, &to.solution, &mut to.rules[1], &mut work);
+        assert_eq!(told, checked, "as the check without a list");
         (solved.map(|(_, count, _)| count), checked)
     })
 }
@@ -731,6 +834,7 @@ fn main() {
         floating_point_modes(&mut tests, of);
         shifts(&mut tests, of);
         rules(&mut tests, of);
+        margins(&mut tests, of);
     }
     centres(&mut tests);
     as_positions(&mut tests);

@@ -1,6 +1,6 @@
 //! Zapekuri for Rust: safe calls of the position solve and of the velocity solve, of the closing
-//! check of each and of the inverse of a local inertia in `libkapitsa_c.a` (`rt staticlib
-//! kapitsa_c`), an archive for x86-64. The archive tests every count, length and number itself.
+//! check of each, alone and with its list of margins, and of the inverse of a local inertia in
+//! `libkapitsa_c.a` (`rt staticlib kapitsa_c`), an archive for x86-64. The archive tests every count, length and number itself.
 //! Here stands what it cannot see to: that the work memory is there and carved without overlap, and
 //! that the processor is in the mode that it assumes.
 
@@ -159,6 +159,11 @@ pub struct VelocityChecked {
     pub linear_gap_mps: f64,
     pub angular_gap_radps: f64,
 }
+
+/// What would open the joint: each row once, and beside it the smallest tolerance at which it still
+/// closes, in the unit of its own. Linear rows come before angular ones, the largest number first within
+/// each dimension, the lower row first among equals.
+pub type Margins = Vec<(usize, f64)>;
 
 /// Rows (27 doubles and 8 words each) and masses (10 doubles each), as document 01 has them, and the
 /// bodies' centres (3 doubles each): zeros where none are known.
@@ -358,11 +363,11 @@ pub fn solve_velocity(
 }
 
 /// A closing check of the archive, in the default mode: the verdict and the measured gap. `$lent` is
-/// what it reads beside rows, masses and rules.
+/// what it reads beside rows, masses and rules, `$list` what it writes beside the rest, if anything.
 #[rustfmt::skip]
 macro_rules! check {
     ($function:ident, $tables:ident, $lent:expr, $rules:ident, $multipliers:ident,
-     $rule_numbers:ident, $work:ident) => {{
+     $rule_numbers:ident, [$($list:expr),*], $work:ident) => {{
         let (n, b) = counts($tables.words, $tables.masses)?;
         let (mut doubles, mut words) = $work.lend(15 * n + 16 * b, 2 * n);
         let jacobians = carve(&mut doubles, 12 * n);
@@ -386,6 +391,7 @@ macro_rules! check {
                 $rules.tolerances.as_ptr(), $rules.tolerances.len(), n as u32, b as u32,
                 $multipliers.as_ptr(), $multipliers.len(),
                 $rule_numbers.as_mut_ptr(), $rule_numbers.len(),
+                $($list.as_mut_ptr(), $list.len(),)*
                 verdict.as_mut_ptr(), verdict.len(), gap.as_mut_ptr(), gap.len(),
                 jacobians.as_mut_ptr(), jacobians.len(), links.as_mut_ptr(), links.len(),
                 mass_sizes.as_mut_ptr(), mass_sizes.len(),
@@ -415,7 +421,7 @@ pub fn closing_check(
 ) -> Result<Checked, Refusal> {
     #[rustfmt::skip]
     let (verdict, gap) = check!(
-        kapitsa_closing_check, tables, tables.centres, rules, multipliers, rule_numbers, work
+        kapitsa_closing_check, tables, tables.centres, rules, multipliers, rule_numbers, [], work
     );
     Ok(Checked { verdict, linear_gap_m: gap[0], angular_gap_rad: gap[1] })
 }
@@ -433,9 +439,62 @@ pub fn velocity_closing_check(
     #[rustfmt::skip]
     let (verdict, gap) = check!(
         kapitsa_velocity_closing_check, tables, tables.residuals, rules, multipliers,
-        rule_numbers, work
+        rule_numbers, [], work
     );
     Ok(VelocityChecked { verdict, linear_gap_mps: gap[0], angular_gap_radps: gap[1] })
+}
+
+/// Memory for the list of as many rows as there are words for.
+fn lists(words: &[u32]) -> (Vec<u32>, Vec<f64>) {
+    let rows = words.len() / 8;
+    (vec![0; rows], vec![0.0; rows])
+}
+
+/// The list, which there is where the check says closed.
+fn listed(verdict: Verdict, rows: &[u32], numbers: &[f64]) -> Option<Margins> {
+    let each = rows.iter().zip(numbers);
+    (verdict == Verdict::Closed)
+        .then(|| each.map(|(row, number)| (*row as usize, *number)).collect())
+}
+
+/// `closing_check`, and where it says closed the list of each row's margin. Judged by its number
+/// instead of its own tolerance, the others by their own, a row still closes; by any tolerance from 0
+/// below it, where it is above 0, the verdict is open.
+#[inline(never)]
+pub fn closing_margins(
+    tables: &Tables,
+    rules: &Rules,
+    multipliers: &[f64],
+    rule_numbers: &mut [u32],
+    work: &mut Work,
+) -> Result<(Checked, Option<Margins>), Refusal> {
+    let (mut rows, mut numbers) = lists(tables.words);
+    #[rustfmt::skip]
+    let (verdict, gap) = check!(
+        kapitsa_closing_margins, tables, tables.centres, rules, multipliers, rule_numbers,
+        [rows, numbers], work
+    );
+    let checked = Checked { verdict, linear_gap_m: gap[0], angular_gap_rad: gap[1] };
+    Ok((checked, listed(verdict, &rows, &numbers)))
+}
+
+/// The same of speeds: `velocity_closing_check` with its list, in m/s and rad/s.
+#[inline(never)]
+pub fn velocity_closing_margins(
+    tables: &VelocityTables,
+    rules: &Rules,
+    multipliers: &[f64],
+    rule_numbers: &mut [u32],
+    work: &mut Work,
+) -> Result<(VelocityChecked, Option<Margins>), Refusal> {
+    let (mut rows, mut numbers) = lists(tables.words);
+    #[rustfmt::skip]
+    let (verdict, gap) = check!(
+        kapitsa_velocity_closing_margins, tables, tables.residuals, rules, multipliers,
+        rule_numbers, [rows, numbers], work
+    );
+    let checked = VelocityChecked { verdict, linear_gap_mps: gap[0], angular_gap_radps: gap[1] };
+    Ok((checked, listed(verdict, &rows, &numbers)))
 }
 
 /// The inverse of a link's 3 by 3 local inertia, both by columns, as a mass has its inverse inertia.
@@ -546,6 +605,38 @@ unsafe extern "C" {
         multipliers: *const f64, multipliers_len: usize,
         rule_numbers: *mut u32, rule_numbers_len: usize, verdict: *mut u32, verdict_len: usize,
         gap: *mut f64, gap_len: usize,
+        jacobians: *mut f64, jacobians_len: usize, links: *mut u32, links_len: usize,
+        mass_sizes: *mut f64, mass_sizes_len: usize,
+        multiplier_sizes: *mut f64, multiplier_sizes_len: usize,
+        impulses: *mut f64, impulses_len: usize,
+        values: *mut f64, values_len: usize, sizes: *mut f64, sizes_len: usize,
+    ) -> u32;
+
+    fn kapitsa_closing_margins(
+        numbers: *const f64, numbers_len: usize, words: *const u32, words_len: usize,
+        masses: *const f64, masses_len: usize, centres: *const f64, centres_len: usize,
+        rule_words: *const u32, rule_words_len: usize,
+        rule_tolerances: *const f64, rule_tolerances_len: usize, rows: u32, bodies: u32,
+        multipliers: *const f64, multipliers_len: usize,
+        rule_numbers: *mut u32, rule_numbers_len: usize,
+        margin_rows: *mut u32, margin_rows_len: usize, margins: *mut f64, margins_len: usize,
+        verdict: *mut u32, verdict_len: usize, gap: *mut f64, gap_len: usize,
+        jacobians: *mut f64, jacobians_len: usize, links: *mut u32, links_len: usize,
+        mass_sizes: *mut f64, mass_sizes_len: usize,
+        multiplier_sizes: *mut f64, multiplier_sizes_len: usize,
+        impulses: *mut f64, impulses_len: usize,
+        values: *mut f64, values_len: usize, sizes: *mut f64, sizes_len: usize,
+    ) -> u32;
+
+    fn kapitsa_velocity_closing_margins(
+        numbers: *const f64, numbers_len: usize, words: *const u32, words_len: usize,
+        masses: *const f64, masses_len: usize, residuals: *const f64, residuals_len: usize,
+        rule_words: *const u32, rule_words_len: usize,
+        rule_tolerances: *const f64, rule_tolerances_len: usize, rows: u32, bodies: u32,
+        multipliers: *const f64, multipliers_len: usize,
+        rule_numbers: *mut u32, rule_numbers_len: usize,
+        margin_rows: *mut u32, margin_rows_len: usize, margins: *mut f64, margins_len: usize,
+        verdict: *mut u32, verdict_len: usize, gap: *mut f64, gap_len: usize,
         jacobians: *mut f64, jacobians_len: usize, links: *mut u32, links_len: usize,
         mass_sizes: *mut f64, mass_sizes_len: usize,
         multiplier_sizes: *mut f64, multiplier_sizes_len: usize,

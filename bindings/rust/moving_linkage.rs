@@ -1,12 +1,13 @@
 //! A four-bar linkage in motion, as bindings/c/moving_linkage.c has it: frame, crank, coupler and
 //! rocker, each filmed by itself, so that by their recorded speeds the pins would come apart. Solved
-//! for speeds at which they do not, and checked before and after.
+//! for speeds at which they do not, and checked before and after, with the list of how near each row
+//! was to opening.
 
 #[allow(dead_code)] // positions and the inverse are in the other examples
 mod kapitsa;
 
-use kapitsa::{solve_velocity, velocity_closing_check};
 use kapitsa::{Dimension, Mode, Refusal, Rules, VelocityDelivered, VelocityTables, Verdict, Work};
+use kapitsa::{solve_velocity, velocity_closing_margins};
 
 /// Where the part's centre lies, its mass and length, and its recorded speed: m/s and rad/s.
 struct Part {
@@ -125,17 +126,31 @@ impl Linkage {
     }
 }
 
+/// What would open the linkage: the smallest tolerance at which each row still closes.
+fn print_margins(words: &[u32], list: &[(usize, f64)]) {
+    for (row, number) in list {
+        let words = &words[8 * row..];
+        let [a, b] = [2, 3].map(|place| PARTS[words[place] as usize].name);
+        let (what, unit) = match words[1] {
+            0 => (["x", "y"][row % 2], "m/s"),
+            _ => ("turning", "rad/s"),
+        };
+        println!("  {a} and {b}, {what}: down to {number:.2e} {unit}");
+    }
+}
+
 /// Says whether every row's speed, with these multipliers, is within its tolerance, and how far it
-/// is off at most.
+/// is off at most; where all are, with the list.
 fn told(
     tables: &VelocityTables,
     rules: &Rules,
     multipliers: &[f64],
     work: &mut Work,
 ) -> Result<Verdict, Refusal> {
-    let found = velocity_closing_check(tables, rules, multipliers, &mut [0; ROWS], work)?;
+    let (found, list) = velocity_closing_margins(tables, rules, multipliers, &mut [0; ROWS], work)?;
     let (linear, angular) = (found.linear_gap_mps, found.angular_gap_radps);
     println!("{:?}, off by at most {linear:.2e} m/s, {angular:.2e} rad/s", found.verdict);
+    print_margins(tables.words, &list.unwrap_or_default());
     Ok(found.verdict)
 }
 

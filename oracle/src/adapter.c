@@ -6,10 +6,11 @@
    A slice is a pointer, then its length. centres has three doubles a body, new_centres gets
    where each ends up; for velocities residuals has one double a row, in the centres' place.
    rule_words has dimension, first key and last key of each rule,
-   rule_tolerances its tolerance; rule_numbers gets each row's rule. `answer` is refusal
-   (0: accepted), count, flag, bits of the linear maximum, bits of the angular maximum; for the
-   check: refusal, verdict (1: closed), bits of the linear gap, bits of the angular gap. Where a
-   call is refused, all but the refusal are 0. */
+   rule_tolerances its tolerance; rule_numbers gets each row's rule. margin_rows and margins get,
+   where the check says closed, each row and its number, in the order of document 02, m. `answer` is
+   refusal (0: accepted), count, flag, bits of the linear maximum, bits of the angular maximum; for
+   the check, with its list or without: refusal, verdict (1: closed), bits of the linear gap, bits of
+   the angular gap. Where a call is refused, all but the refusal are 0. */
 #include <stddef.h>
 #include <stdint.h>
 
@@ -32,22 +33,6 @@ void kapitsa_solve_velocity(
     double *solution, size_t solution_len, double *impulses, size_t impulses_len,
     uint32_t *rule_numbers, size_t rule_numbers_len, uint64_t *answer, size_t answer_len);
 
-void kapitsa_closing_check(
-    const double *numbers, size_t numbers_len, const uint32_t *words, size_t words_len,
-    const double *masses, size_t masses_len, const double *centres, size_t centres_len,
-    const uint32_t *rule_words, size_t rule_words_len,
-    const double *rule_tolerances, size_t rule_tolerances_len,
-    uint32_t rows, uint32_t bodies, const double *multipliers, size_t multipliers_len,
-    uint32_t *rule_numbers, size_t rule_numbers_len, uint64_t *answer, size_t answer_len);
-
-void kapitsa_velocity_closing_check(
-    const double *numbers, size_t numbers_len, const uint32_t *words, size_t words_len,
-    const double *masses, size_t masses_len, const double *residuals, size_t residuals_len,
-    const uint32_t *rule_words, size_t rule_words_len,
-    const double *rule_tolerances, size_t rule_tolerances_len,
-    uint32_t rows, uint32_t bodies, const double *multipliers, size_t multipliers_len,
-    uint32_t *rule_numbers, size_t rule_numbers_len, uint64_t *answer, size_t answer_len);
-
 void oracle_solve_position(
     double *numbers, size_t numbers_len, const uint32_t *words, size_t words_len,
     const double *masses, size_t masses_len, const double *centres, size_t centres_len,
@@ -63,20 +48,6 @@ void oracle_solve_position(
                            rule_tolerances_len, rows, bodies, limit, mode, shift, solution,
                            solution_len, impulses, impulses_len, new_centres, new_centres_len,
                            rule_numbers, rule_numbers_len, answer, answer_len);
-}
-
-void oracle_closing_check(
-    const double *numbers, size_t numbers_len, const uint32_t *words, size_t words_len,
-    const double *masses, size_t masses_len, const double *centres, size_t centres_len,
-    const uint32_t *rule_words, size_t rule_words_len,
-    const double *rule_tolerances, size_t rule_tolerances_len,
-    uint32_t rows, uint32_t bodies, const double *multipliers, size_t multipliers_len,
-    uint32_t *rule_numbers, size_t rule_numbers_len, uint64_t *answer, size_t answer_len)
-{
-    kapitsa_closing_check(numbers, numbers_len, words, words_len, masses, masses_len, centres,
-                          centres_len, rule_words, rule_words_len, rule_tolerances,
-                          rule_tolerances_len, rows, bodies, multipliers, multipliers_len,
-                          rule_numbers, rule_numbers_len, answer, answer_len);
 }
 
 void oracle_solve_velocity(
@@ -95,17 +66,38 @@ void oracle_solve_velocity(
                            answer, answer_len);
 }
 
-void oracle_velocity_closing_check(
-    const double *numbers, size_t numbers_len, const uint32_t *words, size_t words_len,
-    const double *masses, size_t masses_len, const double *residuals, size_t residuals_len,
-    const uint32_t *rule_words, size_t rule_words_len,
-    const double *rule_tolerances, size_t rule_tolerances_len,
-    uint32_t rows, uint32_t bodies, const double *multipliers, size_t multipliers_len,
-    uint32_t *rule_numbers, size_t rule_numbers_len, uint64_t *answer, size_t answer_len)
-{
-    kapitsa_velocity_closing_check(numbers, numbers_len, words, words_len, masses, masses_len,
-                                   residuals, residuals_len, rule_words, rule_words_len,
-                                   rule_tolerances, rule_tolerances_len, rows, bodies, multipliers,
-                                   multipliers_len, rule_numbers, rule_numbers_len, answer,
-                                   answer_len);
-}
+/* What a check takes before its answer, and is passed on; beside is centres or residuals. */
+#define TAKES(beside)                                                                           \
+    const double *numbers, size_t numbers_len, const uint32_t *words, size_t words_len,         \
+        const double *masses, size_t masses_len, const double *beside, size_t beside##_len,     \
+        const uint32_t *rule_words, size_t rule_words_len, const double *rule_tolerances,       \
+        size_t rule_tolerances_len, uint32_t rows, uint32_t bodies, const double *multipliers,  \
+        size_t multipliers_len, uint32_t *rule_numbers, size_t rule_numbers_len
+#define PASSES(beside)                                                                          \
+    numbers, numbers_len, words, words_len, masses, masses_len, beside, beside##_len,           \
+        rule_words, rule_words_len, rule_tolerances, rule_tolerances_len, rows, bodies,         \
+        multipliers, multipliers_len, rule_numbers, rule_numbers_len
+
+/* A check of an implementation, and the driver's. */
+#define CHECK(driven, own, beside)                                                              \
+    void own(TAKES(beside), uint64_t *answer, size_t answer_len);                               \
+    void driven(TAKES(beside), uint64_t *answer, size_t answer_len)                             \
+    {                                                                                           \
+        own(PASSES(beside), answer, answer_len);                                                \
+    }
+
+/* The same with its list. */
+#define MARGINS(driven, own, beside)                                                            \
+    void own(TAKES(beside), uint32_t *margin_rows, size_t margin_rows_len, double *margins,     \
+             size_t margins_len, uint64_t *answer, size_t answer_len);                          \
+    void driven(TAKES(beside), uint32_t *margin_rows, size_t margin_rows_len, double *margins,  \
+                size_t margins_len, uint64_t *answer, size_t answer_len)                        \
+    {                                                                                           \
+        own(PASSES(beside), margin_rows, margin_rows_len, margins, margins_len, answer,         \
+            answer_len);                                                                        \
+    }
+
+CHECK(oracle_closing_check, kapitsa_closing_check, centres)
+CHECK(oracle_velocity_closing_check, kapitsa_velocity_closing_check, residuals)
+MARGINS(oracle_closing_margins, kapitsa_closing_margins, centres)
+MARGINS(oracle_velocity_closing_margins, kapitsa_velocity_closing_margins, residuals)

@@ -3,7 +3,7 @@
 //! stay warm; nothing but the solve or the check is timed.
 
 use crate::generator::{Shape, joined, split};
-use crate::implementation::{Implementation, Outputs};
+use crate::implementation::{CheckOutputs, Implementation, Outputs};
 use crate::job::*;
 use crate::random::Random;
 use std::hint::black_box;
@@ -244,8 +244,34 @@ fn short(value: f64) -> String {
     format!("{value:.places$}")
 }
 
+/// The check with its list, which must be closed.
+fn listed<'a>(own: &'a Implementation, job: &Job, list: &[f64]) -> Result<Solve<'a>, String> {
+    let (job, rules, list) = (job.clone(), job.rules(), list.to_vec());
+    let [rule_numbers, margin_rows] = [(); 2].map(|()| vec![0; job.rows as usize]);
+    let mut to = CheckOutputs { rule_numbers, margin_rows, margins: vec![0.0; job.rows as usize] };
+    let [refusal, closed, ..] = own.margins(&job, &rules, &list, &mut to);
+    if (refusal, closed) != (0, 1) {
+        return Err(format!("the check with its list is not closed: {refusal}, {closed}"));
+    }
+    Ok(Box::new(move || {
+        black_box(own.margins(&job, &rules, black_box(&list), &mut to));
+    }))
+}
+
+/// Errors that grow, or shrink, from row to row; they are measured as they are by zeros for multipliers.
+fn graded(job: &Job, growing: bool) -> Job {
+    let mut job = Job { tolerances: [1.0; 2], ..job.clone() };
+    let rows = job.rows as usize;
+    for row in 0..rows {
+        let place = if growing { row } else { rows - 1 - row };
+        job.set(row, ERROR, &[(place + 1) as f64 * two(-20)]);
+    }
+    job
+}
+
 /// The closing check of 512 rows on 256 bodies, with the solve's own multipliers, under two rules
-/// and under 64, beside three products of the reference's operator on the same table and list.
+/// and under 64, and with its list, whose cost hangs on how far the rows are from its order; beside
+/// three products of the reference's operator on the same table and list.
 pub fn closing(library: &str) -> Result<bool, String> {
     let own = Implementation::open(library, Kind::Position)?;
     let job = mechanism(Shape::Loop, 256, 2, INCOMPLETE_CHOLESKY);
@@ -261,6 +287,7 @@ pub fn closing(library: &str) -> Result<bool, String> {
     let mut operator =
         reference::Operator::new(&job.numbers, &job.words, &job.masses, &job.centres);
     operator.product(&list).map_err(|error| format!("{error:?}"))?;
+    let zeros = vec![0.0; job.rows as usize];
     let solves: Vec<Solve> = vec![
         Box::new(|| {
             black_box(own.close(&job, &two, black_box(&list), &mut numbers));
@@ -268,6 +295,9 @@ pub fn closing(library: &str) -> Result<bool, String> {
         Box::new(|| {
             black_box(own.close(&ruled, &many, black_box(&list), &mut more));
         }),
+        listed(&own, &job, &list)?,
+        listed(&own, &graded(&job, false), &zeros)?,
+        listed(&own, &graded(&job, true), &zeros)?,
         Box::new(|| {
             for _ in 0..3 {
                 let _ = black_box(operator.product(black_box(&list)));
@@ -276,7 +306,14 @@ pub fn closing(library: &str) -> Result<bool, String> {
     ];
     let verdict = if closed == 1 { "closed" } else { "open" };
     println!("{} rows, {} bodies: {verdict}; µs, minimum and median", job.rows, job.bodies);
-    let names = ["closing check", "under 64 rules", "three products of the Rust"];
+    let names = [
+        "closing check",
+        "under 64 rules",
+        "with its list",
+        "with its list, rows in its order",
+        "with its list, rows the other way round",
+        "three products of the Rust",
+    ];
     for (name, times) in names.iter().zip(&times(solves)) {
         println!("{name}: {} {}", short(times.minimum), short(times.median));
     }

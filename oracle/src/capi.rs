@@ -92,11 +92,35 @@ fn solve(job: &Job, numbers: &mut [f64], to: Outputs) -> [u64; 5] {
     solved.answer.words()
 }
 
-fn check(job: &Job, list: &[f64], rule_numbers: &mut [u32]) -> [u64; 4] {
-    let fits = rule_numbers.len() == job.rows as usize;
+/// What a check with its list is lent for it.
+struct Lists<'a> {
+    rows: &'a mut [u32],
+    numbers: &'a mut [f64],
+}
+
+impl Lists<'_> {
+    /// # Safety
+    /// Each pointer is followed by the number of elements that it lends.
+    unsafe fn lent(rows: (*mut u32, usize), numbers: (*mut f64, usize)) -> Self {
+        Self {
+            rows: unsafe { from_raw_parts_mut(rows.0, rows.1) },
+            numbers: unsafe { from_raw_parts_mut(numbers.0, numbers.1) },
+        }
+    }
+}
+
+fn check(job: &Job, list: &[f64], rule_numbers: &mut [u32], margins: Option<Lists>) -> [u64; 4] {
+    let rows = job.rows as usize;
+    let lists = margins.as_ref().map_or([rows; 2], |to| [to.rows.len(), to.numbers.len()]);
+    let fits = rule_numbers.len() == rows && lists == [rows; 2];
     let checked = if fits { model::closing_check(job, list) } else { Err(3) };
     if let Ok(found) = &checked {
         rule_numbers.copy_from_slice(&found.rules);
+        if let (Some(to), Some(list)) = (margins, model::margins(job, found)) {
+            for (place, (row, number)) in list.into_iter().enumerate() {
+                (to.rows[place], to.numbers[place]) = (row, number);
+            }
+        }
     }
     model::check_words(&checked)
 }
@@ -172,9 +196,9 @@ pub unsafe extern "C" fn kapitsa_solve_velocity(
     unsafe { from_raw_parts_mut(answer, answer_len) }.copy_from_slice(&found);
 }
 
-/// A check by this name, of this kind of job.
+/// A check by this name, of this kind of job, with what it takes for its list.
 macro_rules! checks {
-    ($name:ident, $kind:expr) => {
+    ($name:ident, $kind:expr, [$($list:ident: $of:ty),*], $lists:expr) => {
         /// # Safety
         /// Every pointer is followed by the number of elements that it lends.
         #[unsafe(no_mangle)]
@@ -190,6 +214,7 @@ macro_rules! checks {
             rows: u32, bodies: u32,
             multipliers: *const f64, multipliers_len: usize,
             rule_numbers: *mut u32, rule_numbers_len: usize,
+            $($list: $of,)*
             answer: *mut u64, answer_len: usize,
         ) {
             let tables = Tables {
@@ -201,11 +226,23 @@ macro_rules! checks {
             let job = unsafe { tables.job($kind, rows, bodies) };
             let list = unsafe { from_raw_parts(multipliers, multipliers_len) };
             let rule_numbers = unsafe { from_raw_parts_mut(rule_numbers, rule_numbers_len) };
-            let found = check(&job, list, rule_numbers);
+            let found = check(&job, list, rule_numbers, $lists);
             unsafe { from_raw_parts_mut(answer, answer_len) }.copy_from_slice(&found);
         }
     };
 }
 
-checks!(kapitsa_closing_check, Kind::Position);
-checks!(kapitsa_velocity_closing_check, Kind::Velocity);
+checks!(kapitsa_closing_check, Kind::Position, [], None);
+checks!(kapitsa_velocity_closing_check, Kind::Velocity, [], None);
+checks!(
+    kapitsa_closing_margins,
+    Kind::Position,
+    [rows_to: *mut u32, rows_to_len: usize, numbers_to: *mut f64, numbers_to_len: usize],
+    Some(unsafe { Lists::lent((rows_to, rows_to_len), (numbers_to, numbers_to_len)) })
+);
+checks!(
+    kapitsa_velocity_closing_margins,
+    Kind::Velocity,
+    [rows_to: *mut u32, rows_to_len: usize, numbers_to: *mut f64, numbers_to_len: usize],
+    Some(unsafe { Lists::lent((rows_to, rows_to_len), (numbers_to, numbers_to_len)) })
+);

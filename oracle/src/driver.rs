@@ -1,16 +1,19 @@
 //! The differential driver: an implementation against the judge, job by job.
 
 mod effect;
+mod margins;
 
 use crate::closing_jobs::closing_job;
 use crate::generator::{Sizes, centred, driven, job, ruled, shifted};
 use crate::implementation::{Implementation, Outputs};
 use crate::job::{Answer, CENTRE_NUMBERS, Job, Kind, ROW_NUMBERS, Solved, same_bits};
 use crate::judge::judge;
+use crate::model::{Checked, Judged};
 use crate::random::Random;
 use crate::tally::Tally;
 use crate::{job_file, model};
 use effect::Effect;
+use margins::Lists;
 use std::collections::BTreeMap;
 use std::path::Path;
 
@@ -61,6 +64,7 @@ fn drive(
     let mut verdicts = BTreeMap::new();
     let mut solves = Tally::default();
     let mut effect = Effect::default();
+    let mut lists = Lists::default();
     for index in 0..jobs {
         let job = draw(seed, index);
         let mut random = Random::of(!seed, index);
@@ -73,7 +77,10 @@ fn drive(
             save_job(home, &name, &job)?;
         }
         let (closing, list) = closing_job(&job, &solved, &mut random);
-        let (told, differ) = compare_check(&implementation, &closing, &list, &mut random);
+        let checked = model::closing_check(&closing, &list);
+        let given = (&closing, &list[..]);
+        let (told, mut differ) = compare_check(&implementation, given, &checked, &mut random);
+        differ.extend(lists.compare(&implementation, given, &checked, &mut random));
         *verdicts.entry(told).or_insert(0) += 1;
         if !differ.is_empty() {
             println!("closing check {name}, {:?}: {}", closing.rules, differ.join("; "));
@@ -87,6 +94,7 @@ fn drive(
         effect.print();
     }
     print_verdicts(&verdicts);
+    lists.print();
     println!("{jobs} jobs, {mismatches} mismatches");
     Ok(mismatches == 0)
 }
@@ -95,16 +103,17 @@ fn drive(
 /// the gap and the rule numbers too.
 fn compare_check(
     own: &Implementation,
-    job: &Job,
-    list: &[f64],
+    (job, list): (&Job, &[f64]),
+    checked: &Judged<Checked>,
     random: &mut Random,
 ) -> ([u64; 2], Vec<String>) {
     let short = usize::from(random.below(200) == 0);
     let rows = job.rows.min(600) as usize;
     let mut numbers = vec![UNTOUCHED_WORD; rows.saturating_sub(short)];
     let fits = numbers.len() == job.rows as usize;
-    let checked = if fits { model::closing_check(job, list) } else { Err(3) };
-    let wanted = model::check_words(&checked);
+    let refused = Err(3);
+    let checked = if fits { checked } else { &refused };
+    let wanted = model::check_words(checked);
     let given = own.close(job, &job.rules(), list, &mut numbers);
     let mut found = Vec::new();
     if given != wanted {

@@ -26,6 +26,14 @@ type Close = unsafe extern "C" fn(
     *const f64, usize, *mut u32, usize, *mut u64, usize,
 );
 
+/// The same with its list: rows, and beside each its number.
+#[rustfmt::skip]
+type Margins = unsafe extern "C" fn(
+    *const f64, usize, *const u32, usize, *const f64, usize, *const f64, usize,
+    *const u32, usize, *const f64, usize, u32, u32,
+    *const f64, usize, *mut u32, usize, *mut u32, usize, *mut f64, usize, *mut u64, usize,
+);
+
 type Cleared = unsafe extern "C" fn() -> c_int;
 
 #[derive(Clone, Copy)]
@@ -51,17 +59,31 @@ pub struct Outputs {
     pub rule_numbers: Vec<u32>,
 }
 
+/// What a check with its list is lent to write into.
+pub struct CheckOutputs {
+    pub rule_numbers: Vec<u32>,
+    pub margin_rows: Vec<u32>,
+    pub margins: Vec<f64>,
+}
+
 pub struct Implementation {
     solve: Option<Solve>,
     close: Close,
+    margins: Margins,
     cleared: Option<Cleared>,
 }
 
-/// The functions that solve and check.
-fn names(kind: Kind) -> [&'static str; 2] {
+/// The functions that solve, check, and check with a list.
+fn names(kind: Kind) -> [&'static str; 3] {
     match kind {
-        Kind::Position => ["oracle_solve_position", "oracle_closing_check"],
-        Kind::Velocity => ["oracle_solve_velocity", "oracle_velocity_closing_check"],
+        Kind::Position => {
+            ["oracle_solve_position", "oracle_closing_check", "oracle_closing_margins"]
+        }
+        Kind::Velocity => [
+            "oracle_solve_velocity",
+            "oracle_velocity_closing_check",
+            "oracle_velocity_closing_margins",
+        ],
     }
 }
 
@@ -76,11 +98,13 @@ fn lent(job: &Job) -> &[f64] {
 impl Implementation {
     pub fn open(path: &str, kind: Kind) -> Result<Self, String> {
         let library = Library::open(path)?;
-        let [solve, close] = names(kind);
+        let [solve, close, margins] = names(kind);
         let close = library.function(close)?;
+        let margins = library.function(margins)?;
         Ok(Self {
             solve: library.function(solve).ok().map(|found| Solve::of(kind, found)),
             close: unsafe { std::mem::transmute::<*mut c_void, Close>(close) },
+            margins: unsafe { std::mem::transmute::<*mut c_void, Margins>(margins) },
             cleared: library
                 .function("oracle_work_cleared")
                 .ok()
@@ -153,6 +177,30 @@ impl Implementation {
                 rules.tolerances.as_ptr(), rules.tolerances.len(), job.rows, job.bodies,
                 list.as_ptr(), list.len(),
                 numbers.as_mut_ptr(), numbers.len(),
+                answer.as_mut_ptr(), answer.len(),
+            );
+        }
+        answer
+    }
+
+    #[rustfmt::skip]
+    /// The same with its list, which is written as the function does.
+    pub fn margins(
+        &self, job: &Job, rules: &Rules, list: &[f64], to: &mut CheckOutputs,
+    ) -> [u64; 4] {
+        let mut answer = [u64::MAX; 4];
+        unsafe {
+            (self.margins)(
+                job.numbers.as_ptr(), job.numbers.len(),
+                job.words.as_ptr(), job.words.len(),
+                job.masses.as_ptr(), job.masses.len(),
+                lent(job).as_ptr(), lent(job).len(),
+                rules.words.as_ptr(), rules.words.len(),
+                rules.tolerances.as_ptr(), rules.tolerances.len(), job.rows, job.bodies,
+                list.as_ptr(), list.len(),
+                to.rule_numbers.as_mut_ptr(), to.rule_numbers.len(),
+                to.margin_rows.as_mut_ptr(), to.margin_rows.len(),
+                to.margins.as_mut_ptr(), to.margins.len(),
                 answer.as_mut_ptr(), answer.len(),
             );
         }

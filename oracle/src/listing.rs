@@ -1,4 +1,4 @@
-//! What the job program prints of a job file.
+//! What the job program prints of a job file, and the program that lists its margins.
 
 use crate::job::{Answer, Job, Solved};
 use crate::model::{self, Checked, Judged};
@@ -7,9 +7,21 @@ use std::fmt::Write;
 use std::path::Path;
 
 pub fn of_file(file: &[u8]) -> String {
+    sheet(file, |text, job, solved, _| delivered(text, solved, job.spare == 1))
+}
+
+/// The same lines up to the verdict and, where that is closed, the list.
+pub fn margins_of_file(file: &[u8]) -> String {
+    sheet(file, |text, job, _, checked| margins(text, job, checked))
+}
+
+/// What follows the verdict: of the job, its solve and its check.
+type Rest = fn(&mut String, &Job, &Solved, &Judged<Checked>);
+
+fn sheet(file: &[u8], rest: Rest) -> String {
     match job_file::read(file) {
         Err(refusal) => refused(refusal),
-        Ok(job) => of_job(&job),
+        Ok(job) => of_job(&job, rest),
     }
 }
 
@@ -17,7 +29,7 @@ fn refused(number: u32) -> String {
     format!("solve {number} 0 0\n")
 }
 
-fn of_job(job: &Job) -> String {
+fn of_job(job: &Job, rest: Rest) -> String {
     let solved = model::solve_file(job);
     match solved.answer {
         Answer::Refused(number) => refused(number),
@@ -27,7 +39,7 @@ fn of_job(job: &Job) -> String {
             writeln!(text, "gap{}", gap(&checked)).unwrap();
             writeln!(text, "carried{}", hexadecimal(&[linear, angular])).unwrap();
             writeln!(text, "close {}", verdict(&checked)).unwrap();
-            delivered(&mut text, &solved, job.spare == 1);
+            rest(&mut text, job, &solved, &checked);
             text
         }
     }
@@ -52,6 +64,14 @@ fn delivered(text: &mut String, solved: &Solved, centres: bool) {
     for (body, (six, centre)) in bodies.enumerate() {
         let told = if centres { hexadecimal(centre) } else { String::new() };
         writeln!(text, "body {body}{}{told}", hexadecimal(six)).unwrap();
+    }
+}
+
+/// A line for each row of the list: the row and its number.
+fn margins(text: &mut String, job: &Job, checked: &Judged<Checked>) {
+    let list = checked.as_ref().ok().and_then(|found| model::margins(job, found));
+    for (row, number) in list.into_iter().flatten() {
+        writeln!(text, "margin {row}{}", hexadecimal(&[number])).unwrap();
     }
 }
 

@@ -47,12 +47,14 @@ const USAGE: &str = "usage: oracle/run COMMAND
   blocks [JOBS] [SEED]            mode 2 of the model against the Rust's velocity side
   differences                     docs/DIFFERENCES.md's inputs on the reference
   bench [LIBRARY]                 times of the reference, and of an implementation
-  bench-closing LIBRARY           time of an implementation's closing check at 512 rows
+  bench-closing LIBRARY           time of an implementation's closing check at 512 rows, with its list too
   bench-program PROGRAM           time of the job program's process on the largest job
   job FILE                        what the job program prints of a job file
   files FOLDER [JOBS] [SEED] [SPARE]
                                   job files in every placement, with what the program prints
   program PROGRAM [FILES] [SEED]  the job program's own process on generated, damaged and random files
+  margined FILE                   what the program that lists margins prints of a job file
+  margins PROGRAM [FILES] [SEED]  that program's own process on such files
   converted FILE [ARGUMENT..]     what the converter writes of a job file, to standard output
   convert PROGRAM [FILES] [SEED]  the converter's own process on such files, both layouts
   inertia record                  makes the recorded matrices in crates/inertia_recorded
@@ -111,6 +113,14 @@ fn command(words: &[&str]) -> Result<bool, String> {
             let bytes = std::fs::read(file).map_err(|error| format!("{file}: {error}"))?;
             print!("{}", listing::of_file(&bytes));
             Ok(true)
+        }
+        ["margined", file] => {
+            let bytes = std::fs::read(file).map_err(|error| format!("{file}: {error}"))?;
+            print!("{}", listing::margins_of_file(&bytes));
+            Ok(true)
+        }
+        ["margins", program, ..] => {
+            program::margins(program, number(2, 1000)?, number(3, 1)?, &home())
         }
         ["program", program, ..] => program::run(program, number(2, 1000)?, number(3, 1)?, &home()),
         ["files", folder, ..] => {

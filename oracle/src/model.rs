@@ -6,6 +6,7 @@
 mod algebra;
 mod centres;
 mod closing;
+mod margins;
 mod operator;
 mod preconditioner;
 mod rules;
@@ -14,6 +15,7 @@ mod table;
 
 pub use algebra::{Side, Vector, cross, scaled};
 pub use closing::{Checked, check_words, closing_check};
+pub use margins::{Margin, margins};
 pub use rules::agreed;
 pub use steps::{Begun, begin};
 pub use table::{Row, Table, opened, tolerances_fit};

@@ -103,41 +103,45 @@ void oracle_solve_velocity(
     tell_solved(refusal, to, answer, answer_len);
 }
 
-void oracle_closing_check(
-    const double *numbers, size_t numbers_len, const uint32_t *words, size_t words_len,
-    const double *masses, size_t masses_len, const double *centres, size_t centres_len,
-    const uint32_t *rule_words, size_t rule_words_len,
-    const double *rule_tolerances, size_t rule_tolerances_len,
-    uint32_t rows, uint32_t bodies, const double *multipliers, size_t multipliers_len,
-    uint32_t *rule_numbers, size_t rule_numbers_len, uint64_t *answer, size_t answer_len)
-{
-    struct checked to = unchecked();
-    uint32_t refusal = kapitsa_check_in(
-        numbers, numbers_len, words, words_len, masses, masses_len, centres, centres_len,
-        rule_words, rule_words_len, rule_tolerances, rule_tolerances_len, rows, bodies, multipliers,
-        multipliers_len, rule_numbers, rule_numbers_len, &to.verdict, to.gap,
-        work_doubles, kapitsa_check_doubles(rows, bodies),
-        work_words, kapitsa_check_words(rows, bodies));
-    tell_checked(refusal, to, answer, answer_len);
-}
+/* What a check takes before its answer, and is passed on; beside is centres or residuals. */
+#define TAKES(beside)                                                                           \
+    const double *numbers, size_t numbers_len, const uint32_t *words, size_t words_len,         \
+        const double *masses, size_t masses_len, const double *beside, size_t beside##_len,     \
+        const uint32_t *rule_words, size_t rule_words_len, const double *rule_tolerances,       \
+        size_t rule_tolerances_len, uint32_t rows, uint32_t bodies, const double *multipliers,  \
+        size_t multipliers_len, uint32_t *rule_numbers, size_t rule_numbers_len
+#define PASSES(beside)                                                                          \
+    numbers, numbers_len, words, words_len, masses, masses_len, beside, beside##_len,           \
+        rule_words, rule_words_len, rule_tolerances, rule_tolerances_len, rows, bodies,         \
+        multipliers, multipliers_len, rule_numbers, rule_numbers_len
+#define WORK                                                                                    \
+    work_doubles, kapitsa_check_doubles(rows, bodies), work_words,                              \
+        kapitsa_check_words(rows, bodies)
 
-void oracle_velocity_closing_check(
-    const double *numbers, size_t numbers_len, const uint32_t *words, size_t words_len,
-    const double *masses, size_t masses_len, const double *residuals, size_t residuals_len,
-    const uint32_t *rule_words, size_t rule_words_len,
-    const double *rule_tolerances, size_t rule_tolerances_len,
-    uint32_t rows, uint32_t bodies, const double *multipliers, size_t multipliers_len,
-    uint32_t *rule_numbers, size_t rule_numbers_len, uint64_t *answer, size_t answer_len)
-{
-    struct checked to = unchecked();
-    uint32_t refusal = kapitsa_check_velocity_in(
-        numbers, numbers_len, words, words_len, masses, masses_len, residuals, residuals_len,
-        rule_words, rule_words_len, rule_tolerances, rule_tolerances_len, rows, bodies, multipliers,
-        multipliers_len, rule_numbers, rule_numbers_len, &to.verdict, to.gap,
-        work_doubles, kapitsa_check_doubles(rows, bodies),
-        work_words, kapitsa_check_words(rows, bodies));
-    tell_checked(refusal, to, answer, answer_len);
-}
+/* A check of the port as the driver's. */
+#define CHECK(driven, own, beside)                                                              \
+    void driven(TAKES(beside), uint64_t *answer, size_t answer_len)                             \
+    {                                                                                           \
+        struct checked to = unchecked();                                                        \
+        uint32_t refusal = own(PASSES(beside), &to.verdict, to.gap, WORK);                      \
+        tell_checked(refusal, to, answer, answer_len);                                          \
+    }
+
+/* The same with its list. */
+#define MARGINS(driven, own, beside)                                                            \
+    void driven(TAKES(beside), uint32_t *margin_rows, size_t margin_rows_len, double *margins,  \
+                size_t margins_len, uint64_t *answer, size_t answer_len)                        \
+    {                                                                                           \
+        struct checked to = unchecked();                                                        \
+        uint32_t refusal = own(PASSES(beside), margin_rows, margin_rows_len, margins,           \
+                               margins_len, &to.verdict, to.gap, WORK);                         \
+        tell_checked(refusal, to, answer, answer_len);                                          \
+    }
+
+CHECK(oracle_closing_check, kapitsa_check_in, centres)
+CHECK(oracle_velocity_closing_check, kapitsa_check_velocity_in, residuals)
+MARGINS(oracle_closing_margins, kapitsa_margins_in, centres)
+MARGINS(oracle_velocity_closing_margins, kapitsa_margins_velocity_in, residuals)
 
 /* The first byte is 0, and each is like the one before it. */
 static int all_zero(const void *memory, size_t size)

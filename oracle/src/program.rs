@@ -1,6 +1,6 @@
-//! The job program itself, as a process: generated, damaged and random files through its
-//! standard input, and what it prints held to what the model prints, whose solve, the line
-//! `carried` with it, is held to the Rust.
+//! The job program itself, and the one that lists margins, as a process: generated, damaged and
+//! random files through its standard input, and what it prints held to what the model prints, whose
+//! solve, the line `carried` with it, is held to the Rust.
 
 use crate::judge::judge;
 use crate::random::Random;
@@ -15,18 +15,50 @@ use std::time::{Duration, Instant};
 /// A program that takes longer hangs.
 const LIMIT: Duration = Duration::from_secs(10);
 
-/// Prints each mismatch and the tally of refusals; true where there is no mismatch.
+/// What a program prints of a file, and what is counted of that.
+type Sheet = (fn(&[u8]) -> String, fn(&str) -> String);
+
+/// The job program: prints each mismatch and the tally of refusals; true where there is no mismatch.
 pub fn run(program: &str, files: u64, seed: u64, home: &Path) -> Result<bool, String> {
+    held(program, files, seed, home, (listing::of_file, refusal))
+}
+
+/// The same of the program that lists margins; accepted jobs by the verdict.
+pub fn margins(program: &str, files: u64, seed: u64, home: &Path) -> Result<bool, String> {
+    held(program, files, seed, home, (listing::margins_of_file, verdict))
+}
+
+/// `solve` and the refusal, as a sheet has it.
+fn refusal(sheet: &str) -> String {
+    let number = sheet.split(' ').nth(1).unwrap_or_default();
+    format!("`solve {number}`")
+}
+
+/// The same, and of an accepted job its line `close` and whether there is a list.
+fn verdict(sheet: &str) -> String {
+    let listed = if sheet.contains("\nmargin ") { " and a list" } else { "" };
+    match sheet.lines().find(|line| line.starts_with("close ")) {
+        Some(line) => format!("{}, `{line}`{listed}", refusal(sheet)),
+        None => refusal(sheet),
+    }
+}
+
+fn held(
+    program: &str,
+    files: u64,
+    seed: u64,
+    home: &Path,
+    (listing, counted): Sheet,
+) -> Result<bool, String> {
     let mut tally = BTreeMap::new();
     let mut mismatches = 0u64;
     for index in 0..files {
         let mut random = Random::of(!seed, index);
         let file = file_jobs::any(seed, index, &mut random);
-        let wanted = listing::of_file(&file);
+        let wanted = listing(&file);
         let disputed = job_file::read(&file).ok().and_then(|job| judge(&job).dispute);
         let given = printed(program, &[], &file, &mut random)?;
-        let refusal = wanted.split(' ').nth(1).unwrap_or_default().to_string();
-        *tally.entry(refusal).or_insert(0u64) += 1;
+        *tally.entry(counted(&wanted)).or_insert(0u64) += 1;
         if given != Ok(wanted.into_bytes()) || disputed.is_some() {
             mismatches += 1;
             let name = save(home, seed, index, &file)?;
@@ -34,8 +66,8 @@ pub fn run(program: &str, files: u64, seed: u64, home: &Path) -> Result<bool, St
             println!("file {index}: {said} {}, saved as {name}", disputed.unwrap_or_default());
         }
     }
-    for (refusal, count) in &tally {
-        println!("{count} with `solve {refusal}`");
+    for (what, count) in &tally {
+        println!("{count} with {what}");
     }
     println!("{files} files, {mismatches} mismatches");
     Ok(mismatches == 0)

@@ -26,7 +26,7 @@ use Rattle.closing_check.specs.Checked.{Checked}
 use Rattle.check_alone.specs.Checked.{AloneHeld}
 
 -- refusal 3 of what is lent and of the memory is refusal 3 of what is lent
-fits-too : (kind : Kind) (n b : ℕ) (l : TableLengths) (w : WorkLengths) → givenFits kind n b l ≡ true → WorkRoom n b w → passes3 kind n b l w ≡ givenFits kind n b l
+pub fits-too : (kind : Kind) (n b : ℕ) (l : TableLengths) (w : WorkLengths) → givenFits kind n b l ≡ true → WorkRoom n b w → passes3 kind n b l w ≡ givenFits kind n b l
 unfolding passes3 workFits
 fits-too kind n b l w g room = rw (g, eq-eqb _ _ (room .jacobians), eq-eqb _ _ (room .links), eq-eqb _ _ (room .massSizes), eq-eqb _ _ (room .multiplierSizes), eq-eqb _ _ (room .impulses), eq-eqb _ _ (room .values), eq-eqb _ _ (room .sizes))
 

@@ -29,8 +29,8 @@ use Rattle.check_measure.specs.Rows.{reachIn, withinIn}
 use Rattle.check_work.specs.Work.{CheckMemory, Measured}
 use Rattle.check_answer.specs.Answer.{verdictOf, checkOf, namedBy}
 use Rattle.check_answer.specs.declared.CheckAnswer.{CheckAnswer}
-use Rattle.check_answer.specs.declared.CheckAnswer.the-variants.{Closed, Open}
-use Rattle.closing_check.specs.Checked.{verdictIn}
+use Rattle.check_answer.specs.declared.CheckAnswer.the-variants.{Closed, Open, Refused}
+use Rattle.closing_check.specs.Checked.{verdictIn, Reached}
 
 module _ (kind : Kind) (s : Rules) (given : List Float) (placed : Bool) {rows bodies : ℕ} {numbers : List Float} {words : List ℕ} {masses multipliers : List Float} {before after : CheckMemory}
     (m : Measured bodies numbers words masses multipliers before after) (e : length multipliers ≡ rows) where
@@ -49,6 +49,9 @@ module _ (kind : Kind) (s : Rules) (given : List Float) (placed : Bool) {rows bo
     reach-is : (i : ℕ) → i < rows → getD reaches i nan ≡ reach c i
     unfolding reachIn reach rowOf scalarsOf
     reach-is i h = rw (made, getD-tabulate (reachIn (errorIn kind numbers given) (after .values) (after .sizes) rows) rows i nan h, values-is, sizes-is, getD-tabulate (valueOf c) rows i nan h, getD-tabulate (sizeOf c) rows i nan h)
+
+    pub reached-is : {answer : CheckAnswer} → Reached answer c reaches
+    reached-is = record { reached = λ _. reach-is }
 
     row-is : (i : ℕ) → i < rows → withinIn words reaches s i ≡ within c i
     unfolding withinIn rowOf wordsOf
@@ -70,6 +73,10 @@ module _ (kind : Kind) (s : Rules) (given : List Float) (placed : Bool) {rows bo
         ∙ ap (λ (b : Bool). check b (Closed gap) (Open gap)) closes-is
         ∙ ap (λ (m : Maxima). check (closes c) (Closed m) (Open m)) largest-is
         ∙ sym passed
+
+-- a refusal leaves no reaches
+pub reached-none : (n : ℕ) (c : Closing) (values : List Float) → Reached (Refused n) c values
+reached-none n c values = record { reached = λ v. absurd (v n refl) }
 
 -- ---- `verdict`
 module _ (words : List ℕ) (reaches : List Float) (s : Rules) (rows : ℕ) {r : Bool} {gap : Maxima} (p : r ≡ every (withinIn words reaches s) rows)

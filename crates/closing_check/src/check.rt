@@ -9,7 +9,7 @@ ghost use Rattle.rules.specs.Rows.{rulesIn, rowsRuled};
 ghost use Rattle.check_range.specs.Closing.{closingFor, GivenFrom};
 ghost use Rattle.check_answer.specs.Answer.{checkOf, namedBy};
 ghost use Rattle.check_work.specs.Work.{memoryOf, Room};
-ghost use Rattle.closing_check.specs.Checked.{verdictIn};
+ghost use Rattle.closing_check.specs.Checked.{verdictIn, Reached};
 use check_answer::CheckAnswer;
 use check_measure::largest_reaches;
 use check_measure::measure_reaches;
@@ -66,6 +66,7 @@ pub fn judged_check(
     requires { ⌜ (rows ≤ 512) × GivenFrom kind (length (now given)) rows ⌝ }
     ensures { λ r. ⌜ r ≡ checkOf true (closingFor kind (tableOf rows bodies (now (numbers .entry)) (now (words .entry)) (now (masses .entry))) (coefficients (now (multipliers .entry))) (rulesIn (now («rule_words» .entry)) (now («rule_tolerances» .entry))) (coefficients (now (given .entry))) placed) ⌝ }
     ensures { λ r. ⌜ now («rule_numbers» .exit) ≡ namedBy r (closingFor kind (tableOf rows bodies (now (numbers .entry)) (now (words .entry)) (now (masses .entry))) (coefficients (now (multipliers .entry))) (rulesIn (now («rule_words» .entry)) (now («rule_tolerances» .entry))) (coefficients (now (given .entry))) placed) (now («rule_numbers» .entry)) ⌝ }
+    ensures { λ r. ⌜ Reached r (closingFor kind (tableOf rows bodies (now (numbers .entry)) (now (words .entry)) (now (masses .entry))) (coefficients (now (multipliers .entry))) (rulesIn (now («rule_words» .entry)) (now («rule_tolerances» .entry))) (coefficients (now (given .entry))) placed) (now (values .exit)) ⌝ }
 {
     let judged = judge_table(
         kind,

@@ -16,7 +16,7 @@ use joint_refusals::centres_finite;
 use kapitsa_joint::Kind;
 
 // Whether the centres are finite, which velocities have none of.
-fn beside_placed(kind: Kind, bodies: u32, beside: &[f64]) -> bool
+pub fn beside_placed(kind: Kind, bodies: u32, beside: &[f64]) -> bool
     requires { ⌜ PlacedFrom kind (length (now beside)) bodies ⌝ }
     ensures { λ r. ⌜ r ≡ placedIn kind bodies (now (beside .entry)) ⌝ }
 {

@@ -1,4 +1,4 @@
--- Document 01, "Sheets to try": what "the job program, reading standard input, prints" of a file.
+-- What the programs print of a file: document 01, "Sheets to try": "the job program, reading standard input, prints", and document 02, m: the margins program.
 use Prim.Native.Nat.{ℕ}
 use mathlib.Core.Bool.{true}
 use mathlib.Core.List.{List}
@@ -19,38 +19,57 @@ use Rattle.position_iteration.specs.Position.{positionOf}
 use Rattle.position_iteration.specs.Method.{methodOf}
 use Rattle.position_delivery.specs.Outcome.{Answer, resultOf, withMultipliers}
 use Rattle.position_delivery.specs.declared.answer.PositionPcgResult.{PositionPcgResult}
-use Rattle.check_range.specs.Closing.{closingOf}
+use Rattle.check_range.specs.Closing.{Closing, closingOf}
 use Rattle.check_answer.specs.Answer.{numberOf, gapOf, checkOf}
 use Rattle.check_answer.specs.declared.CheckAnswer.{CheckAnswer}
+use Rattle.closing_margins.specs.Ranked.{marginRows, marginNumbers}
 use Rattle.job_file.specs.Job.{Job, jobOf}
-use Rattle.listing.specs.Listing.{listingOf, refusedListing}
+use Rattle.listing.specs.Listing.{listingOf, marginListing, refusedListing}
+use Rattle.job_sheet.specs.declared.which.Sheet.{Sheet}
+use Rattle.job_sheet.specs.declared.which.Sheet.the-variants as sheets
 
 -- "The job program uses shift 0" (document 02, f). Refusal 3 has passed: a file's counts and mode are judged with it, and what is lent is as long as they call for.
 -- Document 02, k: "The job file keeps its two tolerances; the program still judges them by 26, then takes them as two rules over keys 0 to 255."
 unfoldable pub answerTo : Job → Answer
 answerTo j = next (test (passes26 (j .tolerance)) 26) (λ _. solve (methodOf true (positionOf (j .rows) (j .bodies) (j .numbers) (j .words) (j .masses) (j .centres) (twoRules (j .tolerance)) plusZero) (modeOf (j .mode) plusZero)) (j .limit))
 
--- "the gains since error was measured; the job program gives it the solution": the verdict with its gap, or the check's refusal, on the rows as the solve leaves them
+-- "the gains since error was measured; the job program gives it the solution": the check of the rows as the solve leaves them
+abbrev pub closingBy : Job → List Float → List Float → Closing
+closingBy j numbers solution = closingOf (tableOf (j .rows) (j .bodies) numbers (j .words) (j .masses)) (coefficients solution) (twoRules (j .tolerance)) (centresFinite (centresIn (j .bodies) (j .centres)))
+
+-- the verdict with its gap, or the check's refusal
 unfoldable pub checkIn : Job → List Float → List Float → CheckAnswer
-checkIn j numbers solution = checkOf true (closingOf (tableOf (j .rows) (j .bodies) numbers (j .words) (j .masses)) (coefficients solution) (twoRules (j .tolerance)) (centresFinite (centresIn (j .bodies) (j .centres))))
+checkIn j numbers solution = checkOf true (closingBy j numbers solution)
 
 -- the residuals that the solve carries along
 abbrev pub carriedBy : PositionPcgResult → Maxima
 carriedBy r = record { linear = r .«linear_residual_m»; angular = r .«angular_residual_rad» }
 
--- of an accepted job, from what the solve answers and delivers
+-- of an accepted job, from what the solve answers and delivers: the job program's
 unfoldable pub printedOf : Job → PositionPcgResult → List Float → List Float → List Float → List Float → List ℕ
 printedOf j r numbers solution impulses newCentres =
     let answer = checkIn j numbers solution in
     listingOf (r .iterations) (r .converged) (gapOf answer) (carriedBy r) (numberOf answer) (j .rows) (j .bodies) numbers impulses (j .spare) newCentres
 
-unfoldable pub answerSheet : Job → Answer → List ℕ
-answerSheet j (going ((flag, count, v), f)) = printedOf j (resultOf flag count f) (withMultipliers (j .numbers) (f .accumulated) (j .rows)) (v .solution) (f .impulses) (f .centres)
-answerSheet j (ended number) = refusedListing number
+-- the margins program's: of a closed check each row with its number, "linear rows before angular, largest first within each dimension, lower row first among equals"
+unfoldable pub marginsPrinted : Job → PositionPcgResult → List Float → List Float → List ℕ
+marginsPrinted j r numbers solution =
+    let answer = checkIn j numbers solution in
+    let c = closingBy j numbers solution in
+    marginListing (r .iterations) (r .converged) (gapOf answer) (carriedBy r) (numberOf answer) (j .rows) (marginRows c) (marginNumbers c)
 
-unfoldable pub jobSheet : Job → List ℕ
-jobSheet j = answerSheet j (answerTo j)
+unfoldable pub shownOf : Sheet → Job → PositionPcgResult → List Float → List Float → List Float → List Float → List ℕ
+shownOf sheets.Job j r numbers solution impulses newCentres = printedOf j r numbers solution impulses newCentres
+shownOf sheets.Margins j r numbers solution impulses newCentres = marginsPrinted j r numbers solution
+
+-- ---- what the programs share
+unfoldable pub answerSheet : Sheet → Job → Answer → List ℕ
+answerSheet sheet j (going ((flag, count, v), f)) = shownOf sheet j (resultOf flag count f) (withMultipliers (j .numbers) (f .accumulated) (j .rows)) (v .solution) (f .impulses) (f .centres)
+answerSheet sheet j (ended number) = refusedListing number
+
+unfoldable pub jobSheet : Sheet → Job → List ℕ
+jobSheet sheet j = answerSheet sheet j (answerTo j)
 
 -- of every file
-unfoldable pub sheetOf : List ℕ → List ℕ
-sheetOf file = on (jobOf file) jobSheet refusedListing
+unfoldable pub sheetOf : Sheet → List ℕ → List ℕ
+sheetOf sheet file = on (jobOf file) (jobSheet sheet) refusedListing

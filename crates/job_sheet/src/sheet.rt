@@ -7,7 +7,8 @@ ghost use Rattle.job_file.specs.declared.judge.FileJudged.the-variants.{Passed}
 ghost use Rattle.listing.specs.Written.{Wrote};
 ghost use Rattle.job_sheet.specs.Sheet.{jobSheet, sheetOf};
 ghost use Rattle.job_sheet.specs.Room.{JobRoom};
-use crate::accepted::write_accepted;
+use crate::solved::write_solved;
+use crate::which::Sheet;
 use job_file::FileJudged;
 use job_file::Trailer;
 use job_file::judge_file;
@@ -21,6 +22,7 @@ use position_solve::solve_small_position;
 
 // A job that has been read.
 fn write_job(
+    sheet: Sheet,
     trailer: Trailer,
     numbers: &mut [f64],
     words: &[u32],
@@ -33,7 +35,7 @@ fn write_job(
 ) -> usize
     requires { ⌜ JobRoom trailer (length (now numbers)) (length (now words)) (length (now masses)) (length (now centres)) (length (now solution)) (length (now impulses)) (length (now «new_centres»)) ⌝ }
     requires { ⌜ 16384 ≤ length (now out) ⌝ }
-    ensures { λ r. ⌜ Wrote (now (out .entry)) 0 (jobSheet (jobWith trailer (now (numbers .entry)) (now (words .entry)) (now (masses .entry)) (now (centres .entry)))) (now (out .exit)) r ⌝ }
+    ensures { λ r. ⌜ Wrote (now (out .entry)) 0 (jobSheet sheet (jobWith trailer (now (numbers .entry)) (now (words .entry)) (now (masses .entry)) (now (centres .entry)))) (now (out .exit)) r ⌝ }
 {
     if !tolerances_fit(trailer.tolerance) {
         return write_refusal(26, out);
@@ -59,7 +61,8 @@ fn write_job(
     );
     match answer {
         PositionPcg::Refused(number) => write_refusal(number, out),
-        PositionPcg::Accepted(result) => write_accepted(
+        PositionPcg::Accepted(result) => write_solved(
+            sheet,
             trailer,
             result,
             numbers,
@@ -76,6 +79,7 @@ fn write_job(
 
 // A file that has passed 1 to 4, with memory as long as its counts call for.
 fn write_file(
+    sheet: Sheet,
     file: &[u8],
     trailer: Trailer,
     numbers: &mut [f64],
@@ -90,7 +94,7 @@ fn write_file(
     requires { ⌜ judgedOf (now file) ≡ Passed trailer ⌝ }
     requires { ⌜ JobRoom trailer (length (now numbers)) (length (now words)) (length (now masses)) (length (now centres)) (length (now solution)) (length (now impulses)) (length (now «new_centres»)) ⌝ }
     requires { ⌜ 16384 ≤ length (now out) ⌝ }
-    ensures { λ r. ⌜ Wrote (now (out .entry)) 0 (sheetOf (now (file .entry))) (now (out .exit)) r ⌝ }
+    ensures { λ r. ⌜ Wrote (now (out .entry)) 0 (sheetOf sheet (now (file .entry))) (now (out .exit)) r ⌝ }
 {
     let rows = trailer.rows as usize;
     let bodies = trailer.bodies as usize;
@@ -100,6 +104,7 @@ fn write_file(
     read_masses(file, mass_offset, trailer.spare, bodies, masses);
     read_centres(file, mass_offset, trailer.spare, bodies, centres);
     write_job(
+        sheet,
         trailer,
         numbers,
         words,
@@ -113,10 +118,10 @@ fn write_file(
 }
 
 // Memory for what the program takes: 128 rows and 64 bodies.
-fn write_passed(file: &[u8], trailer: Trailer, out: &mut [u8]) -> usize
+fn write_passed(sheet: Sheet, file: &[u8], trailer: Trailer, out: &mut [u8]) -> usize
     requires { ⌜ judgedOf (now file) ≡ Passed trailer ⌝ }
     requires { ⌜ 16384 ≤ length (now out) ⌝ }
-    ensures { λ r. ⌜ Wrote (now (out .entry)) 0 (sheetOf (now (file .entry))) (now (out .exit)) r ⌝ }
+    ensures { λ r. ⌜ Wrote (now (out .entry)) 0 (sheetOf sheet (now (file .entry))) (now (out .exit)) r ⌝ }
 {
     let mut numbers: [f64; 3456] = [0.0; 3456];
     let mut words: [u32; 1024] = [0; 1024];
@@ -133,6 +138,7 @@ fn write_passed(file: &[u8], trailer: Trailer, out: &mut [u8]) -> usize
     let body_numbers = 6 * bodies;
     let centre_numbers = 3 * bodies;
     write_file(
+        sheet,
         file,
         trailer,
         &mut numbers[..row_numbers],
@@ -146,14 +152,14 @@ fn write_passed(file: &[u8], trailer: Trailer, out: &mut [u8]) -> usize
     )
 }
 
-// Writes what the job program prints of the file from the first byte on, and returns its length.
-pub fn write_sheet(file: &[u8], out: &mut [u8]) -> usize
+// Writes what the program prints of the file from the first byte on, and returns its length.
+pub fn write_sheet(sheet: Sheet, file: &[u8], out: &mut [u8]) -> usize
     requires { ⌜ 16384 ≤ length (now out) ⌝ }
-    ensures { λ r. ⌜ Wrote (now (out .entry)) 0 (sheetOf (now (file .entry))) (now (out .exit)) r ⌝ }
+    ensures { λ r. ⌜ Wrote (now (out .entry)) 0 (sheetOf sheet (now (file .entry))) (now (out .exit)) r ⌝ }
 {
     let judged = judge_file(file);
     match judged {
         FileJudged::Refused(number) => write_refusal(number, out),
-        FileJudged::Passed(trailer) => write_passed(file, trailer, out),
+        FileJudged::Passed(trailer) => write_passed(sheet, file, trailer, out),
     }
 }

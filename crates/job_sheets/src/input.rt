@@ -2,6 +2,7 @@
 ghost use Prim.Native.Nat.{_≤_};
 ghost use lib.ListN.{length};
 use crate::lent::print_lent;
+use job_sheet::Sheet;
 use job_sheet::write_sheet;
 use libc::STDIN_FILENO;
 use libc::STDOUT_FILENO;
@@ -26,7 +27,7 @@ fn next_file(space: &mut [u8]) -> usize
 fn print_sheet(file: &[u8], text: &mut [u8])
     requires { ⌜ 16384 ≤ length (now text) ⌝ }
 {
-    let end = write_sheet(file, text);
+    let end = write_sheet(Sheet::Job, file, text);
     io::write_all(STDOUT_FILENO, &text[..end]);
 }
 

@@ -3,11 +3,14 @@
 pub mod closing; // closing.rt: the closing check
 pub mod closing_speeds; // closing_speeds.rt: the closing check of velocities
 pub mod inverting; // inverting.rt: the inverse of a local inertia
+pub mod margins; // margins.rt: the closing checks that list their margins
 pub mod moving; // moving.rt: the velocity solve
 pub mod solving; // solving.rt: the position solve
 
 pub use closing::kapitsa_closing_check;
 pub use closing_speeds::kapitsa_velocity_closing_check;
 pub use inverting::kapitsa_inverse_spd;
+pub use margins::kapitsa_closing_margins;
+pub use margins::kapitsa_velocity_closing_margins;
 pub use moving::kapitsa_solve_velocity;
 pub use solving::kapitsa_solve_position;

@@ -1,19 +1,19 @@
--- How long a listing is: `listing-short`, at most 16,384 bytes at 128 rows and 64 bodies, and `refused-short`; hence `listing-room` and `refused-room`. Assumes nothing.
+-- How long a listing is: `listing-short`, at most 16,384 bytes at 128 rows and 64 bodies, `margins-short`, as many at 128 rows, and `refused-short`; hence `listing-room`, `margins-room` and `refused-room`. Assumes nothing.
 use Prim.Native.Nat.{ℕ, zero, suc, _+_, _-_, _*_, _/_, _%_, _^_, _<_, _≤_}
 use mathlib.Core.Path.{_≡_, refl}
 use mathlib.Core.Bool.{Bool, true, false, cond}
 use mathlib.Core.List.{List, [], _∷_, _++_}
 use native.Mathlib.Nat.{pow-succ'}
 use native.Mathlib.Omega.{arith}
-use lib.Dec.{leb, ltb}
+use lib.Dec.{leb, ltb, eqb}
 use lib.ListN.{length, getD, length-append}
 use lib.Ieee.{Float, nan}
-use borrow.Author.Tests.{ltb-true, ltb-false}
+use borrow.Author.Tests.{ltb-true, ltb-false, eqb-true}
 use Rattle.kapitsa_joint.specs.declared.maxima.Maxima.{Maxima}
 use Rattle.listing.specs.Written.{Room, pieces}
 use Rattle.listing.specs.Digits.{decimalDigit, decimal, hexadecimal, number, double, doubles}
-use Rattle.listing.specs.Lines.{newline, solveName, gapName, noneName, carriedName, closeName, rowName, bodyName, solveLine, maximaWords, gapLine, noGapLine, carriedLine, closeLine, rowLine, centreCount, bodyLine}
-use Rattle.listing.specs.Listing.{flagOf, measuredLine, rowLines, bodyLines, listingOf, refusedListing}
+use Rattle.listing.specs.Lines.{newline, solveName, gapName, noneName, carriedName, closeName, rowName, bodyName, marginName, solveLine, maximaWords, gapLine, noGapLine, carriedLine, closeLine, rowLine, centreCount, bodyLine, marginLine}
+use Rattle.listing.specs.Listing.{flagOf, measuredLine, headLines, rowLines, bodyLines, listingOf, marginLines, marginListing, refusedListing}
 use Rattle.listing.proofs.Decimal.{decimal-small, decimal-more}
 use Rattle.listing.proofs.Names.{centre-most}
 
@@ -55,6 +55,16 @@ row-short i x h =
     let c = length-append (rowName ++ number i) (double x) in
     let d = length-append rowName (number i) in
     let e = length-append (rowName ++ number i ++ double x) newline in
+    omega arith
+
+margin-short : (i : ℕ) (x : Float) → i < 4294967296 → length (marginLine i x) ≤ 35
+unfolding marginLine marginName
+margin-short i x h =
+    let a = number-short i h in
+    let b = double-long x in
+    let c = length-append (marginName ++ number i) (double x) in
+    let d = length-append marginName (number i) in
+    let e = length-append (marginName ++ number i ++ double x) newline in
     omega arith
 
 body-short : (b : ℕ) (impulses : List Float) (spare : ℕ) (centres : List Float) → b < 4294967296 → length (bodyLine b impulses spare centres) ≤ 169
@@ -122,23 +132,47 @@ flag-small : (flag : Bool) → flagOf flag < 4294967296
 flag-small true = omega arith
 flag-small false = omega arith
 
-pub listing-short : (count : ℕ) (flag : Bool) (gap carried : Maxima) (verdict rows bodies : ℕ) (numbers impulses : List Float) (spare : ℕ) (centres : List Float) → count < 4294967296 → verdict < 4294967296 → rows ≤ 128 → bodies ≤ 64
-    → length (listingOf count flag gap carried verdict rows bodies numbers impulses spare centres) ≤ 16384
-unfolding listingOf rowLines bodyLines
-listing-short count flag x y v rows bodies numbers impulses spare centres h g r b =
+head-short : (count : ℕ) (flag : Bool) (gap carried : Maxima) (verdict : ℕ) → count < 4294967296 → verdict < 4294967296 → length (headLines count flag gap carried verdict) ≤ 136
+unfolding headLines
+head-short count flag x y v h g =
     let s = solveLine 0 count (flagOf flag) in
     let p = measuredLine v x in
     let q = carriedLine y in
     let c = closeLine v in
-    let t = rowLines numbers rows in
-    let u = bodyLines impulses spare centres bodies in
     let ls : length s ≤ 39 = solve-short 0 count (flagOf flag) (omega arith) h (flag-small flag) in
     let lp : length p ≤ 38 = measured-short v x in
     let lq : length q ≡ 42 = carried-long y in
     let lc : length c ≤ 17 = close-short v g in
+    omega (arith, length-append s p, length-append (s ++ p) q, length-append (s ++ p ++ q) c)
+
+pub listing-short : (count : ℕ) (flag : Bool) (gap carried : Maxima) (verdict rows bodies : ℕ) (numbers impulses : List Float) (spare : ℕ) (centres : List Float) → count < 4294967296 → verdict < 4294967296 → rows ≤ 128 → bodies ≤ 64
+    → length (listingOf count flag gap carried verdict rows bodies numbers impulses spare centres) ≤ 16384
+unfolding listingOf rowLines bodyLines
+listing-short count flag x y v rows bodies numbers impulses spare centres h g r b =
+    let s = headLines count flag x y v in
+    let t = rowLines numbers rows in
+    let u = bodyLines impulses spare centres bodies in
+    let ls : length s ≤ 136 = head-short count flag x y v h g in
     let lt : length t ≤ rows * 32 = pieces-short _ 32 rows (λ i l. row-short i _ (omega arith)) in
     let lu : length u ≤ bodies * 169 = pieces-short _ 169 bodies (λ i l. body-short i impulses spare centres (omega arith)) in
-    omega (arith, length-append s p, length-append (s ++ p) q, length-append (s ++ p ++ q) c, length-append (s ++ p ++ q ++ c) t, length-append (s ++ p ++ q ++ c ++ t) u)
+    omega (arith, length-append s t, length-append (s ++ t) u)
+
+-- where the list is printed, each of its rows has a number of 32 bits
+pub margins-short : (count : ℕ) (flag : Bool) (gap carried : Maxima) (verdict rows : ℕ) (marginRows : List ℕ) (margins : List Float) → count < 4294967296 → verdict < 4294967296 → rows ≤ 128
+    → (verdict ≡ 1 → (k : ℕ) → k < rows → getD marginRows k 0 < 4294967296) → length (marginListing count flag gap carried verdict rows marginRows margins) ≤ 16384
+unfolding marginListing marginLines
+margins-short count flag x y v rows marginRows margins h g r b = go (eqb v 1) (eqb-true v 1)
+  where
+    s : List ℕ
+    s = headLines count flag x y v
+
+    go : (d : Bool) → (d ≡ true → v ≡ 1) → length (s ++ cond d (marginLines marginRows margins rows) []) ≤ 16384
+    go true e =
+        let t = marginLines marginRows margins rows in
+        let ls : length s ≤ 136 = head-short count flag x y v h g in
+        let lt : length t ≤ rows * 35 = pieces-short _ 35 rows (λ k l. margin-short _ _ (b (e refl) k l)) in
+        omega (arith, length-append s t)
+    go false e = let ls : length s ≤ 136 = head-short count flag x y v h g in omega (arith, length-append s [])
 
 -- ---- so there is room for it
 
@@ -148,3 +182,7 @@ refused-room out r h l = let s = refused-short r h in record { fits = omega arit
 pub listing-room : (out : List ℕ) (count : ℕ) (flag : Bool) (gap carried : Maxima) (verdict rows bodies : ℕ) (numbers impulses : List Float) (spare : ℕ) (centres : List Float)
     → count < 4294967296 → verdict < 4294967296 → rows ≤ 128 → bodies ≤ 64 → 16384 ≤ length out → Room out 0 (listingOf count flag gap carried verdict rows bodies numbers impulses spare centres)
 listing-room out count flag x y v rows bodies numbers impulses spare centres h g r b l = let s = listing-short count flag x y v rows bodies numbers impulses spare centres h g r b in record { fits = omega arith }
+
+pub margins-room : (out : List ℕ) (count : ℕ) (flag : Bool) (gap carried : Maxima) (verdict rows : ℕ) (marginRows : List ℕ) (margins : List Float)
+    → count < 4294967296 → verdict < 4294967296 → rows ≤ 128 → (verdict ≡ 1 → (k : ℕ) → k < rows → getD marginRows k 0 < 4294967296) → 16384 ≤ length out → Room out 0 (marginListing count flag gap carried verdict rows marginRows margins)
+margins-room out count flag x y v rows marginRows margins h g r b l = let s = margins-short count flag x y v rows marginRows margins h g r b in record { fits = omega arith }

@@ -1,8 +1,8 @@
--- The names of the lines, the flag, the line of the gap and the count of centre numbers, as the source writes them. Assumes nothing.
+-- The names of the lines, the flag, the line of the gap, the count of centre numbers and whether there are margins, as the source writes them. Assumes nothing.
 use Prim.Native.Nat.{ℕ, _<_, _≤_}
-use mathlib.Core.Path.{_≡_, refl}
+use mathlib.Core.Path.{_≡_, refl, sym, _∙_}
 use mathlib.Core.Bool.{Bool, true, false, cond}
-use mathlib.Core.List.{List, [], _∷_}
+use mathlib.Core.List.{List, [], _∷_, _++_, append-nil}
 use mathlib.Core.Logic.{_≢_}
 use native.Mathlib.Omega.{arith}
 use lib.Dec.{eqb}
@@ -10,9 +10,11 @@ use lib.Ieee.{Float}
 use borrow.Author.Tests.{le-leb, lt-leb, eq-eqb, ne-eqb}
 use mir.Val.{boolByte}
 use Rattle.kapitsa_joint.specs.declared.maxima.Maxima.{Maxima}
-use Rattle.listing.specs.Lines.{solveLine, gapLine, noGapLine, solveName, gapName, noneName, carriedName, closeName, rowName, bodyName, centreCount}
+use Rattle.listing.specs.Lines.{solveLine, gapLine, noGapLine, solveName, gapName, noneName, carriedName, closeName, rowName, bodyName, marginName, centreCount}
 use Rattle.listing.specs.Digits.{doubles}
-use Rattle.listing.specs.Listing.{flagOf, measuredLine}
+use Rattle.listing.specs.Written.{Room}
+use Rattle.listing.specs.Listing.{flagOf, measuredLine, headLines, marginLines, marginListing}
+use Rattle.listing.proofs.Joined.{room-first}
 
 pub solve-name : 115 ∷ 111 ∷ 108 ∷ 118 ∷ 101 ∷ [] ≡ solveName
 unfolding solveName
@@ -41,6 +43,10 @@ row-name = refl
 pub body-name : 98 ∷ 111 ∷ 100 ∷ 121 ∷ [] ≡ bodyName
 unfolding bodyName
 body-name = refl
+
+pub margin-name : 109 ∷ 97 ∷ 114 ∷ 103 ∷ 105 ∷ 110 ∷ [] ≡ marginName
+unfolding marginName
+margin-name = refl
 
 -- `flag as u32`
 pub flag-line : (count : ℕ) (flag : Bool) → solveLine 0 count (boolByte flag) ≡ solveLine 0 count (flagOf flag)
@@ -78,3 +84,18 @@ module _ (spare : ℕ) where
 -- as many numbers by another name
 pub doubles-as : (l : List Float) (first : ℕ) {m n : ℕ} → m ≡ n → doubles l first m ≡ doubles l first n
 doubles-as l first e = rw e
+
+-- `verdict != 1`
+module _ (count : ℕ) (flag : Bool) (gap carried : Maxima) (verdict rows : ℕ) (marginRows : List ℕ) (margins : List Float) where
+  pub margins-some : verdict ≡ 1 → headLines count flag gap carried verdict ++ marginLines marginRows margins rows ≡ marginListing count flag gap carried verdict rows marginRows margins
+  unfolding marginListing
+  margins-some e = rw (eq-eqb verdict 1 e)
+
+  pub margins-none : verdict ≢ 1 → headLines count flag gap carried verdict ≡ marginListing count flag gap carried verdict rows marginRows margins
+  unfolding marginListing
+  margins-none n = rw (ne-eqb verdict 1 n) (sym (append-nil (headLines count flag gap carried verdict)))
+
+  -- the first lines stand first, whatever follows
+  pub margins-head : {out : List ℕ} → Room out 0 (marginListing count flag gap carried verdict rows marginRows margins) → Room out 0 (headLines count flag gap carried verdict)
+  unfolding marginListing
+  margins-head h = room-first (cond (eqb verdict 1) (marginLines marginRows margins rows) []) h

@@ -37,6 +37,10 @@ rowName = 114 ∷ 111 ∷ 119 ∷ []
 unfoldable pub bodyName : List ℕ
 bodyName = 98 ∷ 111 ∷ 100 ∷ 121 ∷ []
 
+-- "margin"
+unfoldable pub marginName : List ℕ
+marginName = 109 ∷ 97 ∷ 114 ∷ 103 ∷ 105 ∷ 110 ∷ []
+
 -- ---- the lines
 
 abbrev pub newline : List ℕ
@@ -76,3 +80,7 @@ centreCount spare = cond (eqb spare 1) 3 0
 -- "body and six impulses", and the centre
 unfoldable pub bodyLine : ℕ → List Float → ℕ → List Float → List ℕ
 bodyLine b impulses spare centres = bodyName ++ number b ++ doubles impulses (6 * b) 6 ++ doubles centres (3 * b) (centreCount spare) ++ newline
+
+-- document 02, m: "List each row with the smallest tolerance at which it still closes": row and number
+unfoldable pub marginLine : ℕ → Float → List ℕ
+marginLine i x = marginName ++ number i ++ double x ++ newline

@@ -1,13 +1,13 @@
 -- Document 01, "Sheets to try": what "the job program ... prints": "refusal, count, flag; residuals; verdict; row and multiplier; body and six impulses", with the measured gap before the residuals (document 02, h) and the new centre after the impulses (d), and of a refused job "its first line only, zeros after the number".
 use Prim.Native.Nat.{ℕ, _+_, _*_}
 use mathlib.Core.Bool.{Bool, cond}
-use mathlib.Core.List.{List, _++_}
-use lib.Dec.{leb}
+use mathlib.Core.List.{List, [], _++_}
+use lib.Dec.{leb, eqb}
 use lib.ListN.{getD}
 use lib.Ieee.{Float, nan}
 use Rattle.kapitsa_joint.specs.declared.maxima.Maxima.{Maxima}
 use Rattle.listing.specs.Written.{pieces}
-use Rattle.listing.specs.Lines.{solveLine, gapLine, noGapLine, carriedLine, closeLine, rowLine, bodyLine}
+use Rattle.listing.specs.Lines.{solveLine, gapLine, noGapLine, carriedLine, closeLine, rowLine, bodyLine, marginLine}
 
 -- a line for each row, with its accumulated multiplier, which is number 24 of its 27
 unfoldable pub rowLines : List Float → ℕ → List ℕ
@@ -25,10 +25,22 @@ flagOf flag = cond flag 1 0
 unfoldable pub measuredLine : ℕ → Maxima → List ℕ
 measuredLine verdict gap = cond (leb verdict 1) (gapLine gap) noGapLine
 
+-- the first four lines of an accepted job: count and flag, the measured gap, the carried residuals, the verdict
+unfoldable pub headLines : ℕ → Bool → Maxima → Maxima → ℕ → List ℕ
+headLines count flag gap carried verdict = solveLine 0 count (flagOf flag) ++ measuredLine verdict gap ++ carriedLine carried ++ closeLine verdict
+
 -- of an accepted job, from a file of this spare
 unfoldable pub listingOf : ℕ → Bool → Maxima → Maxima → ℕ → ℕ → ℕ → List Float → List Float → ℕ → List Float → List ℕ
 listingOf count flag gap carried verdict rows bodies numbers impulses spare centres =
-    solveLine 0 count (flagOf flag) ++ measuredLine verdict gap ++ carriedLine carried ++ closeLine verdict ++ rowLines numbers rows ++ bodyLines impulses spare centres bodies
+    headLines count flag gap carried verdict ++ rowLines numbers rows ++ bodyLines impulses spare centres bodies
+
+-- document 02, m: a line for each place of the list, its row and the number beside it
+unfoldable pub marginLines : List ℕ → List Float → ℕ → List ℕ
+marginLines marginRows margins n = pieces (λ k. marginLine (getD marginRows k 0) (getD margins k nan)) n
+
+-- of an accepted job, what the margins program prints: "Where the check refuses or says open there is no list"
+unfoldable pub marginListing : ℕ → Bool → Maxima → Maxima → ℕ → ℕ → List ℕ → List Float → List ℕ
+marginListing count flag gap carried verdict rows marginRows margins = headLines count flag gap carried verdict ++ cond (eqb verdict 1) (marginLines marginRows margins rows) []
 
 -- of a refused one
 unfoldable pub refusedListing : ℕ → List ℕ

@@ -3,8 +3,8 @@ ghost use mathlib.Core.Path.{_≡_};
 ghost use Prim.Native.Nat.{_+_, _*_, _≤_};
 ghost use lib.ListN.{length};
 ghost use Rattle.listing.specs.Written.{Room, Wrote};
-ghost use Rattle.listing.specs.Lines.{solveLine, maximaWords, gapLine, noGapLine, carriedLine, closeLine, rowLine, centreCount, bodyLine};
-ghost use Rattle.listing.specs.Listing.{measuredLine, rowLines, bodyLines};
+ghost use Rattle.listing.specs.Lines.{solveLine, maximaWords, gapLine, noGapLine, carriedLine, closeLine, rowLine, centreCount, bodyLine, marginLine};
+ghost use Rattle.listing.specs.Listing.{measuredLine, rowLines, bodyLines, marginLines};
 use crate::digits::put_double;
 use crate::digits::put_doubles;
 use crate::digits::put_number;
@@ -146,6 +146,35 @@ pub fn body_lines(
     while b < bodies {
         next = body_line(out, next, b, impulses, spare, centres);
         b += 1;
+    }
+    next
+}
+
+pub fn margin_line(out: &mut [u8], at: usize, i: u32, x: f64) -> usize
+    requires { ⌜ Room (now out) at (marginLine i x) ⌝ }
+    ensures { λ r. ⌜ Wrote (now (out .entry)) at (marginLine i x) (now (out .exit)) r ⌝ }
+{
+    let a = put_text(out, at, b"margin");
+    let b = put_number(out, a, i);
+    let c = put_double(out, b, x);
+    put_byte(out, c, b'\n')
+}
+
+pub fn margin_lines(
+    out: &mut [u8],
+    at: usize,
+    margin_rows: &[u32],
+    margins: &[f64],
+    n: usize,
+) -> usize
+    requires { ⌜ (n ≤ length (now «margin_rows»)) × (n ≤ length (now margins)) × Room (now out) at (marginLines (now «margin_rows») (now margins) n) ⌝ }
+    ensures { λ r. ⌜ Wrote (now (out .entry)) at (marginLines (now («margin_rows» .entry)) (now (margins .entry)) n) (now (out .exit)) r ⌝ }
+{
+    let mut next = at;
+    let mut k = 0;
+    while k < n {
+        next = margin_line(out, next, margin_rows[k], margins[k]);
+        k += 1;
     }
     next
 }

@@ -25,7 +25,7 @@ keptNumber place accepted numbers words i = cond (accepted && eqb (i % 27) place
 unfoldable pub keptNumbers : ℕ → Bool → List Float → List ℕ → Bool
 keptNumbers place accepted numbers words = every (keptNumber place accepted numbers words) (length numbers)
 
--- "solution, new multiplier or new accumulated impulse" of row i
+-- "solution, new multiplier; of velocities the new accumulated impulse" of row i
 unfoldable pub sameAnswer : ℕ → List Float → List Float → List ℕ → ℕ → Bool
 sameAnswer place solution numbers words i = sameDouble (getD solution i nan) (getD words (2 * i) 0) && sameDouble (getD numbers (27 * i + place) nan) (getD words (2 * i + 1) 0)
 

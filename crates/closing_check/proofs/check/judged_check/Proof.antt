@@ -5,7 +5,7 @@ use borrow.Author.Needs.{needs}
 use Rattle.mass_operator.specs.Flat.{coefficients}
 use Rattle.closing_check.proofs.Entry.{room-same}
 use Rattle.closing_check.proofs.Judged.{passed-judged, refused-judged, ruled-judged, valid-judged, valid-same}
-use Rattle.closing_check.proofs.Measured.{named-is, verdict-is}
+use Rattle.closing_check.proofs.Measured.{named-is, reached-is, reached-none, verdict-is}
 use Rattle.closing_check.proofs.check.judged_check.Statement.{statement}
 use Rattle.closing_check.proofs.check.judged_check.Tie as tie
 
@@ -22,7 +22,7 @@ judged-check-spec =
       (c .before .before .before .before .before .before .before .before .before .before .before .before .before .before .before) .pre .1 .1 .1,
     ))  -- judge-table-requires
     (λ c. search needs)  -- enum-known-judged
-    (λ c. (refused-judged _ ((c .before .before .before .judge-table) .ensures) _ ((c .before .judged) .given .1), refl))  -- returns
+    (λ c. (refused-judged _ ((c .before .before .before .judge-table) .ensures) _ ((c .before .judged) .given .1), (refl, reached-none _ _ _)))  -- returns
     (λ c. search needs)  -- enum-told
     (λ c κs. (
       room-same ((c .before .before .before .before .before .before .before .before .before .before .before .before .before .before .before .before .before .before .before .before .before .before .before .before .before) .pre .0 .multipliers) ((c .before .before .before .before .before .before .before .before .before .before .before .before .before .before .before .before .before .before .before .before .before .before .before .before .before) .pre .0),
@@ -66,7 +66,13 @@ judged-check-spec =
           (passed-judged _
           ((c .before .before .before .before .before .before .before .before .before .before .before .before .before .before .before .before .before .before .before .before .before .before .before .before .before .before .before .before .before .before .before .before .before .before .before .judge-table) .ensures)
           ((c .before .before .before .before .before .before .before .before .before .before .before .before .before .before .before .before .before .before .before .before .before .before .before .before .before .before .before .before .before .before .before .before .before .enum-told) .given .1)),
-      named-is _ _ _ _ _ _ _ ((c .before .before .before .before .before .before .before .before .before .before .before .before .before .before .before .before .before .before .before .before .before .before .before .before .before .before .before .before .before .before .before .before .before .before .before .before .before .before .before .before .before .before .before .before .before .before .before .before .before .before .before) .args .kind) (coefficients ((c .before .before .before .before .before .before .before .before .before .before .before .before .before .before .before .before .before .before .before .before .before .before .before .before .before .before .before .before .before .before .before .before .before .before .before .before .before .before .before .before .before .before .before .before .before .before .before .before .before .before .before) .args .given .now)) _ _ _ ((c .verdict) .ensures)
-          ((c .before .before .before .before .before .before .before .before .before .before .before .before .before .before .before .before .before .before .before .before .before .before .before .before .before .before .before .before .before .before .before .before .before .before .before .before .before .before .before .before .before .before .before .before .before .before .before .before .before .before .before) .pre .1 .0 .2)
-          ((c .before .before .before .before .name-rules) .ensures),
+      (
+        named-is _ _ _ _ _ _ _ ((c .before .before .before .before .before .before .before .before .before .before .before .before .before .before .before .before .before .before .before .before .before .before .before .before .before .before .before .before .before .before .before .before .before .before .before .before .before .before .before .before .before .before .before .before .before .before .before .before .before .before .before) .args .kind) (coefficients ((c .before .before .before .before .before .before .before .before .before .before .before .before .before .before .before .before .before .before .before .before .before .before .before .before .before .before .before .before .before .before .before .before .before .before .before .before .before .before .before .before .before .before .before .before .before .before .before .before .before .before .before) .args .given .now)) _ _ _ ((c .verdict) .ensures)
+            ((c .before .before .before .before .before .before .before .before .before .before .before .before .before .before .before .before .before .before .before .before .before .before .before .before .before .before .before .before .before .before .before .before .before .before .before .before .before .before .before .before .before .before .before .before .before .before .before .before .before .before .before) .pre .1 .0 .2)
+            ((c .before .before .before .before .name-rules) .ensures),
+        reached-is ((c .before .before .before .before .before .before .before .before .before .before .before .before .before .before .before .before .before .before .before .before .before .before .before .before .before .before .before .before .before .before .before .before .before .before .before .before .before .before .before .before .before .before .before .before .before .before .before .before .before .before .before) .args .kind) _ ((c .before .before .before .before .before .before .before .before .before .before .before .before .before .before .before .before .before .before .before .before .before .before .before .before .before .before .before .before .before .before .before .before .before .before .before .before .before .before .before .before .before .before .before .before .before .before .before .before .before .before .before) .args .given .now) _
+            ((c .before .before .before .before .before .before .before .before .before .before .before .before .before .before .before .before .before .before .before .before .before .before .before .before .before .measure-rows) .ensures)
+            ((c .before .before .before .before .before .before .before .before .before .before .before .before .before .before .before .before .before .before .before .before .before .before .before .before .before .before .before .before .before .before .before .before .before .before .before .before .before .before .before .before .before .before .before .before .before .before .before .before .before .before .before) .pre .0 .multipliers)
+            ((c .before .before .before .before .before .before .before .before .measure-reaches) .ensures),
+      ),
     )))  -- returns-2

@@ -6,7 +6,7 @@ use lib.Seq.{length-take-le}
 use borrow.Author.Needs.{needs}
 use Rattle.listing.proofs.Joined.{wrote-as}
 use Rattle.listing.proofs.Length.{listing-room}
-use Rattle.job_sheet.proofs.Ways.{printed-is}
+use Rattle.job_sheet.proofs.Ways.{check-room, printed-is}
 use Rattle.job_sheet.proofs.accepted.write_accepted.Statement.{statement}
 use Rattle.job_sheet.proofs.accepted.write_accepted.Tie as tie
 
@@ -30,6 +30,6 @@ write-accepted-spec =
     (λ c.
     let a = (c .before .before .before .before .before .before .before .before .before .before .before .before .before .before .before .before .before .before .before .before) .args in
     let room = (c .before .before .before .before .before .before .before .before .before .before .before .before .before .before .before .before .before .before .before .before) .pre .0 in
-    let printed = printed-is (a .trailer) (a .numbers .now) (a .words .now) (a .masses .now) (a .centres .now) (a .solution .now) (a .impulses .now) (a .new-centres .now) (take (a .trailer .rows) (replicate 128 0))
-    room (length-take-le _ _ (room .few-rows)) ((c .before .before .before .before .before .before .before .checked-small) .ensures .answered) (a .result) ((c .before .before .before .before .before .gap) .ensures) ((c .before .before .before .before .number) .ensures) in
+    let printed = printed-is (a .trailer) (a .numbers .now) (a .words .now) (a .masses .now) (a .centres .now) (a .solution .now) (take (a .trailer .rows) (replicate 128 0))
+    (check-room room) (length-take-le _ _ (room .few-rows)) ((c .before .before .before .before .before .before .before .checked-small) .ensures .answered) (a .impulses .now) (a .new-centres .now) (a .result) ((c .before .before .before .before .before .gap) .ensures) ((c .before .before .before .before .number) .ensures) in
     wrote-as printed ((c .before .before .write-listing) .ensures)))  -- returns

@@ -17,7 +17,7 @@ write-job-spec =
     (λ c κs. search needs)  -- tolerances-fit-requires
     (λ c κs. refused-room _ _ (search needs) (omega (arith, (c .before .before .before .before .before .before .before .before .before .before .before) .pre .1)))  -- write-refusal-requires
     (λ c. (c .before .out) .given)  -- same-length
-    (λ c. let a = (c .before .before .before .before .before .before .before .before .before .before .before .before .before .before) .args in wrote-as (job-odd (a .trailer) (a .numbers .now) (a .words .now) (a .masses .now) (a .centres .now) ((c .before .before .before .before .before .tolerances-fit) .ensures) ((c .before .before .before .before .if1) .taken)) ((c .before .before .write-refusal) .ensures))  -- returns
+    (λ c. let a = (c .before .before .before .before .before .before .before .before .before .before .before .before .before .before) .args in wrote-as (job-odd (a .sheet) (a .trailer) (a .numbers .now) (a .words .now) (a .masses .now) (a .centres .now) ((c .before .before .before .before .before .tolerances-fit) .ensures) ((c .before .before .before .before .if1) .taken)) ((c .before .before .write-refusal) .ensures))  -- returns
     (λ c. search needs)  -- cast-rows
     (λ c. search needs)  -- slice-aggregate-solve-small-position
     (λ c. search needs)  -- slice-aggregate-solve-small-position-2
@@ -27,7 +27,7 @@ write-job-spec =
     (λ c. search needs)  -- enum-known-answer
     (λ c κs. refused-room _ _ (search needs) (omega (arith, (c .before .before .before .before .before .before .before .before .before .before .before .before .before .before .before .before .before .before .before .before .before .before .before .before .before .before .before .before .before .before .before .before) .pre .1)))  -- write-refusal-requires-2
     (λ c. search needs)  -- enum-known-answer-2
-    (λ c κs. (room-after ((c .before .before .before .before .before .before .before .before .before .before .before .before .before .before .before .before .before .before .before .before .before .before .before .before .before .before .before .before .before .before .before .before .before .before .before .before) .pre .0) ((c .before .before .before .before .before .before .before .before .before .before .before .before .before .before .before .before .numbers) .given) refl refl refl ((c .before .before .before .before .before .before .before .before .before .before .before .before .before .before .solution) .given) ((c .before .before .before .before .before .before .before .before .before .before .before .before .impulses) .given) ((c .before .before .before .before .before .before .before .before .before .before .new-centres) .given), (c .before .before .before .before .before .before .before .before .before .before .before .before .before .before .before .before .before .before .before .before .before .before .before .before .before .before .before .before .before .before .before .before .before .before .before .before) .pre .1))  -- write-accepted-requires
+    (λ c κs. (room-after ((c .before .before .before .before .before .before .before .before .before .before .before .before .before .before .before .before .before .before .before .before .before .before .before .before .before .before .before .before .before .before .before .before .before .before .before .before) .pre .0) ((c .before .before .before .before .before .before .before .before .before .before .before .before .before .before .before .before .numbers) .given) refl refl refl ((c .before .before .before .before .before .before .before .before .before .before .before .before .before .before .solution) .given) ((c .before .before .before .before .before .before .before .before .before .before .before .before .impulses) .given) ((c .before .before .before .before .before .before .before .before .before .before .new-centres) .given), (c .before .before .before .before .before .before .before .before .before .before .before .before .before .before .before .before .before .before .before .before .before .before .before .before .before .before .before .before .before .before .before .before .before .before .before .before) .pre .1))  -- write-solved-requires
     (λ c. (c .before .before .before .before .before .before .before .before .before .before .before .before .before .before .before .numbers) .given)  -- same-length-2
     (λ c. (c .before .before .before .before .before .before .before .before .before .before .before .before .before .solution) .given)  -- same-length-3
     (λ c. (c .before .before .before .before .before .before .before .before .before .before .before .impulses) .given)  -- same-length-4
@@ -37,7 +37,7 @@ write-job-spec =
     let a = (c .before .before .before .before .before .before .before .before .before .before .before .before .before .before .before .before .before .before .before .before .before .before .before .before .before .before .before .before .before .before .before .before .before .before .before) .args in
     let room = (c .before .before .before .before .before .before .before .before .before .before .before .before .before .before .before .before .before .before .before .before .before .before .before .before .before .before .before .before .before .before .before .before .before .before .before) .pre .0 in
     let fits = solve-fits room (length-take-le (a .trailer .rows) (replicate 128 0) (room .few-rows)) in
-    wrote-as (job-refused (a .trailer) (a .numbers .now) (a .words .now) (a .masses .now) (a .centres .now) ((c .before .before .before .before .before .before .before .before .before .before .before .before .before .before .before .before .before .before .before .before .before .before .before .before .before .before .tolerances-fit) .ensures) ((c .before .before .before .before .before .before .before .before .before .before .before .before .before .before .before .before .before .before .before .before .before .before .before .before .before .if1) .left) (a .solution .now) (a .impulses .now) (a .new-centres .now) fits ((c .before .before .before .before .before .before .before .before .before .before .before .before .before .before .before .before .solve-small-position) .ensures) ((c .before .before .before .before .before .answer) .given .1)) ((c .before .before .write-refusal2) .ensures))  -- returns-2
+    wrote-as (job-refused (a .sheet) (a .trailer) (a .numbers .now) (a .words .now) (a .masses .now) (a .centres .now) ((c .before .before .before .before .before .before .before .before .before .before .before .before .before .before .before .before .before .before .before .before .before .before .before .before .before .before .tolerances-fit) .ensures) ((c .before .before .before .before .before .before .before .before .before .before .before .before .before .before .before .before .before .before .before .before .before .before .before .before .before .if1) .left) (a .solution .now) (a .impulses .now) (a .new-centres .now) fits ((c .before .before .before .before .before .before .before .before .before .before .before .before .before .before .before .before .solve-small-position) .ensures) ((c .before .before .before .before .before .answer) .given .1)) ((c .before .before .write-refusal2) .ensures))  -- returns-2
     (λ c. (c .before .before .before .before .before .before .before .before .before .before .before .before .before .before .before .before .before .before .before .numbers) .given)  -- same-length-7
     (λ c. (c .before .before .before .before .before .before .before .before .before .before .before .before .before .before .before .before .before .solution) .given)  -- same-length-8
     (λ c. (c .before .before .before .before .before .before .before .before .before .before .before .before .before .before .before .impulses) .given)  -- same-length-9
@@ -47,4 +47,4 @@ write-job-spec =
     let a = (c .before .before .before .before .before .before .before .before .before .before .before .before .before .before .before .before .before .before .before .before .before .before .before .before .before .before .before .before .before .before .before .before .before .before .before .before .before .before .before) .args in
     let room = (c .before .before .before .before .before .before .before .before .before .before .before .before .before .before .before .before .before .before .before .before .before .before .before .before .before .before .before .before .before .before .before .before .before .before .before .before .before .before .before) .pre .0 in
     let fits = solve-fits room (length-take-le (a .trailer .rows) (replicate 128 0) (room .few-rows)) in
-    wrote-as (job-accepted (a .trailer) (a .numbers .now) (a .words .now) (a .masses .now) (a .centres .now) ((c .before .before .before .before .before .before .before .before .before .before .before .before .before .before .before .before .before .before .before .before .before .before .before .before .before .before .before .before .before .before .tolerances-fit) .ensures) ((c .before .before .before .before .before .before .before .before .before .before .before .before .before .before .before .before .before .before .before .before .before .before .before .before .before .before .before .before .before .if1) .left) (a .solution .now) (a .impulses .now) (a .new-centres .now) fits ((c .before .before .before .before .before .before .before .before .before .before .before .before .before .before .before .before .before .before .before .before .solve-small-position) .ensures) _ ((c .before .before .before .before .before .before .before .before .before .answer2) .given .1)) ((c .before .before .write-accepted) .ensures)))  -- returns-3
+    wrote-as (job-accepted (a .sheet) (a .trailer) (a .numbers .now) (a .words .now) (a .masses .now) (a .centres .now) ((c .before .before .before .before .before .before .before .before .before .before .before .before .before .before .before .before .before .before .before .before .before .before .before .before .before .before .before .before .before .before .tolerances-fit) .ensures) ((c .before .before .before .before .before .before .before .before .before .before .before .before .before .before .before .before .before .before .before .before .before .before .before .before .before .before .before .before .before .if1) .left) (a .solution .now) (a .impulses .now) (a .new-centres .now) fits ((c .before .before .before .before .before .before .before .before .before .before .before .before .before .before .before .before .before .before .before .before .solve-small-position) .ensures) _ ((c .before .before .before .before .before .before .before .before .before .answer2) .given .1)) ((c .before .before .write-solved) .ensures)))  -- returns-3

@@ -18,6 +18,6 @@ write-sheet-spec =
     (λ c. search needs)  -- enum-known-judged-2
     (λ c κs. (sym ((c .before .before .before .before .judge-file) .ensures) ∙ (c .before .before .judged2) .given .1, (c .before .before .before .before .before .before .before) .pre))  -- write-passed-requires
     (λ c. (c .before .out) .given)  -- same-length
-    (λ c. wrote-as (sheet-refused _ ((c .before .before .before .before .before .before .before .judge-file) .ensures) ((c .before .before .before .before .before .judged) .given .1)) ((c .before .before .write-refusal) .ensures))  -- returns
+    (λ c. wrote-as (sheet-refused _ _ ((c .before .before .before .before .before .before .before .judge-file) .ensures) ((c .before .before .before .before .before .judged) .given .1)) ((c .before .before .write-refusal) .ensures))  -- returns
     (λ c. (c .before .out2) .given)  -- same-length-2
     (λ c. (c .before .before .write-passed) .ensures))  -- returns-2

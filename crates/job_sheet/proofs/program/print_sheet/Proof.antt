@@ -1,12 +1,12 @@
--- `job_sheet::program::print_job` meets its contract: what is printed is within the text. Assumes nothing.
+-- `job_sheet::program::print_sheet` meets its contract: what is printed is within the text. Assumes nothing.
 use mathlib.Core.Path.{sym}
 use lib.Seq.{length-take-le}
 use borrow.Author.Needs.{needs}
-use Rattle.job_sheet.proofs.program.print_job.Statement.{statement}
-use Rattle.job_sheet.proofs.program.print_job.Tie as tie
+use Rattle.job_sheet.proofs.program.print_sheet.Statement.{statement}
+use Rattle.job_sheet.proofs.program.print_sheet.Tie as tie
 
-pub print-job-spec : {M : Type 1} → statement M
-print-job-spec =
+pub print-sheet-spec : {M : Type 1} → statement M
+print-sheet-spec =
     tie.close
     (tie.spec
     (λ c. search needs)  -- slice-aggregate-read-full

@@ -1,0 +1,4 @@
+pub mod Margins
+pub mod Alone
+pub mod Ranked
+pub mod Held

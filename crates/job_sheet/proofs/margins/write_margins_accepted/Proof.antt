@@ -1,0 +1,23 @@
+-- `job_sheet::margins::write_margins_accepted` meets its contract. Assumes nothing.
+use mathlib.Core.Path.{sym}
+use lib.Seq.{length-take-le}
+use borrow.Author.Needs.{needs}
+use Rattle.job_sheet.proofs.margins.write_margins_accepted.Statement.{statement}
+use Rattle.job_sheet.proofs.margins.write_margins_accepted.Tie as tie
+
+pub write-margins-accepted-spec : {M : Type 1} → statement M
+write-margins-accepted-spec =
+    tie.close
+    (tie.spec
+    (λ c. search needs)  -- cast-rows
+    (λ c. ((c .before .before .before .before .before .before .before) .pre .0 .few-rows))  -- array-borrow-prefix-rule-numbers
+    (λ c. sym (length-take-le _ _ ((c .before .before .before .before .before .before .before .before) .pre .0 .few-rows)))  -- slice-aggregate-write-listed
+    (λ c. ((c .before .before .before .before .before .before .before .before) .pre .0 .few-rows))  -- array-borrow-prefix-margin-rows
+    (λ c. sym (length-take-le _ _ ((c .before .before .before .before .before .before .before .before .before) .pre .0 .few-rows)))  -- slice-aggregate-write-listed-2
+    (λ c. ((c .before .before .before .before .before .before .before .before .before) .pre .0 .few-rows))  -- array-borrow-prefix-margins
+    (λ c. sym (length-take-le _ _ ((c .before .before .before .before .before .before .before .before .before .before) .pre .0 .few-rows)))  -- slice-aggregate-write-listed-3
+    (λ c κs.
+    let few = (c .before .before .before .before .before .before .before .before .before .before .before) .pre .0 .few-rows in
+    ((c .before .before .before .before .before .before .before .before .before .before .before) .pre .0, (length-take-le _ _ few, length-take-le _ _ few, length-take-le _ _ few, (c .before .before .before .before .before .before .before .before .before .before .before) .pre .1)))  -- write-listed-requires
+    (λ c. ((c .before .out) .given))  -- same-length
+    (λ c. ((c .before .before .before .before .before .write-listed) .ensures)))  -- returns

@@ -1,0 +1,5 @@
+// Which program's lines are printed of a job.
+pub enum Sheet {
+    Job,
+    Margins,
+}
