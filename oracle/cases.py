@@ -24,6 +24,10 @@ program that lists margins gives the check what it solves, and a case a list of 
 through the program too where it has no rules, its job fits into a job file, and the library's solve
 comes to the case's list, bit for bit, or to its refusal; it is then counted once more.
 
+Of document 02, l: a sequence case is its steps one after the other, each proposal in memory of its own
+and the rows in theirs; an undivided solve of a copy of the rows beside each proposal must leave what
+the proposal and a commit of it, both on copies, leave.
+
 Prints, for each list, how many cases of each kind are equal, which differ, and how many are left
 out and why. The exit status is 1 where one differs, or none was compared.
 """
@@ -43,7 +47,7 @@ import sys
 HOME = pathlib.Path(__file__).resolve().parent
 
 # The requests of document 02 that are in place. A case is left out while it needs another.
-LANDED = {"d", "e", "f", "h", "j", "k", "m"}
+LANDED = {"d", "e", "f", "h", "j", "k", "l", "m"}
 
 # The request that brings a kind of case.
 BROUGHT_BY = {"groups": "g", "margins": "m", "sequence": "l"}
@@ -52,8 +56,14 @@ BROUGHT_BY |= dict.fromkeys(("write", "write beyond a file", "convert", "same"),
 # A margins case that the program which lists margins can be given too.
 BY_PROGRAM = "margins by the program"
 
-ROW_NUMBERS, ROW_BYTES = 27, 248
+ROW_NUMBERS, ROW_WORDS, ROW_BYTES = 27, 8, 248
 MULTIPLIER = 24
+# A row's numbers behind its five vectors, as row.rs names them.
+SCALARS = 15
+FIELDS = (
+    "error target_velocity force_bias compliance damping min_multiplier max_multiplier min_impulse"
+    " max_impulse accumulated_multiplier accumulated_impulse cached_velocity_effective_mass"
+).split()
 TRAILER_BYTES = 48
 MOST_BYTES = 65_536
 
@@ -295,6 +305,139 @@ class Library:
         return list(answer), bits(solution)
 
 
+    def sequence(self, case):
+        sheet, said = Sheet(self, case), []
+        for number, (step, expect) in enumerate(zip(case.steps, case.expect["steps"], strict=True)):
+            found = getattr(sheet, step["do"].replace("-", "_"))(step, expect)
+            found += different(("multipliers", sheet.multipliers(), bits_of(expect["multipliers"])))
+            said += [f"step {number}, {step['do']}: {one}" for one in found]
+        return said
+
+
+class Proposal:
+    """What a proposal is lent, and the answer to it: refusal and the maxima."""
+
+    def __init__(self, rows, bodies):
+        self.words, self.rules = word_outputs(4), word_outputs(min(rows, 600))
+        self.solution, self.started = outputs(min(rows, 600)), outputs(min(rows, 600))
+        self.impulses, self.centres = outputs(6 * min(bodies, 600)), outputs(3 * min(bodies, 600))
+        self.answer = (ctypes.c_uint64 * 3)(*[UNTOUCHED] * 3)
+
+    def lent(self):
+        return self.words, self.solution, self.impulses, self.centres, self.started, self.rules
+
+    def found(self):
+        doubles = (self.solution, self.impulses, self.centres, self.started)
+        return [list(self.answer), list(self.words), list(self.rules), *map(bits, doubles)]
+
+
+class Sheet:
+    """A table on which a sequence of steps is run: its rows as they are now, and its proposals."""
+
+    def __init__(self, library, case):
+        self.library, self.case, job = library, case, case.job
+        self.numbers = [job.numbers[at : at + 8 * ROW_NUMBERS] for at in range(0, len(job.numbers), 8 * ROW_NUMBERS)]
+        self.words = [job.words[at : at + 4 * ROW_WORDS] for at in range(0, len(job.words), 4 * ROW_WORDS)]
+        self.taken, self.proposals = [], {}
+        self.beyond = job.rows - len(self.numbers)  # rows that the container has no room for
+
+    def rows(self):
+        return len(self.numbers) + self.beyond
+
+    def lent_numbers(self):
+        return lent(ctypes.c_double, b"".join(self.numbers))
+
+    def keep(self, numbers):
+        data = bytes(numbers)
+        self.numbers = [data[at : at + 8 * ROW_NUMBERS] for at in range(0, len(data), 8 * ROW_NUMBERS)]
+
+    def multipliers(self):
+        return [bits(lent(ctypes.c_double, row))[MULTIPLIER] for row in self.numbers]
+
+    def given(self, numbers):
+        job = self.case.job
+        return (
+            numbers, lent(ctypes.c_uint32, b"".join(self.words)), lent(ctypes.c_double, job.masses),
+            lent(ctypes.c_double, job.centres), *self.case.lent_rules(), self.rows(), job.bodies, job.limit,
+            job.mode, self.case.shift,
+        )  # fmt: skip
+
+    def proposed(self):
+        """A proposal of the rows as they are, and whether the call left them so."""
+        to, numbers = Proposal(self.rows(), self.case.job.bodies), self.lent_numbers()
+        self.library.call("oracle_propose_position", *self.given(numbers), *to.lent(), to.answer)
+        return to, different(("row numbers", bits(numbers), bits(self.lent_numbers()))) + self.library.work()
+
+    def committed(self, numbers, to):
+        answer = (ctypes.c_uint64 * 1)(UNTOUCHED)
+        self.library.call("oracle_commit_proposal", numbers, self.rows(), to.words, to.solution, to.started, answer)
+        return answer[0]
+
+    def propose(self, step, expect):
+        to, said = self.proposed()
+        if expect["refusal"]:
+            wanted = [[expect["refusal"], 0, 0], *Proposal(self.rows(), self.case.job.bodies).found()[1:]]
+        else:
+            words = [self.rows(), expect["flag"], expect["count"], 0]
+            doubles = [bits_of(expect[one]) for one in ("solution", "impulses", "centres", "started")]
+            wanted = [[0, *bits_of(expect["maxima"])], words, expect["rules"], *doubles]
+            self.proposals[step["as"]] = to
+        names = ("answer", "words", "rule numbers", "solution", "impulses", "new centres", "started")
+        return said + different(*zip(names, to.found(), wanted)) + self.undivided()
+
+    def undivided(self):
+        """A proposal and its commit, and the solve in their place, on copies of the rows."""
+        to, _ = self.proposed()
+        numbers, whole = self.lent_numbers(), self.lent_numbers()
+        if not to.answer[0] and self.committed(numbers, to):
+            return ["a commit right after is refused"]
+        once = Proposal(self.rows(), self.case.job.bodies)
+        answer = (ctypes.c_uint64 * 5)(*[UNTOUCHED] * 5)
+        given = (once.solution, once.impulses, once.centres, once.rules, answer)
+        self.library.call("oracle_solve_position", *self.given(whole), *given)
+        refusal, *maxima = to.answer
+        counts = [0, 0] if refusal else [to.words[2], to.words[1]]
+        named = ("solution", "impulses", "centres", "rules")
+        both = [[bytes(getattr(one, name)) for name in named] for one in (to, once)]
+        return different(
+            ("the undivided solve's answer", [refusal, *counts, *maxima], list(answer)),
+            ("the undivided solve's row numbers", bits(numbers), bits(whole)),
+            ("the undivided solve's outputs", *both),
+        )
+
+    def commit(self, step, expect):
+        to, numbers = self.proposals[step["what"]], self.lent_numbers()
+        before = [bits(numbers), *to.found()]
+        refusal = self.committed(numbers, to)
+        after = [bits(numbers), *to.found()]
+        said = different(("refusal", refusal, expect["refusal"]))
+        if refusal:
+            said += different(("what is lent, after a refusal", str(after), str(before)))
+        else:
+            before[0][MULTIPLIER::ROW_NUMBERS] = after[0][MULTIPLIER::ROW_NUMBERS]
+            before[2][3] = 1
+            said += different(("what is lent beside the multipliers", str(after), str(before)))
+        self.keep(numbers)
+        return said
+
+    def set(self, step, expect):
+        row = bytearray(self.numbers[step["row"]])
+        place = 8 * (SCALARS + FIELDS.index(step["field"]))
+        row[place : place + 8] = struct.pack("<Q", bits_of(step["value"])[0])
+        self.numbers[step["row"]] = bytes(row)
+        return []
+
+    def drop_row(self, step, expect):
+        self.taken.append((self.numbers.pop(), self.words.pop()))
+        return []
+
+    def add_row(self, step, expect):
+        numbers, words = self.taken.pop() if self.taken else (self.numbers[-1], self.words[-1])
+        self.numbers.append(numbers)
+        self.words.append(words)
+        return []
+
+
 class Program:
     """The job program's own process."""
 
@@ -407,7 +550,7 @@ class Case:
         self.job = Job(self.container) if "job" in given else None
         self.file = bytes_of(given["file"]) if "file" in given else None
         self.other = bytes_of(given["other"]) if "other" in given else None
-        self.layout = given.get("layout")
+        self.layout, self.steps = given.get("layout"), given.get("steps")
         if self.op == "write" and len(self.job.elsewhere()) > MOST_BYTES:
             self.op = "write beyond a file"
         self.list = b"".join(struct.pack("<Q", one) for one in bits_of(given.get("list", "")))
@@ -471,6 +614,9 @@ class Case:
         """A library that takes rules tells an odd tolerance by 27; 26 is the program's."""
         if "k" in LANDED and self.op in ("solve", "check", "margins") and self.expect.get("refusal") == 26:
             self.expect = {"refusal": 27}
+        if self.op == "sequence":
+            for expect in self.expect["steps"]:
+                expect["refusal"] = 27 if expect.get("refusal") == 26 else expect.get("refusal", 0)
         return self
 
 
@@ -520,14 +666,14 @@ def main():
     if not files:
         sys.exit(f"oracle/cases.py: no cases in '{cases}'; set KAPITSA_CASES to their folder")
     missing = lambda path: f"there is no '{path}'"
-    by_op = dict.fromkeys(("solve", "check", "margins"), missing(asked.library))
+    by_op = dict.fromkeys(("solve", "check", "margins", "sequence"), missing(asked.library))
     by_op["program"] = missing(asked.program)
     by_op[BY_PROGRAM] = missing(asked.margins)
     by_op |= dict.fromkeys(("write", "convert", "same"), missing(asked.converter))
     by_op["write beyond a file"] = writer
     if asked.library.exists():
         library = Library(asked.library.resolve())
-        by_op.update(solve=library.solve, check=library.check, margins=library.margins)
+        by_op.update(solve=library.solve, check=library.check, margins=library.margins, sequence=library.sequence)
         if asked.margins.exists():
             by_op[BY_PROGRAM] = Margins(asked.margins.resolve(), library)
     if asked.program.exists():

@@ -1,6 +1,6 @@
-/* Zapekuri for C and C++: the position solve and the velocity solve, the closing check of each, alone
-   and with its list of margins, and the inverse of a local inertia of `rt staticlib kapitsa_c`, an
-   archive for x86-64.
+/* Zapekuri for C and C++: the position solve, at once or proposed and then committed, the velocity
+   solve, the closing check of each, alone and with its list of margins, and the inverse of a local
+   inertia of `rt staticlib kapitsa_c`, an archive for x86-64.
 
    A slice is a pointer, then its length; where the length is 0 the pointer may be NULL. For n rows
    and b bodies numbers has 27 n doubles, words 8 n, masses 10 b, centres and new_centres 3 b each;
@@ -27,18 +27,24 @@
    gets the number of each row's rule, from 0. One tolerance for each dimension is
    KAPITSA_TWO_RULES.
 
+   A proposal is a position solve up to the rows, which it only reads: proposal has
+   KAPITSA_PROPOSAL_WORDS, rows, flag, count and mark, and with solution and started, n doubles each,
+   the multipliers it started from, it is what a commit takes. One that is not committed has changed
+   nothing; one that is leaves what the solve would have left. Write nothing to these three between
+   the two calls.
+
    Every call returns 0 or the number of a refusal; what it finds it writes into lent memory, and
    only where it returns 0. The work memory is 0 after every call but one refused by 3, which
    writes nothing at all.
 
-   kapitsa_solve_in, kapitsa_check_in and kapitsa_margins_in, and of velocities
+   kapitsa_solve_in, kapitsa_propose_in, kapitsa_check_in and kapitsa_margins_in, and of velocities
    kapitsa_solve_velocity_in, kapitsa_check_velocity_in and kapitsa_margins_velocity_in, at the end,
-   work in one piece of doubles and one of words and, as kapitsa_inverse_in, in whatever
-   floating-point mode the caller is. They ask of a caller that a pointer and its length belong
+   work in one piece of doubles and one of words and, as kapitsa_commit_in and kapitsa_inverse_in, in
+   whatever floating-point mode the caller is. They ask of a caller that a pointer and its length belong
    together and that no two slices overlap; all else is tested, and refused where it does not fit.
-   The raw functions, kapitsa_solve_position, kapitsa_closing_check, kapitsa_closing_margins,
-   kapitsa_solve_velocity, kapitsa_velocity_closing_check, kapitsa_velocity_closing_margins and
-   kapitsa_inverse_spd, take each work slice by itself and assume besides that the control word MXCSR
+   The raw functions, kapitsa_solve_position, kapitsa_propose_position, kapitsa_commit_proposal,
+   kapitsa_closing_check, kapitsa_closing_margins, kapitsa_solve_velocity,
+   kapitsa_velocity_closing_check, kapitsa_velocity_closing_margins and kapitsa_inverse_spd, take each work slice by itself and assume besides that the control word MXCSR
    is KAPITSA_CONTROL: in another mode their answers, "closed" too, mean nothing. A program starts in
    that mode, unless it was linked with -ffast-math. */
 #ifndef KAPITSA_H
@@ -66,6 +72,15 @@ enum kapitsa_limit {
     KAPITSA_MAX_PAIRS = 16384, /* rows that share a body, two by two; mode 1 */
     KAPITSA_MAX_RULES = 64,
     KAPITSA_MAX_KEY = 255
+};
+
+/* A proposal's words, and where each stands. */
+enum kapitsa_proposal {
+    KAPITSA_PROPOSAL_ROWS = 0,
+    KAPITSA_PROPOSAL_FLAG = 1,
+    KAPITSA_PROPOSAL_COUNT = 2,
+    KAPITSA_PROPOSAL_MARK = 3, /* 0, and 1 once it is committed */
+    KAPITSA_PROPOSAL_WORDS = 4
 };
 
 enum kapitsa_dimension {
@@ -121,7 +136,10 @@ enum kapitsa_refusal {
     /* Right after 4, in this order. 26 is the job program's alone. */
     KAPITSA_REFUSED_RULE = 27,        /* a rule has first above last, a dimension over 1, a last key
                                          over 255, or a tolerance negative, NaN or infinite */
-    KAPITSA_REFUSED_RULES_OF_ROW = 28 /* a row is under no rule, or under several */
+    KAPITSA_REFUSED_RULES_OF_ROW = 28, /* a row is under no rule, or under several */
+    /* Of a commit, after 3, in this order. */
+    KAPITSA_REFUSED_COMMITTED = 29, /* the proposal bears the mark */
+    KAPITSA_REFUSED_MOVED = 30      /* a multiplier or the row count is not what it started from */
 };
 
 /* MXCSR as a program starts: round to nearest, subnormal numbers kept, exceptions masked. */
@@ -190,6 +208,33 @@ KAPITSA_MUST_USE uint32_t kapitsa_solve_position(
     uint32_t *rule_numbers, size_t rule_numbers_len,
     uint32_t *counts, size_t counts_len, double *maxima, size_t maxima_len
     KAPITSA_SOLVE_WORK(KAPITSA_TAKES_DOUBLES, KAPITSA_TAKES_WORDS));
+
+/* kapitsa_solve_position, which answers and is refused as ever, 17 too, but for its last step: numbers
+   is only read. In place of counts, proposal (4) gets rows, flag, count and mark 0, and started (n)
+   each row's accumulated multiplier. A refusal writes none of it. 3 judges their lengths too. */
+KAPITSA_MUST_USE uint32_t kapitsa_propose_position(
+    const double *numbers, size_t numbers_len, const uint32_t *words, size_t words_len,
+    const double *masses, size_t masses_len, const double *centres, size_t centres_len,
+    const uint32_t *rule_words, size_t rule_words_len,
+    const double *rule_tolerances, size_t rule_tolerances_len,
+    uint32_t rows, uint32_t bodies, uint32_t limit, uint32_t mode, double shift,
+    double *solution, size_t solution_len, double *impulses, size_t impulses_len,
+    double *new_centres, size_t new_centres_len,
+    uint32_t *rule_numbers, size_t rule_numbers_len,
+    uint32_t *proposal, size_t proposal_len, double *started, size_t started_len,
+    double *maxima, size_t maxima_len
+    KAPITSA_SOLVE_WORK(KAPITSA_TAKES_DOUBLES, KAPITSA_TAKES_WORDS));
+
+/* Refusals 3, 29 and 30, judged in this order; none writes. proposal, solution and started are as
+   kapitsa_propose_position left them, rows and numbers (27 a row) the rows as they are now. Each
+   accumulated multiplier must have the bits that the proposal started from, so that -0.0 is not 0.0;
+   whatever else stands in the rows is not looked at. The multipliers gain the solution, with count 0
+   they keep their bits, and the proposal gets its mark. 3 too where solution and started have not as
+   many doubles as the proposal's words have rows. */
+KAPITSA_MUST_USE uint32_t kapitsa_commit_proposal(
+    double *numbers, size_t numbers_len, uint32_t rows,
+    uint32_t *proposal, size_t proposal_len, const double *solution, size_t solution_len,
+    const double *started, size_t started_len);
 
 /* Refusals 3, 4, 27, 28, 6, 7 and 18. multipliers are the gains since the errors were measured,
    such as a solve's solution. centres are judged by 6, and nothing else reads them. verdict (1)
@@ -271,9 +316,10 @@ KAPITSA_MUST_USE uint32_t kapitsa_velocity_closing_margins(
 KAPITSA_MUST_USE uint32_t kapitsa_inverse_spd(
     const double *inertia, size_t inertia_len, double *inverse, size_t inverse_len);
 
-/* ---- how much work memory a call needs, exactly, the same for positions and for velocities, and for
-   a check with its list of margins as for a check: more may be lent, less is refused by 3. 0 too
-   where a count or the mode is beyond the limits: whatever is lent, such a call is refused. */
+/* ---- how much work memory a call needs, exactly, the same for positions and for velocities, for a
+   proposal as for a solve, and for a check with its list of margins as for a check: more may be
+   lent, less is refused by 3. 0 too where a count or the mode is beyond the limits: whatever is
+   lent, such a call is refused. */
 
 static inline int kapitsa_within(uint32_t rows, uint32_t bodies, uint32_t mode)
 {
@@ -393,6 +439,39 @@ KAPITSA_APART uint32_t kapitsa_solve_in(
         rows, bodies, limit, mode, shift, solution, solution_len, impulses, impulses_len,
         new_centres, new_centres_len, rule_numbers, rule_numbers_len, counts, 2, maxima, 2
         KAPITSA_SOLVE_WORK(KAPITSA_LEND, KAPITSA_LEND)))
+}
+
+KAPITSA_APART uint32_t kapitsa_propose_in(
+    const double *numbers, size_t numbers_len, const uint32_t *words, size_t words_len,
+    const double *masses, size_t masses_len, const double *centres, size_t centres_len,
+    const uint32_t *rule_words, size_t rule_words_len,
+    const double *rule_tolerances, size_t rule_tolerances_len,
+    uint32_t rows, uint32_t bodies, uint32_t limit, uint32_t mode, double shift,
+    double *solution, size_t solution_len, double *impulses, size_t impulses_len,
+    double *new_centres, size_t new_centres_len,
+    uint32_t *rule_numbers, size_t rule_numbers_len,
+    uint32_t proposal[KAPITSA_PROPOSAL_WORDS], double *started, size_t started_len,
+    double maxima[2],
+    double *work_doubles, size_t work_doubles_len, uint32_t *work_words, size_t work_words_len)
+{
+    KAPITSA_SOLVE_ROOM
+    KAPITSA_RETURN_CONTROLLED(kapitsa_propose_position(
+        numbers, numbers_len, words, words_len, masses, masses_len, centres, centres_len,
+        rule_words, rule_words_len, rule_tolerances, rule_tolerances_len,
+        rows, bodies, limit, mode, shift, solution, solution_len, impulses, impulses_len,
+        new_centres, new_centres_len, rule_numbers, rule_numbers_len,
+        proposal, KAPITSA_PROPOSAL_WORDS, started, started_len, maxima, 2
+        KAPITSA_SOLVE_WORK(KAPITSA_LEND, KAPITSA_LEND)))
+}
+
+KAPITSA_APART uint32_t kapitsa_commit_in(
+    double *numbers, size_t numbers_len, uint32_t rows,
+    uint32_t proposal[KAPITSA_PROPOSAL_WORDS], const double *solution, size_t solution_len,
+    const double *started, size_t started_len)
+{
+    KAPITSA_RETURN_CONTROLLED(kapitsa_commit_proposal(
+        numbers, numbers_len, rows, proposal, KAPITSA_PROPOSAL_WORDS, solution, solution_len,
+        started, started_len))
 }
 
 KAPITSA_APART uint32_t kapitsa_solve_velocity_in(

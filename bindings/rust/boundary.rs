@@ -1,6 +1,6 @@
 //! The boundary between the port and Rust, as bindings/c/boundary.c has it for C, for positions and
-//! for velocities: floating-point modes, 18, rules, margins, centres, residuals, lengths, empty jobs and
-//! the limits. The last line is `N passed, 0 failed`.
+//! for velocities: floating-point modes, 18, rules, margins, centres, proposals, residuals, lengths, empty
+//! jobs and the limits. The last line is `N passed, 0 failed`.
 //! Rust itself assumes the default mode: in another one nothing is computed here.
 
 #[allow(dead_code)] // the limits of pairs
@@ -828,6 +828,103 @@ fn lengths(tests: &mut Tests) {
     }
 }
 
+/// A proposal of a job, whose rows it only reads.
+fn proposed(job: &Job, mode: Mode, work: &mut Work) -> Result<Proposal, Refusal> {
+    let mut numbers = job.numbers.clone();
+    let Job { words, masses, centres, rules, limit, shift, .. } = job;
+    let tables = Tables { numbers: &mut numbers, words, masses, centres };
+    let found = propose_position(&tables, rules, *limit, mode, *shift, work);
+    assert_eq!(bits_of(&numbers), bits_of(&job.numbers), "the rows are only read");
+    found
+}
+
+fn bits_of(numbers: &[f64]) -> Vec<u64> {
+    numbers.iter().map(|number| number.to_bits()).collect()
+}
+
+/// A commit that is turned back so, and writes nothing.
+fn not_committed(tests: &mut Tests, from: &mut Proposal, rows: &[f64], told: Refusal, what: &str) {
+    let (mut numbers, marked) = (rows.to_vec(), from.is_committed());
+    tests.expect(from.commit(&mut numbers) == Err(told), what);
+    tests.expect(bits_of(&numbers) == bits_of(rows), &format!("{what}: nothing is written"));
+    tests.expect(from.is_committed() == marked, &format!("{what}: nor marked"));
+}
+
+/// A proposal and its commit leave what the solve leaves, in every mode; a second commit is 29.
+fn as_the_solve(tests: &mut Tests, job: &Job, mode: Mode) {
+    let mut work = Work::default();
+    let wanted = outcome(job, mode, &mut work);
+    for (name, control) in MODES {
+        let (found, after) = within(control, || proposed(job, mode, &mut work));
+        tests.expect(after == control, &format!("{mode:?}, {name}: the mode is left"));
+        let mut found = match (found, &wanted.solved) {
+            (Ok(found), Ok(_)) => found,
+            (found, told) => {
+                let told = told.as_ref().err();
+                tests.expect(found.err().as_ref() == told, "refused as the solve");
+                continue;
+            }
+        };
+        let mut numbers = job.numbers.clone();
+        let answer = found.answer();
+        let maxima = [answer.linear_residual_m, answer.angular_residual_rad].map(f64::to_bits);
+        let told = (answer.converged, answer.iterations, maxima);
+        tests.expect(wanted.solved == Ok(told), "the answer of the solve");
+        let multipliers: Vec<f64> = numbers.chunks(27).map(|row| row[24]).collect();
+        tests.expect(bits_of(found.started()) == bits_of(&multipliers), "started");
+        let (committed, after) = within(control, || found.commit(&mut numbers));
+        tests.expect(committed == Ok(()) && after == control, "committed");
+        let left = [&numbers[..], found.solution(), found.impulses()].concat();
+        tests.expect(bits_of(&left) == wanted.numbers, &format!("{mode:?}, {name}: as the solve"));
+        tests.expect(bits_of(found.new_centres()) == wanted.new_centres, "the same centres");
+        tests.expect(found.rule_numbers() == wanted.rules[0], "the same rules");
+        not_committed(tests, &mut found, &numbers, Refusal::Committed, "a second time");
+        not_committed(tests, &mut found, &job.numbers, Refusal::Committed, "29 before 30");
+    }
+}
+
+fn proposals(tests: &mut Tests) {
+    let mut off = chain();
+    off.words[5] = 0;
+    let (still, small) = (p1(0.0, 0.001), 2f64.powi(-20));
+    for mode in ALL {
+        for job in
+            [&p1(-0.25, 0.001), &chain(), &worn(0.0), &worn(small), &off, &still, &Job::default()]
+        {
+            as_the_solve(tests, job, mode);
+        }
+    }
+    let mut work = Work::default();
+    let mut job = still;
+    job.numbers[24] = -0.0;
+    let mut found = proposed(&job, Mode::Diagonal, &mut work).expect("count 0");
+    for other in [0.0, f64::from_bits(1), f64::INFINITY, f64::NAN, -f64::NAN] {
+        let mut numbers = job.numbers.clone();
+        numbers[24] = other;
+        not_committed(tests, &mut found, &numbers, Refusal::Moved, "not -0.0 any more");
+    }
+    job.numbers[15] = f64::NAN; // which a commit does not read
+    let committed = found.commit(&mut job.numbers);
+    tests.expect(committed == Ok(()), "committed, whatever else has changed");
+    tests
+        .expect(job.numbers[24].to_bits() == (-0.0f64).to_bits(), "count 0 keeps the bits of -0.0");
+    let mut job = chain();
+    let mut found = proposed(&job, Mode::Diagonal, &mut work).expect("the chain is solved");
+    let mut other = proposed(&job, Mode::Diagonal, &mut work).expect("once more");
+    for rows in [0, 2, 4] {
+        let mut numbers = job.numbers.clone();
+        numbers.resize(27 * rows, 0.0);
+        not_committed(tests, &mut found, &numbers, Refusal::Moved, "more rows, or fewer");
+    }
+    for length in [80, 82, 27 * 513] {
+        let mut numbers = job.numbers.clone();
+        numbers.resize(length, 0.0);
+        not_committed(tests, &mut found, &numbers, Refusal::Length, "no such rows");
+    }
+    tests.expect(found.commit(&mut job.numbers) == Ok(()), "as it was again");
+    not_committed(tests, &mut other, &job.numbers, Refusal::Moved, "another from the same start");
+}
+
 fn main() {
     let mut tests = Tests::default();
     for of in [of_positions as Kind, of_velocities as Kind] {
@@ -837,6 +934,7 @@ fn main() {
         margins(&mut tests, of);
     }
     centres(&mut tests);
+    proposals(&mut tests);
     as_positions(&mut tests);
     sheets(&mut tests);
     odd_residuals(&mut tests);
@@ -850,9 +948,11 @@ fn main() {
         Refusal::Shift,
         Refusal::Rule,
         Refusal::RulesOfRow,
+        Refusal::Committed,
+        Refusal::Moved,
     ];
     let numbers = refusals.map(|refusal| refusal as u32);
-    tests.expect(numbers == [3, 18, 20, 25, 27, 28], "the numbers of refusals");
+    tests.expect(numbers == [3, 18, 20, 25, 27, 28, 29, 30], "the numbers of refusals");
     println!("{} passed, {} failed", tests.passed, tests.failed);
     std::process::exit(i32::from(tests.failed != 0));
 }

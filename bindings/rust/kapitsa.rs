@@ -1,8 +1,9 @@
-//! Zapekuri for Rust: safe calls of the position solve and of the velocity solve, of the closing
-//! check of each, alone and with its list of margins, and of the inverse of a local inertia in
-//! `libkapitsa_c.a` (`rt staticlib kapitsa_c`), an archive for x86-64. The archive tests every count, length and number itself.
-//! Here stands what it cannot see to: that the work memory is there and carved without overlap, and
-//! that the processor is in the mode that it assumes.
+//! Zapekuri for Rust: safe calls of the position solve, at once or proposed and then committed, and of
+//! the velocity solve, of the closing check of each, alone and with its list of margins, and of the
+//! inverse of a local inertia in `libkapitsa_c.a` (`rt staticlib kapitsa_c`), an archive for x86-64.
+//! The archive tests every count, length and number itself. Here stands what it cannot see to: that
+//! the work memory is there and carved without overlap, and that the processor is in the mode that it
+//! assumes.
 
 use std::arch::asm;
 use std::fmt;
@@ -91,6 +92,8 @@ refusals! {
     Shift = 25, "the shift is not finite, below 0 or above 1";
     Rule = 27, "a rule has first above last, a dimension over 1, a last key over 255 or an odd tolerance";
     RulesOfRow = 28, "a row is under no rule, or under several";
+    Committed = 29, "commit: the proposal bears the mark";
+    Moved = 30, "commit: a multiplier or the row count is not what the proposal started from";
 }
 
 impl fmt::Display for Refusal {
@@ -252,12 +255,13 @@ pub struct VelocityDelivered<'a> {
     pub rule_numbers: &'a mut [u32],
 }
 
-/// A solve of the archive, in the default mode: counts and maxima. `$lent` is what it reads beside
-/// rows, masses and rules, `$moved` what it writes beside the rest, if anything.
+/// A solve of the archive, in the default mode. `$numbers` points to the rows' doubles, `$lent` is what
+/// it reads beside rows, masses and rules, `$moved` what it writes beside the rest, if anything, and
+/// `$told` where it puts its answer.
 #[rustfmt::skip]
 macro_rules! solve {
-    ($function:ident, $tables:ident, $lent:expr, $rules:ident, $limit:ident, $mode:ident,
-     $shift:ident, $to:ident, [$($moved:expr)?], $work:ident) => {{
+    ($function:ident, $tables:ident, $numbers:expr, $lent:expr, $rules:ident, $limit:ident,
+     $mode:ident, $shift:ident, $to:ident, [$($moved:expr)?], [$($told:expr),*], $work:ident) => {{
         let (n, b) = counts($tables.words, $tables.masses)?;
         let (pattern_len, order_len, values_len) = factor_lengths(n, $mode);
         let (mut doubles, mut words) =
@@ -274,13 +278,11 @@ macro_rules! solve {
         let pattern = carve(&mut words, pattern_len);
         let order = carve(&mut words, order_len);
         let values = carve(&mut doubles, values_len);
-        let mut counts = [0; 2];
-        let mut maxima = [0.0; 2];
         let control = DefaultControl::set();
         // SAFETY: each pointer and length is of one slice, and no two of the slices overlap.
         let refusal = unsafe {
             $function(
-                $tables.numbers.as_mut_ptr(), $tables.numbers.len(),
+                $numbers, $tables.numbers.len(),
                 $tables.words.as_ptr(), $tables.words.len(),
                 $tables.masses.as_ptr(), $tables.masses.len(),
                 $lent.as_ptr(), $lent.len(),
@@ -291,7 +293,7 @@ macro_rules! solve {
                 $to.impulses.as_mut_ptr(), $to.impulses.len(),
                 $($moved.as_mut_ptr(), $moved.len(),)?
                 $to.rule_numbers.as_mut_ptr(), $to.rule_numbers.len(),
-                counts.as_mut_ptr(), counts.len(), maxima.as_mut_ptr(), maxima.len(),
+                $($told.as_mut_ptr(), $told.len(),)*
                 jacobians.as_mut_ptr(), jacobians.len(), links.as_mut_ptr(), links.len(),
                 tolerances.as_mut_ptr(), tolerances.len(), diagonal.as_mut_ptr(), diagonal.len(),
                 residual.as_mut_ptr(), residual.len(), pending.as_mut_ptr(), pending.len(),
@@ -305,7 +307,6 @@ macro_rules! solve {
         if refusal != 0 {
             return Err(Refusal::of(refusal));
         }
-        (counts, maxima)
     }};
 }
 
@@ -324,10 +325,11 @@ pub fn solve_position(
     to: Delivered,
     work: &mut Work,
 ) -> Result<Answer, Refusal> {
+    let (mut counts, mut maxima) = ([0; 2], [0.0; 2]);
     #[rustfmt::skip]
-    let (counts, maxima) = solve!(
-        kapitsa_solve_position, tables, tables.centres, rules, limit, mode, shift, to,
-        [to.new_centres], work
+    solve!(
+        kapitsa_solve_position, tables, tables.numbers.as_mut_ptr(), tables.centres, rules, limit,
+        mode, shift, to, [to.new_centres], [counts, maxima], work
     );
     Ok(Answer {
         converged: counts[1] == 1,
@@ -335,6 +337,109 @@ pub fn solve_position(
         linear_residual_m: maxima[0],
         angular_residual_rad: maxima[1],
     })
+}
+
+/// A position solve before the rows change: what it answers, and what a commit makes of it. Its memory
+/// is its own, so that nobody else can write to it. Dropped, it has changed nothing.
+pub struct Proposal {
+    /// Rows, flag, count and mark.
+    words: [u32; 4],
+    maxima: [f64; 2],
+    solution: Vec<f64>,
+    impulses: Vec<f64>,
+    new_centres: Vec<f64>,
+    rule_numbers: Vec<u32>,
+    started: Vec<f64>,
+}
+
+impl Proposal {
+    pub fn answer(&self) -> Answer {
+        Answer {
+            converged: self.words[1] == 1,
+            iterations: self.words[2],
+            linear_residual_m: self.maxima[0],
+            angular_residual_rad: self.maxima[1],
+        }
+    }
+
+    /// One a row.
+    pub fn solution(&self) -> &[f64] {
+        &self.solution
+    }
+
+    /// Six a body.
+    pub fn impulses(&self) -> &[f64] {
+        &self.impulses
+    }
+
+    /// Where each body's centre ends up, three a body.
+    pub fn new_centres(&self) -> &[f64] {
+        &self.new_centres
+    }
+
+    /// The number of each row's rule.
+    pub fn rule_numbers(&self) -> &[u32] {
+        &self.rule_numbers
+    }
+
+    /// The accumulated multipliers that it started from, one a row.
+    pub fn started(&self) -> &[f64] {
+        &self.started
+    }
+
+    pub fn is_committed(&self) -> bool {
+        self.words[3] != 0
+    }
+
+    /// Writes the new multipliers into the rows, 27 doubles each, and marks the proposal; with count 0
+    /// they keep their bits. `Committed` where it bears the mark already, then `Moved` where the rows
+    /// are not as many as it started from or a multiplier has other bits; neither writes.
+    #[inline(never)]
+    pub fn commit(&mut self, numbers: &mut [f64]) -> Result<(), Refusal> {
+        let rows = (numbers.len() / 27).min(MAX_ROWS + 1) as u32;
+        let control = DefaultControl::set();
+        // SAFETY: each pointer and length is of one slice, and no two of the slices overlap.
+        #[rustfmt::skip]
+        let refusal = unsafe {
+            kapitsa_commit_proposal(
+                numbers.as_mut_ptr(), numbers.len(), rows,
+                self.words.as_mut_ptr(), self.words.len(),
+                self.solution.as_ptr(), self.solution.len(),
+                self.started.as_ptr(), self.started.len(),
+            )
+        };
+        drop(control);
+        if refusal == 0 { Ok(()) } else { Err(Refusal::of(refusal)) }
+    }
+}
+
+/// `solve_position` up to its last step: the rows are only read, and what it would make of them is
+/// proposed. It answers as ever, `Result` too, and a refused one makes no proposal.
+#[inline(never)]
+pub fn propose_position(
+    tables: &Tables,
+    rules: &Rules,
+    limit: u32,
+    mode: Mode,
+    shift: f64,
+    work: &mut Work,
+) -> Result<Proposal, Refusal> {
+    let (rows, bodies) = counts(tables.words, tables.masses)?;
+    let mut to = Proposal {
+        words: [0; 4],
+        maxima: [0.0; 2],
+        solution: vec![0.0; rows],
+        impulses: vec![0.0; 6 * bodies],
+        new_centres: vec![0.0; 3 * bodies],
+        rule_numbers: vec![0; rows],
+        started: vec![0.0; rows],
+    };
+    #[rustfmt::skip]
+    solve!(
+        kapitsa_propose_position, tables, tables.numbers.as_ptr(), tables.centres, rules, limit, mode,
+        shift, to, [to.new_centres], [to.words, to.started, to.maxima], work
+    );
+    Ok(to)
 }
 
 /// Solves for speeds, as `solve_position` for places: of `tables.numbers` each row's accumulated
@@ -350,9 +455,11 @@ pub fn solve_velocity(
     to: VelocityDelivered,
     work: &mut Work,
 ) -> Result<VelocityAnswer, Refusal> {
+    let (mut counts, mut maxima) = ([0; 2], [0.0; 2]);
     #[rustfmt::skip]
-    let (counts, maxima) = solve!(
-        kapitsa_solve_velocity, tables, tables.residuals, rules, limit, mode, shift, to, [], work
+    solve!(
+        kapitsa_solve_velocity, tables, tables.numbers.as_mut_ptr(), tables.residuals, rules, limit,
+        mode, shift, to, [], [counts, maxima], work
     );
     Ok(VelocityAnswer {
         converged: counts[1] == 1,
@@ -559,6 +666,31 @@ unsafe extern "C" {
         direction: *mut f64, direction_len: usize, product: *mut f64, product_len: usize,
         body_impulses: *mut f64, body_impulses_len: usize, pattern: *mut u32, pattern_len: usize,
         order: *mut u32, order_len: usize, values: *mut f64, values_len: usize,
+    ) -> u32;
+
+    fn kapitsa_propose_position(
+        numbers: *const f64, numbers_len: usize, words: *const u32, words_len: usize,
+        masses: *const f64, masses_len: usize, centres: *const f64, centres_len: usize,
+        rule_words: *const u32, rule_words_len: usize,
+        rule_tolerances: *const f64, rule_tolerances_len: usize,
+        rows: u32, bodies: u32, limit: u32, mode: u32, shift: f64,
+        solution: *mut f64, solution_len: usize, impulses: *mut f64, impulses_len: usize,
+        new_centres: *mut f64, new_centres_len: usize,
+        rule_numbers: *mut u32, rule_numbers_len: usize,
+        proposal: *mut u32, proposal_len: usize, started: *mut f64, started_len: usize,
+        maxima: *mut f64, maxima_len: usize,
+        jacobians: *mut f64, jacobians_len: usize, links: *mut u32, links_len: usize,
+        tolerances: *mut f64, tolerances_len: usize, diagonal: *mut f64, diagonal_len: usize,
+        residual: *mut f64, residual_len: usize, pending: *mut f64, pending_len: usize,
+        direction: *mut f64, direction_len: usize, product: *mut f64, product_len: usize,
+        body_impulses: *mut f64, body_impulses_len: usize, pattern: *mut u32, pattern_len: usize,
+        order: *mut u32, order_len: usize, values: *mut f64, values_len: usize,
+    ) -> u32;
+
+    fn kapitsa_commit_proposal(
+        numbers: *mut f64, numbers_len: usize, rows: u32,
+        proposal: *mut u32, proposal_len: usize, solution: *const f64, solution_len: usize,
+        started: *const f64, started_len: usize,
     ) -> u32;
 
     fn kapitsa_solve_velocity(

@@ -10,7 +10,9 @@
    where the check says closed, each row and its number, in the order of document 02, m. `answer` is
    refusal (0: accepted), count, flag, bits of the linear maximum, bits of the angular maximum; for
    the check, with its list or without: refusal, verdict (1: closed), bits of the linear gap, bits of
-   the angular gap. Where a call is refused, all but the refusal are 0. */
+   the angular gap. Where a call is refused, all but the refusal are 0. Of document 02, l: proposal
+   gets rows, flag, count and mark, started the multipliers that the proposal started from; its answer
+   is refusal and the bits of both maxima, a commit's the refusal alone. */
 #include <stddef.h>
 #include <stdint.h>
 
@@ -48,6 +50,41 @@ void oracle_solve_position(
                            rule_tolerances_len, rows, bodies, limit, mode, shift, solution,
                            solution_len, impulses, impulses_len, new_centres, new_centres_len,
                            rule_numbers, rule_numbers_len, answer, answer_len);
+}
+
+/* A proposal of an implementation, and the driver's. */
+#define PROPOSE(name)                                                                           \
+    void name(const double *numbers, size_t numbers_len, const uint32_t *words,                 \
+              size_t words_len, const double *masses, size_t masses_len, const double *centres, \
+              size_t centres_len, const uint32_t *rule_words, size_t rule_words_len,            \
+              const double *rule_tolerances, size_t rule_tolerances_len, uint32_t rows,         \
+              uint32_t bodies, uint32_t limit, uint32_t mode, double shift, uint32_t *proposal, \
+              size_t proposal_len, double *solution, size_t solution_len, double *impulses,     \
+              size_t impulses_len, double *new_centres, size_t new_centres_len, double *started,\
+              size_t started_len, uint32_t *rule_numbers, size_t rule_numbers_len,              \
+              uint64_t *answer, size_t answer_len)
+#define COMMIT(name)                                                                            \
+    void name(double *numbers, size_t numbers_len, uint32_t rows, uint32_t *proposal,           \
+              size_t proposal_len, const double *solution, size_t solution_len,                 \
+              const double *started, size_t started_len, uint64_t *answer, size_t answer_len)
+
+PROPOSE(kapitsa_propose_position);
+COMMIT(kapitsa_commit_proposal);
+
+PROPOSE(oracle_propose_position)
+{
+    kapitsa_propose_position(numbers, numbers_len, words, words_len, masses, masses_len, centres,
+                             centres_len, rule_words, rule_words_len, rule_tolerances,
+                             rule_tolerances_len, rows, bodies, limit, mode, shift, proposal,
+                             proposal_len, solution, solution_len, impulses, impulses_len,
+                             new_centres, new_centres_len, started, started_len, rule_numbers,
+                             rule_numbers_len, answer, answer_len);
+}
+
+COMMIT(oracle_commit_proposal)
+{
+    kapitsa_commit_proposal(numbers, numbers_len, rows, proposal, proposal_len, solution,
+                            solution_len, started, started_len, answer, answer_len);
 }
 
 void oracle_solve_velocity(

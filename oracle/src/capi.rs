@@ -92,6 +92,59 @@ fn solve(job: &Job, numbers: &mut [f64], to: Outputs) -> [u64; 5] {
     solved.answer.words()
 }
 
+/// A proposal (document 02, l): the solve on a copy of the rows, and what it started from.
+struct Proposed<'a> {
+    words: &'a mut [u32],
+    started: &'a mut [f64],
+}
+
+fn propose(job: &Job, to: Outputs, proposed: Proposed) -> [u64; 3] {
+    if (proposed.words.len(), proposed.started.len()) != (4, job.rows as usize) {
+        return [3, 0, 0];
+    }
+    let [refusal, count, flag, linear, angular] = solve(job, &mut job.numbers.clone(), to);
+    if refusal == 0 {
+        proposed.words.copy_from_slice(&[job.rows, flag as u32, count as u32, 0]);
+        for (to, row) in proposed.started.iter_mut().zip(job.numbers.chunks_exact(ROW_NUMBERS)) {
+            *to = row[job.kind.gains()];
+        }
+    }
+    [refusal, linear, angular]
+}
+
+/// 0, or 3, 29 or 30, which write nothing.
+fn commit(
+    numbers: &mut [f64],
+    rows: u32,
+    proposed: &mut [u32],
+    solution: &[f64],
+    started: &[f64],
+) -> u64 {
+    let &mut [proposed_rows, _, count, ref mut mark] = proposed else {
+        return 3;
+    };
+    let lent = [numbers.len(), solution.len(), started.len()];
+    let proposed_rows = proposed_rows as usize;
+    if rows > 512 || lent != [ROW_NUMBERS * rows as usize, proposed_rows, proposed_rows] {
+        return 3;
+    }
+    if *mark != 0 {
+        return 29;
+    }
+    let place = Kind::Position.gains();
+    let same = |(row, start): (&[f64], &f64)| row[place].to_bits() == start.to_bits();
+    if rows as usize != proposed_rows || !numbers.chunks_exact(ROW_NUMBERS).zip(started).all(same) {
+        return 30;
+    }
+    if count != 0 {
+        for (row, gain) in numbers.chunks_exact_mut(ROW_NUMBERS).zip(solution) {
+            row[place] += gain;
+        }
+    }
+    *mark = 1;
+    0
+}
+
 /// What a check with its list is lent for it.
 struct Lists<'a> {
     rows: &'a mut [u32],
@@ -159,6 +212,69 @@ pub unsafe extern "C" fn kapitsa_solve_position(
     let numbers = unsafe { from_raw_parts_mut(numbers, numbers_len) };
     let found = solve(&Job { limit, mode, shift, ..job }, numbers, to);
     unsafe { from_raw_parts_mut(answer, answer_len) }.copy_from_slice(&found);
+}
+
+/// # Safety
+/// Every pointer is followed by the number of elements that it lends.
+#[unsafe(no_mangle)]
+#[allow(clippy::too_many_arguments)]
+#[rustfmt::skip]
+pub unsafe extern "C" fn kapitsa_propose_position(
+    numbers: *const f64, numbers_len: usize,
+    words: *const u32, words_len: usize,
+    masses: *const f64, masses_len: usize,
+    centres: *const f64, centres_len: usize,
+    rule_words: *const u32, rule_words_len: usize,
+    rule_tolerances: *const f64, rule_tolerances_len: usize,
+    rows: u32, bodies: u32, limit: u32, mode: u32, shift: f64,
+    proposal: *mut u32, proposal_len: usize,
+    solution: *mut f64, solution_len: usize,
+    impulses: *mut f64, impulses_len: usize,
+    new_centres: *mut f64, new_centres_len: usize,
+    started: *mut f64, started_len: usize,
+    rule_numbers: *mut u32, rule_numbers_len: usize,
+    answer: *mut u64, answer_len: usize,
+) {
+    let tables = Tables {
+        numbers: (numbers, numbers_len), words: (words, words_len), masses: (masses, masses_len),
+        lent: (centres, centres_len), rule_words: (rule_words, rule_words_len),
+        rule_tolerances: (rule_tolerances, rule_tolerances_len),
+    };
+    let job = unsafe { tables.job(Kind::Position, rows, bodies) };
+    let to = Outputs {
+        solution: unsafe { from_raw_parts_mut(solution, solution_len) },
+        impulses: unsafe { from_raw_parts_mut(impulses, impulses_len) },
+        new_centres: unsafe { from_raw_parts_mut(new_centres, new_centres_len) },
+        rule_numbers: unsafe { from_raw_parts_mut(rule_numbers, rule_numbers_len) },
+    };
+    let proposed = Proposed {
+        words: unsafe { from_raw_parts_mut(proposal, proposal_len) },
+        started: unsafe { from_raw_parts_mut(started, started_len) },
+    };
+    let found = propose(&Job { limit, mode, shift, ..job }, to, proposed);
+    unsafe { from_raw_parts_mut(answer, answer_len) }.copy_from_slice(&found);
+}
+
+/// # Safety
+/// Every pointer is followed by the number of elements that it lends.
+#[unsafe(no_mangle)]
+#[allow(clippy::too_many_arguments)]
+#[rustfmt::skip]
+pub unsafe extern "C" fn kapitsa_commit_proposal(
+    numbers: *mut f64, numbers_len: usize, rows: u32,
+    proposal: *mut u32, proposal_len: usize,
+    solution: *const f64, solution_len: usize,
+    started: *const f64, started_len: usize,
+    answer: *mut u64, answer_len: usize,
+) {
+    let found = unsafe {
+        commit(
+            from_raw_parts_mut(numbers, numbers_len), rows,
+            from_raw_parts_mut(proposal, proposal_len),
+            from_raw_parts(solution, solution_len), from_raw_parts(started, started_len),
+        )
+    };
+    unsafe { from_raw_parts_mut(answer, answer_len) }.copy_from_slice(&[found]);
 }
 
 /// # Safety

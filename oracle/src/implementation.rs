@@ -52,6 +52,7 @@ impl Solve {
 }
 
 /// What a solve is lent to write into, besides the rows. A velocity solve writes no centres.
+#[derive(Clone)]
 pub struct Outputs {
     pub solution: Vec<f64>,
     pub impulses: Vec<f64>,

@@ -19,6 +19,7 @@ mod listing;
 mod model;
 mod packing;
 mod program;
+mod proposals;
 mod random;
 mod recorded;
 mod tally;
@@ -37,6 +38,7 @@ const USAGE: &str = "usage: oracle/run COMMAND
   shifts LIBRARY [JOBS] [SEED]    the same with a shift for each job
   rules LIBRARY [JOBS] [SEED]     the same with a table of rules for each job
   centres LIBRARY [JOBS] [SEED]   the same with centres for each job's bodies
+  proposals LIBRARY [JOBS] [SEED] propose and commit against the undivided solve, with changes between them
   velocities tally [JOBS] [SEED]  outcomes of generated velocity jobs, reference against model
   velocities drive LIBRARY [JOBS] [SEED]
                                   velocity solves and their checks, with rules and shifts among them
@@ -95,6 +97,7 @@ fn command(words: &[&str]) -> Result<bool, String> {
         ["centres", library, ..] => {
             driver::centres(library, number(2, 100_000)?, number(3, 1)?, &home())
         }
+        ["proposals", library, ..] => proposals::run(library, number(2, 200_000)?, number(3, 1)?),
         ["velocities", "sheets"] => Ok(velocities::sheets()),
         ["velocities", "drive", library, ..] => {
             driver::velocities(library, number(3, 100_000)?, number(4, 1)?, &home())

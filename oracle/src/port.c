@@ -83,6 +83,44 @@ void oracle_solve_position(
     tell_solved(refusal, to, answer, answer_len);
 }
 
+/* What a proposal tells beside its words: the maxima. */
+void oracle_propose_position(
+    const double *numbers, size_t numbers_len, const uint32_t *words, size_t words_len,
+    const double *masses, size_t masses_len, const double *centres, size_t centres_len,
+    const uint32_t *rule_words, size_t rule_words_len,
+    const double *rule_tolerances, size_t rule_tolerances_len,
+    uint32_t rows, uint32_t bodies, uint32_t limit, uint32_t mode, double shift,
+    uint32_t *proposal, size_t proposal_len, double *solution, size_t solution_len,
+    double *impulses, size_t impulses_len, double *new_centres, size_t new_centres_len,
+    double *started, size_t started_len, uint32_t *rule_numbers, size_t rule_numbers_len,
+    uint64_t *answer, size_t answer_len)
+{
+    struct solved to = unsolved();
+    uint64_t told[5] = {0};
+    if (proposal_len != KAPITSA_PROPOSAL_WORDS || answer_len != 3)
+        return;
+    uint32_t refusal = kapitsa_propose_in(
+        numbers, numbers_len, words, words_len, masses, masses_len, centres, centres_len, rule_words,
+        rule_words_len, rule_tolerances, rule_tolerances_len, rows, bodies, limit, mode, shift,
+        solution, solution_len, impulses, impulses_len, new_centres, new_centres_len, rule_numbers,
+        rule_numbers_len, proposal, started, started_len, to.maxima,
+        work_doubles, kapitsa_solve_doubles(rows, bodies, mode),
+        work_words, kapitsa_solve_words(rows, bodies, mode));
+    tell_solved(refusal, to, told, 5);
+    answer[0] = told[0];
+    memcpy(answer + 1, told + 3, 2 * sizeof told[0]);
+}
+
+void oracle_commit_proposal(
+    double *numbers, size_t numbers_len, uint32_t rows, uint32_t *proposal, size_t proposal_len,
+    const double *solution, size_t solution_len, const double *started, size_t started_len,
+    uint64_t *answer, size_t answer_len)
+{
+    if (answer_len == 1)
+        answer[0] = kapitsa_commit_proposal(numbers, numbers_len, rows, proposal, proposal_len,
+                                            solution, solution_len, started, started_len);
+}
+
 void oracle_solve_velocity(
     double *numbers, size_t numbers_len, const uint32_t *words, size_t words_len,
     const double *masses, size_t masses_len, const double *residuals, size_t residuals_len,

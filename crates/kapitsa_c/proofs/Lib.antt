@@ -1,3 +1,4 @@
 pub mod Telling
 pub mod Verdicts
 pub mod Listed
+pub mod Proposals

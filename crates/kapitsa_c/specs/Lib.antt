@@ -1,3 +1,4 @@
 pub mod Closing
 pub mod Margins
+pub mod Proposing
 pub mod Solving

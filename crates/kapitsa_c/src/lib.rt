@@ -5,6 +5,7 @@ pub mod closing_speeds; // closing_speeds.rt: the closing check of velocities
 pub mod inverting; // inverting.rt: the inverse of a local inertia
 pub mod margins; // margins.rt: the closing checks that list their margins
 pub mod moving; // moving.rt: the velocity solve
+pub mod proposing; // proposing.rt: the position solve in two steps
 pub mod solving; // solving.rt: the position solve
 
 pub use closing::kapitsa_closing_check;
@@ -13,4 +14,6 @@ pub use inverting::kapitsa_inverse_spd;
 pub use margins::kapitsa_closing_margins;
 pub use margins::kapitsa_velocity_closing_margins;
 pub use moving::kapitsa_solve_velocity;
+pub use proposing::kapitsa_commit_proposal;
+pub use proposing::kapitsa_propose_position;
 pub use solving::kapitsa_solve_position;

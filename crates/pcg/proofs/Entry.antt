@@ -1,4 +1,4 @@
--- The ways through the solve: refusal 3, and the outcome of what is counted and delivered. Assumes nothing.
+-- The ways through the solve: refusal 3, and the outcome of what is counted, proposed and committed. Assumes nothing.
 use Prim.Native.Nat.{ℕ, _*_, _<_, _≤_}
 use mathlib.Core.Path.{_≡_, sym, ap, _∙_}
 use mathlib.Core.Bool.{Bool, true, false, not}
@@ -32,7 +32,7 @@ use Rattle.position_steps.specs.Opening.{openedOut}
 use Rattle.position_steps.specs.Counting.{CountHeld}
 use Rattle.position_steps.specs.declared.opening.Opened.{Opened}
 use Rattle.position_steps.proofs.Counted.{counted-of}
-use Rattle.position_delivery.specs.Delivery.{finishedOf}
+use Rattle.position_delivery.specs.Delivery.{committedBy, finishedOf}
 use Rattle.position_delivery.specs.Outcome.{Lent, Outcome, outcomeAt}
 use Rattle.position_delivery.specs.declared.answer.PositionPcg.{PositionPcg}
 use Rattle.position_delivery.specs.declared.answer.PositionPcg.the-variants as answers
@@ -64,6 +64,12 @@ module _ (fits : Bool) (p : Problem) (mode : Mode) (limit place n : ℕ) (before
       let q = entry-refused p mode place n limit before b fits e h in
       record { answered = q; means = entry-means (methodOf fits p mode) limit place n before before (answers.Refused 3) q; in-place = problem-in-place p mode fits limit apart; memory = after-three b fits e work h }
 
+  -- told by what a commit makes of the rows
+  pub proposed-three : not b ≡ true
+      → SolveHeld fits p mode limit place n before (record { numbers = committedBy place (answers.Refused 3) (before .numbers) (before .solution); solution = before .solution; impulses = before .impulses; centres = before .centres }) (answers.Refused 3) work work
+  unfolding committedBy
+  proposed-three h = solved-three h
+
   solved-on : (x : Run (Bool × ℕ × Iterate) ℕ) (after : Lent) (answer : PositionPcg) (workAfter : WorkMemory) → not b ≡ false → countedOf mode p limit ≡ x
       → outcomeAt place n before (next x (finishedOf (p .table) (p .accumulated) (p .centres))) ≡ record { answer = answer; lent = after } → workAfter .steps ≡ clearedSteps (work .steps) → workAfter .table ≡ clearedTable (work .table)
       → SolveHeld fits p mode limit place n before after answer work workAfter
@@ -72,7 +78,11 @@ module _ (fits : Bool) (p : Problem) (mode : Mode) (limit place n : ℕ) (before
       let answered = entry-on p mode place n limit before b fits e o h (delivered-of p mode place n limit before x o counted d) in
       record { answered = answered; means = entry-means (methodOf fits p mode) limit place n before after answer answered; in-place = problem-in-place p mode fits limit apart; memory = after-cleared b fits e work workAfter h (work-cleared work workAfter es et) }
 
--- judged, counted and delivered, of either kind
+-- what is lent, the rows as a commit leaves them
+abbrev left : List Float → ℕ → PositionPcg → List Float → List Float → List Float → Lent
+left numbers place answer solution impulses new = record { numbers = committedBy place answer numbers solution; solution = solution; impulses = impulses; centres = new }
+
+-- judged, counted and proposed, of either kind
 module _ (kind : Kind) (rows bodies : ℕ) (numbers : List Float) (words : List ℕ) (masses centres given : List Float) (rules : Rules) (shift : Float) (mode : Mode) (limit : ℕ) (before : Lent) (work : WorkMemory) (fits b : Bool) (e : b ≡ fits)
     (long : length centres ≡ 3 * placedOf kind bodies) where
   abbrev problem : Problem
@@ -83,15 +93,16 @@ module _ (kind : Kind) (rows bodies : ℕ) (numbers : List Float) (words : List 
 
   pub solved-kind : (m : Mode) → m ≡ mode → (placed : ℕ) → placed ≡ placedOf kind bodies → (finite : Bool) → finite ≡ centresFinite (centresIn placed centres)
       → (opened : Opened) → judge (afterThree (stepsFor kind rows bodies numbers words masses given rules shift finite) limit) ≡ openedOut opened → (place : ℕ) → place ≡ placeOf kind
-      → (jacobians : List Float) (links : List ℕ) (pending residual : List Float) (c : Iterated) (after : Lent) (answer : PositionPcg) (workAfter : WorkMemory) → not b ≡ false
+      → (jacobians : List Float) (links : List ℕ) (pending residual : List Float) (c : Iterated) (answer : PositionPcg) (solution impulses new : List Float) (workAfter : WorkMemory) → not b ≡ false
       → CountHeld m (kindOf kind rows bodies numbers words masses given rules) opened limit masses c jacobians links pending residual (work .steps) (workAfter .steps)
-      → outcomeAt place rows before (next (iteratedOut c limit pending residual) (finishedOf table (accumulatedIn place numbers) (centresIn placed centres))) ≡ record { answer = answer; lent = after } → workAfter .table ≡ clearedTable (work .table)
-      → SolveHeld fits problem mode limit (placeOf kind) rows before after answer work workAfter
-  solved-kind m em placed ep finite ef opened eo place epl jacobians links pending residual c after answer workAfter h held d et =
+      → outcomeAt place rows before (next (iteratedOut c limit pending residual) (finishedOf table (accumulatedIn place numbers) (centresIn placed centres))) ≡ record { answer = answer; lent = left numbers place answer solution impulses new } → workAfter .table ≡ clearedTable (work .table)
+      → SolveHeld fits problem mode limit (placeOf kind) rows before (left numbers (placeOf kind) answer solution impulses new) answer work workAfter
+  solved-kind m em placed ep finite ef opened eo place epl jacobians links pending residual c answer solution impulses new workAfter h held d et =
       let found = ef ∙ ap (λ (k : ℕ). centresFinite (centresIn k centres)) ep in
       let counted = counted-of kind rows bodies numbers words masses centres given rules shift m limit finite opened found eo ∙ held .answered in
       let x = iteratedOut c limit pending residual in
+      let after = left numbers (placeOf kind) answer solution impulses new in
       let o : Outcome = record { answer = answer; lent = after } in
       solved-on fits problem mode limit (placeOf kind) rows before work b (solve-apart kind rows bodies numbers words masses centres given rules shift) e x after answer workAfter h
       (ap (λ (k : Mode). countedOf k problem limit) (sym em) ∙ counted)
-      (delivered-in kind rows bodies numbers words masses centres given rules shift long place placed rows before x o epl ep d) (held .memory) et
+      (delivered-in kind rows bodies numbers words masses centres given rules shift long place placed rows before x o epl ep (d ∙ ap (λ (k : ℕ). record { answer = answer; lent = left numbers k answer solution impulses new }) epl)) (held .memory) et

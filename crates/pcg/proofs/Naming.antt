@@ -1,5 +1,5 @@
--- The rule of each row, from what the solve by rules promises. Assumes nothing.
-use Prim.Native.Nat.{ℕ, _*_, _≤_}
+-- The commit and the rule of each row, from what the solve by rules promises. Assumes nothing.
+use Prim.Native.Nat.{ℕ, _*_, _<_, _≤_}
 use mathlib.Core.Path.{_≡_, refl, sym, ap, _∙_}
 use mathlib.Core.Bool.{Bool, true, false, not, _&&_}
 use mathlib.Core.List.{List}
@@ -25,6 +25,7 @@ use Rattle.position.specs.Problem.{Problem}
 use Rattle.position.specs.Kinds.{GivenRoom}
 use Rattle.position_iteration.specs.Method.{openingOf, openingTests, methodOf}
 use Rattle.position_iteration.specs.Position.{solveFor}
+use Rattle.position_delivery.specs.Delivery.{CommitRoom, committedBy}
 use Rattle.position_delivery.specs.Outcome.{Lent, Outcome, proposalOf, outcomeAt}
 use Rattle.position_delivery.specs.declared.answer.PositionPcg.{PositionPcg}
 use Rattle.position_delivery.specs.declared.answer.PositionPcg.the-variants as answers
@@ -95,6 +96,24 @@ unfolding AllPass
 naming-room fits p mode limit place n before after held long e = record {
   room = λ r a. let w = long (accepted-tests fits p mode limit place n before after (held .answered) r a .0) in omega arith;
 }
+
+-- ---- the commit: what it has room for, and what it leaves
+within : (kind : Kind) {place : ℕ} → place ≡ placeOf kind → place < 27
+within kinds.Position e = omega arith
+within kinds.Velocity e = omega arith
+
+pub commit-room : (kind : Kind) (fits : Bool) (p : Problem) (mode : Mode) (limit n : ℕ) (before after : Lent) {answer : PositionPcg} {work workAfter : WorkMemory} {place solution numbers : ℕ} → SolveHeld fits p mode limit (placeOf kind) n before after answer work workAfter
+    → place ≡ placeOf kind → (fits ≡ true → numbers ≡ 27 * n) → (fits ≡ true → solution ≡ n) → CommitRoom place answer solution numbers
+unfolding AllPass
+commit-room kind fits p mode limit n before after held e rows long = record {
+  within = within kind e;
+  room = λ r a. let f = accepted-tests fits p mode limit (placeOf kind) n before after (held .answered) r a .0 in let w = rows f in let l = long f in omega arith;
+}
+
+pub committed-held : (kind : Kind) (numbers : List Float) {fits : Bool} {p : Problem} {mode : Mode} {limit n place : ℕ} {before : Lent} {numbersAfter solution impulses centres : List Float} {answer : PositionPcg} {work workAfter : WorkMemory} → place ≡ placeOf kind → numbersAfter ≡ committedBy place answer numbers solution
+    → SolveHeld fits p mode limit (placeOf kind) n before (record { numbers = committedBy (placeOf kind) answer numbers solution; solution = solution; impulses = impulses; centres = centres }) answer work workAfter
+    → SolveHeld fits p mode limit (placeOf kind) n before (record { numbers = numbersAfter; solution = solution; impulses = impulses; centres = centres }) answer work workAfter
+committed-held kind numbers e h held = rw (h, e) held
 
 -- ---- the entry, of either kind; b is what the test of the lengths of what is lent beside the table answered
 module _ (kind : Kind) (s : Rules) (rows bodies : ℕ) (numbers : List Float) (words : List ℕ) (masses centres given : List Float) (shift : Float) (mode : Mode) (limit : ℕ) (before : Lent) (named : List ℕ) (work : WorkMemory) (a b q : Bool) (e : b ≡ a) where

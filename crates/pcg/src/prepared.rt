@@ -10,11 +10,13 @@ ghost use Rattle.position_iteration.specs.Position.{positionOf, solveFor};
 ghost use Rattle.work_memory.specs.Work.{workMemory};
 ghost use Rattle.work_memory.specs.Lengths.{passes3};
 ghost use Rattle.pcg.specs.Ruled.{rulesLent, residualLent, centresLent, besideLent, NamingRoom, namedBy, SolveRuled};
-use crate::solve::solve_by_rules;
+use crate::solve::propose_by_rules;
 use kapitsa_joint::Kind;
+use kapitsa_joint::place_of;
 use kapitsa_joint::placed_of;
 use loops::wide;
 use position_delivery::PositionPcg;
+use position_delivery::commit;
 use rules::name_rules;
 use rules::rule_lengths_fit;
 
@@ -57,7 +59,7 @@ pub fn beside_lent(
 }
 
 // The rule of each row, where the answer is accepted.
-fn name_accepted(
+pub fn name_accepted(
     answer: PositionPcg,
     words: &[u32],
     rule_words: &[u32],
@@ -76,7 +78,7 @@ fn name_accepted(
     }
 }
 
-// Of either kind: solution, impulses, centres, the accumulated numbers and each row's rule are written only where the answer is accepted; the work memory is +0.0 (integers 0) afterwards, except after refusal 3, which writes nothing.
+// Of either kind, proposed and committed: solution, impulses, centres, the accumulated numbers and each row's rule are written only where the answer is accepted; the work memory is +0.0 (integers 0) afterwards, except after refusal 3, which writes nothing.
 pub fn solve_prepared(
     kind: Kind,
     numbers: &mut [f64],
@@ -133,7 +135,7 @@ pub fn solve_prepared(
     if !lent {
         return PositionPcg::Refused(3);
     }
-    let answer = solve_by_rules(
+    let answer = propose_by_rules(
         kind,
         numbers,
         words,
@@ -163,6 +165,7 @@ pub fn solve_prepared(
         order,
         values,
     );
+    commit(place_of(kind), answer, numbers, solution);
     name_accepted(answer, words, rule_words, rule_tolerances, rule_numbers);
     answer
 }

@@ -1,4 +1,4 @@
-// The solve of either kind, by rules, centres and a residual that are lent in the right lengths: solve_position_pcg_prepared and solve_velocity_pcg_prepared of pcg.rs, with every refusal of documents 01 and 02 but 3 of these.
+// What a solve of either kind proposes, by rules, centres and a residual that are lent in the right lengths: solve_position_pcg_prepared and solve_velocity_pcg_prepared of pcg.rs up to the accumulated numbers, with every refusal of documents 01 and 02 but 3 of these.
 ghost use mathlib.Core.Path.{_≡_};
 ghost use Prim.Native.Nat.{_*_, _≤_};
 ghost use lib.ListN.{length};
@@ -9,6 +9,7 @@ ghost use Rattle.position.specs.Kinds.{GivenRoom};
 ghost use Rattle.position_iteration.specs.Position.{solveFor};
 ghost use Rattle.work_memory.specs.Work.{workMemory};
 ghost use Rattle.work_memory.specs.Lengths.{passes3};
+ghost use Rattle.position_delivery.specs.Delivery.{committedBy};
 ghost use Rattle.pcg.specs.SolveHeld.{SolveHeld};
 use joint_refusals::centres_finite;
 use joint_refusals::counts_fit;
@@ -16,7 +17,7 @@ use kapitsa_joint::Kind;
 use kapitsa_joint::place_of;
 use kapitsa_joint::placed_of;
 use position_delivery::PositionPcg;
-use position_delivery::deliver;
+use position_delivery::propose_and_clear;
 use position_steps::count_steps;
 use position_steps::open_table;
 use preconditioner::mode_of;
@@ -24,10 +25,10 @@ use work_memory::factor_fits;
 use work_memory::table_fits;
 use work_memory::vectors_fit;
 
-// Solution, impulses, centres and the accumulated numbers are written only where the answer is accepted; the work memory is +0.0 (integers 0) afterwards, except after refusal 3, which writes nothing.
-pub fn solve_by_rules(
+// The rows are only read (document 02, l); the contract tells what a commit then makes of them. Solution, impulses and centres are written only where the answer is accepted; the work memory is +0.0 (integers 0) afterwards, except after refusal 3, which writes nothing.
+pub fn propose_by_rules(
     kind: Kind,
-    numbers: &mut [f64],
+    numbers: &[f64],
     words: &[u32],
     masses: &[f64],
     centres: &[f64],
@@ -59,7 +60,7 @@ pub fn solve_by_rules(
     requires { ⌜ (length (now centres) ≡ 3 * placedOf kind bodies) × (length (now «new_centres») ≡ 3 * placedOf kind bodies) × GivenRoom kind (length (now given)) rows ⌝ }
     ensures { λ r. ⌜ SolveHeld (passes3 rows bodies mode (now (numbers .entry)) (now (words .entry)) (now (masses .entry)) (now (solution .entry)) (now (impulses .entry)) (workMemory (now (jacobians .entry)) (now (links .entry)) (now (tolerances .entry)) (now (diagonal .entry)) (now (residual .entry)) (now (pending .entry)) (now (direction .entry)) (now (product .entry)) (now («body_impulses» .entry)) (now (pattern .entry)) (now (order .entry)) (now (values .entry))))
         (solveFor kind rows bodies (now (numbers .entry)) (now (words .entry)) (now (masses .entry)) (now (centres .entry)) (now (given .entry)) (rulesIn (now («rule_words» .entry)) (now («rule_tolerances» .entry))) shift) (modeOf mode shift) limit (placeOf kind) rows
-        record { numbers = now (numbers .entry); solution = now (solution .entry); impulses = now (impulses .entry); centres = now («new_centres» .entry) } record { numbers = now (numbers .exit); solution = now (solution .exit); impulses = now (impulses .exit); centres = now («new_centres» .exit) } r
+        record { numbers = now (numbers .entry); solution = now (solution .entry); impulses = now (impulses .entry); centres = now («new_centres» .entry) } record { numbers = committedBy (placeOf kind) r (now (numbers .entry)) (now (solution .exit)); solution = now (solution .exit); impulses = now (impulses .exit); centres = now («new_centres» .exit) } r
         (workMemory (now (jacobians .entry)) (now (links .entry)) (now (tolerances .entry)) (now (diagonal .entry)) (now (residual .entry)) (now (pending .entry)) (now (direction .entry)) (now (product .entry)) (now («body_impulses» .entry)) (now (pattern .entry)) (now (order .entry)) (now (values .entry)))
         (workMemory (now (jacobians .exit)) (now (links .exit)) (now (tolerances .exit)) (now (diagonal .exit)) (now (residual .exit)) (now (pending .exit)) (now (direction .exit)) (now (product .exit)) (now («body_impulses» .exit)) (now (pattern .exit)) (now (order .exit)) (now (values .exit))) ⌝ }
 {
@@ -137,7 +138,7 @@ pub fn solve_by_rules(
         order,
         values,
     );
-    deliver(
+    propose_and_clear(
         counted,
         limit,
         place_of(kind),

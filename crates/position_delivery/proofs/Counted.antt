@@ -41,25 +41,30 @@ pub counted-refused : (t : Table) (accumulated : ℕ → Float) (c : Centres) (l
 unfolding proposalOf
 counted-refused t accumulated c limit solution impulses new pending residual a k e = ap (proposalOf solution impulses new) (on-ended _ _ _ {a = k} (rw e))
 
--- ---- `commit`
-module _ (place : ℕ) (answer : PositionPcg) (numbers solution : List Float) where
-  pub commit-none : (r : PositionPcgResult) → answer ≡ answers.Accepted r → r .iterations ≡ 0 → numbers ≡ committedBy place answer numbers solution
-  unfolding committedBy gainedAfter
-  commit-none r e z = rw (e, z)
+-- ---- `gain_after`
+module _ (place count : ℕ) (numbers solution : List Float) where
+  pub gains-none : count ≡ 0 → numbers ≡ gainedAfter place count numbers solution
+  unfolding gainedAfter
+  gains-none z = rw z
 
-  pub commit-gains : (r : PositionPcgResult) (after : List Float) → answer ≡ answers.Accepted r → (r .iterations ≡ 0 → ⊥) → after ≡ gained place numbers solution (length solution) → after ≡ committedBy place answer numbers solution
-  unfolding committedBy
-  commit-gains r after e z g = g ∙ rw e (by (r .iterations) z)
+  pub gains-some : (after : List Float) → (count ≡ 0 → ⊥) → after ≡ gained place numbers solution (length solution) → after ≡ gainedAfter place count numbers solution
+  gains-some after z g = g ∙ by count z
     where
       by : (k : ℕ) → (k ≡ 0 → ⊥) → gained place numbers solution (length solution) ≡ gainedAfter place k numbers solution
       by zero z = absurd (z refl)
       by (suc k) z = unfold gainedAfter in refl
 
+-- ---- `commit`
+module _ (place : ℕ) (answer : PositionPcg) (numbers solution : List Float) where
+  pub commit-gains : (r : PositionPcgResult) (after : List Float) → answer ≡ answers.Accepted r → after ≡ gainedAfter place (r .iterations) numbers solution → after ≡ committedBy place answer numbers solution
+  unfolding committedBy
+  commit-gains r after e g = g ∙ rw e
+
   pub commit-refused : (k : ℕ) → answer ≡ answers.Refused k → numbers ≡ committedBy place answer numbers solution
   unfolding committedBy
   commit-refused k e = rw e
 
--- ---- `deliver`: both halves
+-- ---- both halves: what is proposed, and what its commit leaves
 module _ (place : ℕ) (numbers masses : List Float) (words : List ℕ) (rows bodies : ℕ) (c : Centres) (limit : ℕ) (pending residual : List Float) (long : length pending ≡ rows) (solution impulses new : List Float) where
   abbrev table : Table
   table = tableOf rows bodies numbers words masses

@@ -1,5 +1,5 @@
 -- What the functions that deliver hand to one another.
-use Prim.Native.Nat.{ℕ, zero, suc, _+_, _*_}
+use Prim.Native.Nat.{ℕ, zero, suc, _+_, _*_, _<_, _≤_}
 use mathlib.Core.Path.{_≡_}
 use mathlib.Core.Bool.{Bool, true, false, _&&_}
 use mathlib.Core.List.{List}
@@ -21,6 +21,7 @@ use Rattle.position_iteration.specs.Method.{finishOf}
 use Rattle.position_delivery.specs.Outcome.{Answer}
 use Rattle.position_delivery.specs.declared.answer.PositionPcg.{PositionPcg}
 use Rattle.position_delivery.specs.declared.answer.PositionPcg.the-variants as answers
+use Rattle.position_delivery.specs.declared.answer.PositionPcgResult.{PositionPcgResult}
 
 -- the centres after impulses that a list holds
 abbrev pub movedIn : ℕ → List Float → List Float → List Float → Centres
@@ -51,6 +52,11 @@ acceptedOf flag count words residual =
 unfoldable pub gainedAfter : ℕ → ℕ → List Float → List Float → List Float
 gainedAfter place zero numbers solution = numbers
 gainedAfter place (suc count) numbers solution = gained place numbers solution (length solution)
+
+-- the room that this takes, where the answer is accepted
+pub record CommitRoom (place : ℕ) (answer : PositionPcg) (solution numbers : ℕ) : Type 0 where
+  pub within : place < 27
+  pub room : (r : PositionPcgResult) → answer ≡ answers.Accepted r → 27 * solution ≤ numbers
 
 unfoldable pub committedBy : ℕ → PositionPcg → List Float → List Float → List Float
 committedBy place (answers.Accepted r) numbers solution = gainedAfter place (r .iterations) numbers solution

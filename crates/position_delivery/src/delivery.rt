@@ -14,7 +14,7 @@ ghost use Rattle.position.specs.Multipliers.{accumulatedIn};
 ghost use Rattle.position_iteration.specs.Standing.{iteratedOut};
 ghost use Rattle.position_iteration.specs.Stands.{StandsAfter, Stands};
 ghost use Rattle.position_delivery.specs.Outcome.{proposalOf, outcomeAt};
-ghost use Rattle.position_delivery.specs.Delivery.{Judged, Shown, acceptedOf, committedBy, finishedOf};
+ghost use Rattle.position_delivery.specs.Delivery.{Judged, Shown, acceptedOf, gainedAfter, CommitRoom, committedBy, finishedOf};
 use crate::answer::PositionPcg;
 use crate::answer::PositionPcgResult;
 use loops::wide;
@@ -163,7 +163,7 @@ fn propose_step(
 }
 
 // What is proposed of the count: the step that it counts, or the refusal that it met. The rows are only read.
-pub fn propose(
+fn propose(
     counted: Iterated,
     limit: u32,
     place: usize,
@@ -225,29 +225,37 @@ pub fn propose(
     )
 }
 
-// The multipliers of an answer with this solution: with count 0 they keep their bits.
-pub fn commit(place: usize, answer: PositionPcg, numbers: &mut [f64], solution: &[f64])
+// The accumulated numbers of a count with this solution: "with count 0 it keeps its bits".
+pub fn gain_after(place: usize, count: u32, numbers: &mut [f64], solution: &[f64])
     requires { ⌜ (place < 27) × (27 * length (now solution) ≤ length (now numbers)) ⌝ }
+    ensures { λ _. ⌜ now (numbers .exit) ≡ gainedAfter place count (now (numbers .entry)) (now (solution .entry)) ⌝ }
+{
+    if count == 0 {
+        return;
+    }
+    add_multipliers(place, numbers, solution);
+}
+
+// The same of an answer; of a refusal nothing.
+pub fn commit(place: usize, answer: PositionPcg, numbers: &mut [f64], solution: &[f64])
+    requires { ⌜ CommitRoom place answer (length (now solution)) (length (now numbers)) ⌝ }
     ensures { λ _. ⌜ now (numbers .exit) ≡ committedBy place answer (now (numbers .entry)) (now (solution .entry)) ⌝ }
 {
     match answer {
         PositionPcg::Accepted(result) => {
-            if result.iterations == 0 {
-                return;
-            }
-            add_multipliers(place, numbers, solution);
+            gain_after(place, result.iterations, numbers, solution);
         }
         PositionPcg::Refused(number) => {}
     }
 }
 
-// Both halves: proposed, then committed. `place` is where a row has its accumulated number, and `placed` bodies have a centre: all, or for velocities none. What the delivery reads of the work memory is cleared.
-pub fn deliver(
+// Proposed, and what is read of the work memory cleared. `place` is where a row has its accumulated number, and `placed` bodies have a centre: all, or for velocities none. The contract tells what a commit then makes of the rows (document 02, l).
+pub fn propose_and_clear(
     counted: Iterated,
     limit: u32,
     place: usize,
     placed: u32,
-    numbers: &mut [f64],
+    numbers: &[f64],
     words: &[u32],
     masses: &[f64],
     centres: &[f64],
@@ -267,7 +275,7 @@ pub fn deliver(
     requires { ⌜ (place < 27) × (placed ≤ bodies) × (length (now centres) ≡ 3 * placed) × (length (now «new_centres») ≡ 3 * placed) ⌝ }
     requires { ⌜ TableRoom rows bodies (tableMemory (now jacobians) (now links) (now residual) (now pending) (now «body_impulses»)) ⌝ }
     requires { ⌜ StandsAfter (tableOf rows bodies (now numbers) (now words) (now masses)) (now masses) counted (now jacobians) (now links) ⌝ }
-    ensures { λ r. ⌜ outcomeAt place rows record { numbers = now (numbers .entry); solution = now (solution .entry); impulses = now (impulses .entry); centres = now («new_centres» .entry) } (next (iteratedOut counted limit (now (pending .entry)) (now (residual .entry))) (finishedOf (tableOf rows bodies (now (numbers .entry)) (now (words .entry)) (now (masses .entry))) (accumulatedIn place (now (numbers .entry))) (centresIn placed (now (centres .entry))))) ≡ record { answer = r; lent = record { numbers = now (numbers .exit); solution = now (solution .exit); impulses = now (impulses .exit); centres = now («new_centres» .exit) } } ⌝ }
+    ensures { λ r. ⌜ outcomeAt place rows record { numbers = now (numbers .entry); solution = now (solution .entry); impulses = now (impulses .entry); centres = now («new_centres» .entry) } (next (iteratedOut counted limit (now (pending .entry)) (now (residual .entry))) (finishedOf (tableOf rows bodies (now (numbers .entry)) (now (words .entry)) (now (masses .entry))) (accumulatedIn place (now (numbers .entry))) (centresIn placed (now (centres .entry))))) ≡ record { answer = r; lent = record { numbers = committedBy place r (now (numbers .entry)) (now (solution .exit)); solution = now (solution .exit); impulses = now (impulses .exit); centres = now («new_centres» .exit) } } ⌝ }
     ensures { λ _. ⌜ tableMemory (now (jacobians .exit)) (now (links .exit)) (now (residual .exit)) (now (pending .exit)) (now («body_impulses» .exit)) ≡ clearedTable (tableMemory (now (jacobians .entry)) (now (links .entry)) (now (residual .entry)) (now (pending .entry)) (now («body_impulses» .entry))) ⌝ }
 {
     let answer = propose(
@@ -290,7 +298,6 @@ pub fn deliver(
         impulses,
         new_centres,
     );
-    commit(place, answer, numbers, solution);
     clear_table(jacobians, links, residual, pending, body_impulses);
     answer
 }

@@ -5,5 +5,5 @@ pub mod delivery; // delivery.rt: multipliers, solution and impulses
 pub use answer::PositionPcg;
 pub use answer::PositionPcgResult;
 pub use delivery::commit;
-pub use delivery::deliver;
-pub use delivery::propose;
+pub use delivery::gain_after;
+pub use delivery::propose_and_clear;

@@ -1,0 +1,3 @@
+-- What the calls of the noting and of the commit come to.
+pub mod Noted
+pub mod Judging
