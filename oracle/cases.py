@@ -24,6 +24,9 @@ program that lists margins gives the check what it solves, and a case a list of 
 through the program too where it has no rules, its job fits into a job file, and the library's solve
 comes to the case's list, bit for bit, or to its refusal; it is then counted once more.
 
+Of document 02, g: a groups case is a solve by groups, held to the case, and each of its groups besides to
+a solve of its rows alone: its answer and every number of its rows and bodies.
+
 Of document 02, l: a sequence case is its steps one after the other, each proposal in memory of its own
 and the rows in theirs; an undivided solve of a copy of the rows beside each proposal must leave what
 the proposal and a commit of it, both on copies, leave.
@@ -34,6 +37,7 @@ out and why. The exit status is 1 where one differs, or none was compared.
 
 import argparse
 import collections
+import copy
 import ctypes
 import json
 import math
@@ -47,7 +51,7 @@ import sys
 HOME = pathlib.Path(__file__).resolve().parent
 
 # The requests of document 02 that are in place. A case is left out while it needs another.
-LANDED = {"d", "e", "f", "h", "j", "k", "l", "m"}
+LANDED = {"d", "e", "f", "g", "h", "j", "k", "l", "m"}
 
 # The request that brings a kind of case.
 BROUGHT_BY = {"groups": "g", "margins": "m", "sequence": "l"}
@@ -84,6 +88,12 @@ def bits_of(text):
 
 def double(bits):
     return struct.unpack("<d", struct.pack("<Q", bits))[0]
+
+
+def wanted_of(text, before):
+    """The same, where `-` stands for a number that stays as it was."""
+    written = [None if one == "-" else bits_of(one)[0] for one in text.split()]
+    return [old if one is None else one for one, old in zip(written, before, strict=True)]
 
 
 def is_odd(tolerance):
@@ -147,6 +157,20 @@ class Job:
         row_offset = len(before + masses + between)
         body = before + masses + between + rows + behind
         return body + self.trailer(row_offset, len(before), len(body) + TRAILER_BYTES, self.layout)
+
+    def only(self, rows):
+        """The same with these rows alone."""
+        only = copy.copy(self)
+        only.rows = len(rows)
+        only.numbers = b"".join(self.numbers[8 * ROW_NUMBERS * row : 8 * ROW_NUMBERS * (row + 1)] for row in rows)
+        only.words = b"".join(self.words[4 * ROW_WORDS * row : 4 * ROW_WORDS * (row + 1)] for row in rows)
+        return only
+
+    def joining(self):
+        """The bodies of the rows whose ten mass numbers are not all zero."""
+        words, masses = lent(ctypes.c_uint32, self.words), lent(ctypes.c_double, self.masses)
+        bodies = sorted({*words[2::8], *words[3::8]})
+        return [body for body in bodies if any(masses[10 * body : 10 * (body + 1)])]
 
     def words_fit(self):
         """Refusal 4's test."""
@@ -304,6 +328,39 @@ class Library:
         )  # fmt: skip
         return list(answer), bits(solution)
 
+    def groups(self, case):
+        bench = Bench(case.job)
+        refusal = bench.solve(self, case)
+        wanted = Bench(case.job)
+        said = different(("refusal", refusal, case.expect["refusal"]))
+        if not case.expect["refusal"]:
+            wanted.expect(case.expect)
+            said += [one for group in case.expect["groups"] for one in self.alone(case, group, bench)]
+        return said + self.work() + different(*zip(Bench.NAMES, bench.found(), wanted.found()))
+
+    def alone(self, case, group, bench):
+        """A group against a solve of its rows alone."""
+        job, rows = case.job.only(group["rows"]), group["rows"]
+        numbers, rule_numbers = lent(ctypes.c_double, job.numbers), word_outputs(job.rows)
+        solution, impulses, new_centres = outputs(job.rows), outputs(6 * job.bodies), outputs(3 * job.bodies)
+        answer = (ctypes.c_uint64 * 5)(*[UNTOUCHED] * 5)
+        self.call(
+            "oracle_solve_position", numbers, lent(ctypes.c_uint32, job.words), lent(ctypes.c_double, job.masses),
+            lent(ctypes.c_double, job.centres), *case.lent_rules(), job.rows, job.bodies, job.limit, job.mode,
+            case.shift, solution, impulses, new_centres, rule_numbers, answer,
+        )  # fmt: skip
+        told = [group["refusal"], group.get("count", 0), group.get("flag", 0)]
+        told += bits_of(group["maxima"]) if "maxima" in group else [0, 0]
+        row = lambda list_, each: [one for at in rows for one in list_[each * at : each * (at + 1)]]
+        of = lambda list_, each: [one for body in job.joining() for one in list_[each * body : each * (body + 1)]]
+        return different(
+            ("a group alone: answer", list(answer), told),
+            ("a group alone: rows", row(bits(bench.numbers), ROW_NUMBERS), bits(numbers)),
+            ("a group alone: solution", row(bits(bench.solution), 1), bits(solution)),
+            ("a group alone: rule numbers", row(list(bench.rules), 1), list(rule_numbers)),
+            ("a group alone: impulses", of(bits(bench.impulses), 6), of(bits(impulses), 6)),
+            ("a group alone: new centres", of(bits(bench.centres), 3), of(bits(new_centres), 3)),
+        )
 
     def sequence(self, case):
         sheet, said = Sheet(self, case), []
@@ -312,6 +369,62 @@ class Library:
             found += different(("multipliers", sheet.multipliers(), bits_of(expect["multipliers"])))
             said += [f"step {number}, {step['do']}: {one}" for one in found]
         return said
+
+
+class Bench:
+    """What a solve by groups is lent, the rows' numbers too."""
+
+    NAMES = (
+        "row numbers", "solution", "impulses", "new centres", "maxima of the groups", "rule numbers",
+        "group numbers", "answers of the groups", "group count",
+    )  # fmt: skip
+
+    def __init__(self, job):
+        rows, bodies = min(job.rows, 600), min(job.bodies, 600)
+        self.job, self.numbers = job, lent(ctypes.c_double, job.numbers)
+        self.solution, self.impulses = outputs(rows), outputs(6 * bodies)
+        self.centres, self.maxima = outputs(3 * bodies), outputs(2 * rows)
+        self.rules, self.groups = word_outputs(rows), word_outputs(rows)
+        self.answers, self.count = word_outputs(3 * rows), word_outputs(1)
+
+    def solve(self, library, case):
+        job, answer = self.job, (ctypes.c_uint64 * 1)(UNTOUCHED)
+        library.call(
+            "oracle_solve_groups", self.numbers, lent(ctypes.c_uint32, job.words), lent(ctypes.c_double, job.masses),
+            lent(ctypes.c_double, job.centres), *case.lent_rules(), job.rows, job.bodies, job.limit, job.mode,
+            case.shift, self.solution, self.impulses, self.centres, self.rules, self.groups, self.answers,
+            self.maxima, self.count, answer,
+        )  # fmt: skip
+        return answer[0]
+
+    def found(self):
+        doubles = (self.numbers, self.solution, self.impulses, self.centres, self.maxima)
+        return [*map(bits, doubles), *map(list, (self.rules, self.groups, self.answers, self.count))]
+
+    def put(self, memory, place, value):
+        """A pattern, or a word, at a place."""
+        size = ctypes.sizeof(memory._type_)
+        ctypes.memmove(ctypes.addressof(memory) + size * place, value.to_bytes(size, "little"), size)
+
+    def expect(self, expect):
+        """What the case says is written."""
+        multipliers = wanted_of(expect["multipliers"], bits(self.numbers)[MULTIPLIER::ROW_NUMBERS])
+        for row, value in enumerate(multipliers):
+            self.put(self.numbers, ROW_NUMBERS * row + MULTIPLIER, value)
+        for memory, text in (
+            (self.solution, expect["solution"]), (self.impulses, expect["impulses"]), (self.centres, expect["centres"]),
+        ):  # fmt: skip
+            for place, value in enumerate(wanted_of(text, bits(memory))):
+                self.put(memory, place, value)
+        for row, rule in enumerate(expect["rules"]):
+            self.rules[row] = UNTOUCHED_WORD if rule is None else rule
+        self.count[0] = len(expect["groups"])
+        for number, group in enumerate(expect["groups"]):
+            for row in group["rows"]:
+                self.groups[row] = number
+            self.answers[3 * number : 3 * number + 3] = [group["refusal"], group.get("count", 0), group.get("flag", 0)]
+            for place, value in enumerate(bits_of(group["maxima"]) if "maxima" in group else []):
+                self.put(self.maxima, 2 * number + place, value)
 
 
 class Proposal:
@@ -605,14 +718,14 @@ class Case:
             trailer = trailer_of(self.file.rjust(TRAILER_BYTES, b"\0"))
             needs |= {"d"} if trailer.layout == 1 else set()
             needs |= {"j"} if is_odd(trailer.linear) or is_odd(trailer.angular) else set()
-        elif self.op in ("solve", "check", "margins"):
+        elif self.op in ("solve", "groups", "check", "margins"):
             needs.add("d")
             needs |= {"j"} if any(map(is_odd, self.job.tolerances)) else set()
         return needs - LANDED
 
     def settle(self):
         """A library that takes rules tells an odd tolerance by 27; 26 is the program's."""
-        if "k" in LANDED and self.op in ("solve", "check", "margins") and self.expect.get("refusal") == 26:
+        if "k" in LANDED and self.op in ("solve", "groups", "check", "margins") and self.expect.get("refusal") == 26:
             self.expect = {"refusal": 27}
         if self.op == "sequence":
             for expect in self.expect["steps"]:
@@ -666,14 +779,15 @@ def main():
     if not files:
         sys.exit(f"oracle/cases.py: no cases in '{cases}'; set KAPITSA_CASES to their folder")
     missing = lambda path: f"there is no '{path}'"
-    by_op = dict.fromkeys(("solve", "check", "margins", "sequence"), missing(asked.library))
+    by_op = dict.fromkeys(("solve", "groups", "check", "margins", "sequence"), missing(asked.library))
     by_op["program"] = missing(asked.program)
     by_op[BY_PROGRAM] = missing(asked.margins)
     by_op |= dict.fromkeys(("write", "convert", "same"), missing(asked.converter))
     by_op["write beyond a file"] = writer
     if asked.library.exists():
         library = Library(asked.library.resolve())
-        by_op.update(solve=library.solve, check=library.check, margins=library.margins, sequence=library.sequence)
+        by_op.update(solve=library.solve, groups=library.groups, check=library.check, margins=library.margins)
+        by_op.update(sequence=library.sequence)
         if asked.margins.exists():
             by_op[BY_PROGRAM] = Margins(asked.margins.resolve(), library)
     if asked.program.exists():

@@ -1,6 +1,6 @@
 #!/usr/bin/env python3
 """Writes the sample jobs beside this file: P1 of document 01, a four-bar linkage and a clock train, the last two also
-with the centres of their parts.
+with the centres of their parts, and three mechanisms on one bench.
 
     python3 samples/make.py [CONVERTER]
 
@@ -161,6 +161,25 @@ def clock_train(spare=0):
     return job
 
 
+def bench():
+    """Three mechanisms on one frame, scanned together, so that their rows are mixed: a pendulum, a crank with its coupler, and a wheel whose one pin was scanned twice."""
+    job = Job(limit=32, mode=1, linear=1e-9, angular=1e-9)
+    pivots = [None, (0.0, 0.0, 0.0), (0.2, 0.0, 0.0), (0.26, 0.08, 0.0), (0.5, 0.03, 0.0)]
+    centres = [(0.25, 0.0, 0.0), (0.0, -0.12, 0.0), (0.23, 0.04, 0.0), (0.34, 0.10, 0.0), (0.5, 0.03, 0.0)]
+    job.body(0.0, (0.0, 0.0, 0.0))
+    for mass, length in [(0.5, 0.24), (0.2, 0.1), (0.4, 0.16), (0.25, 0.12)]:
+        job.body(1.0 / mass, (0.0, 0.0, 12.0 / (mass * length * length)))
+    scans = [(0.0, 0.0), (1.9e-4, -0.8e-4), (-1.2e-4, 0.5e-4), (0.7e-4, 1.6e-4), (-0.9e-4, -1.1e-4)]
+    at = lambda part, point: (point[0] + scans[part][0], point[1] + scans[part][1], 0.0)
+    seen = [at(part, centre) for part, centre in enumerate(centres)]
+    x, y = (1.0, 0.0, 0.0), (0.0, 1.0, 0.0)
+    # part, what it turns on, along which axis
+    for part, on, axis in [(1, 0, x), (2, 0, x), (2, 0, y), (4, 0, x), (1, 0, y), (3, 2, x), (3, 2, y), (4, 0, x)]:
+        job.joint()
+        job.pin(part, on, seen, (at(part, pivots[part]), at(on, pivots[part])), axis)
+    return job
+
+
 def converted(converter, file, spare):
     """What the converter writes of a job file, asked for the layout that it has."""
     run = subprocess.run([converter, ("old", "new")[spare]], input=file, stdout=subprocess.PIPE, check=True)
@@ -170,7 +189,7 @@ def converted(converter, file, spare):
 if __name__ == "__main__":
     here = pathlib.Path(__file__).resolve().parent
     converter = pathlib.Path(sys.argv[1] if sys.argv[1:] else here.parent / "target/bin/convert").resolve()
-    plain = [("p1", p1()), ("four_bar", four_bar()), ("clock_train", clock_train())]
+    plain = [("p1", p1()), ("four_bar", four_bar()), ("clock_train", clock_train()), ("bench", bench())]
     for name, job in plain + [("four_bar_centres", four_bar(1)), ("clock_train_centres", clock_train(1))]:
         file = job.bytes()
         if converter.exists() and converted(converter, file, job.spare) != file:

@@ -1,6 +1,6 @@
 /* Zapekuri for C and C++: the position solve, at once or proposed and then committed, the velocity
-   solve, the closing check of each, alone and with its list of margins, and the inverse of a local
-   inertia of `rt staticlib kapitsa_c`, an archive for x86-64.
+   solve, both by groups too, the closing check of each, alone and with its list of margins, and the
+   inverse of a local inertia of `rt staticlib kapitsa_c`, an archive for x86-64.
 
    A slice is a pointer, then its length; where the length is 0 the pointer may be NULL. For n rows
    and b bodies numbers has 27 n doubles, words 8 n, masses 10 b, centres and new_centres 3 b each;
@@ -33,18 +33,27 @@
    nothing; one that is leaves what the solve would have left. Write nothing to these three between
    the two calls.
 
+   By groups, several mechanisms are solved on one bench. Rows that share a body, directly or through
+   further rows, are one group, and no others are; but a body whose ten mass numbers are all zero, of
+   either sign, such as a frame that stands, joins nothing. Groups are numbered from 0, by their lowest
+   row, and each is answered or refused as a table of its rows alone, in their order, with all bodies:
+   what happens in one does not touch another. group_numbers has n words, group_answers 3 n and
+   group_maxima 2 n, as there are at most n groups.
+
    Every call returns 0 or the number of a refusal; what it finds it writes into lent memory, and
    only where it returns 0. The work memory is 0 after every call but one refused by 3, which
    writes nothing at all.
 
    kapitsa_solve_in, kapitsa_propose_in, kapitsa_check_in and kapitsa_margins_in, and of velocities
    kapitsa_solve_velocity_in, kapitsa_check_velocity_in and kapitsa_margins_velocity_in, at the end,
-   work in one piece of doubles and one of words and, as kapitsa_commit_in and kapitsa_inverse_in, in
-   whatever floating-point mode the caller is. They ask of a caller that a pointer and its length belong
-   together and that no two slices overlap; all else is tested, and refused where it does not fit.
-   The raw functions, kapitsa_solve_position, kapitsa_propose_position, kapitsa_commit_proposal,
-   kapitsa_closing_check, kapitsa_closing_margins, kapitsa_solve_velocity,
-   kapitsa_velocity_closing_check, kapitsa_velocity_closing_margins and kapitsa_inverse_spd, take each work slice by itself and assume besides that the control word MXCSR
+   work in one piece of doubles and one of words and, as kapitsa_commit_in, kapitsa_inverse_in and,
+   by groups, kapitsa_solve_groups_in and kapitsa_solve_velocity_groups_in, in whatever floating-point
+   mode the caller is. They ask of a caller that a pointer and its length belong together and that no
+   two slices overlap; all else is tested, and refused where it does not fit. The raw functions,
+   kapitsa_solve_position, kapitsa_propose_position, kapitsa_commit_proposal, kapitsa_closing_check,
+   kapitsa_closing_margins, kapitsa_solve_velocity, kapitsa_velocity_closing_check,
+   kapitsa_velocity_closing_margins, kapitsa_solve_groups, kapitsa_solve_velocity_groups and
+   kapitsa_inverse_spd, take each work slice by itself and assume besides that the control word MXCSR
    is KAPITSA_CONTROL: in another mode their answers, "closed" too, mean nothing. A program starts in
    that mode, unless it was linked with -ffast-math. */
 #ifndef KAPITSA_H
@@ -81,6 +90,14 @@ enum kapitsa_proposal {
     KAPITSA_PROPOSAL_COUNT = 2,
     KAPITSA_PROPOSAL_MARK = 3, /* 0, and 1 once it is committed */
     KAPITSA_PROPOSAL_WORDS = 4
+};
+
+/* Of each group, where its words stand in group_answers, from KAPITSA_GROUP_WORDS * group. */
+enum kapitsa_group {
+    KAPITSA_GROUP_REFUSAL = 0, /* its refusal or 0; count and flag are 0 beside a refusal */
+    KAPITSA_GROUP_COUNT = 1,
+    KAPITSA_GROUP_FLAG = 2,
+    KAPITSA_GROUP_WORDS = 3
 };
 
 enum kapitsa_dimension {
@@ -266,6 +283,44 @@ KAPITSA_MUST_USE uint32_t kapitsa_solve_velocity(
     uint32_t *rule_numbers, size_t rule_numbers_len,
     uint32_t *counts, size_t counts_len, double *maxima, size_t maxima_len
     KAPITSA_SOLVE_WORK(KAPITSA_TAKES_DOUBLES, KAPITSA_TAKES_WORDS));
+
+/* Refusals of the whole table: 3, 25, 4, 27, 28, 6 and 7, judged in this order. Where 0 is returned
+   group_count (1) gets how many groups there are, and each group has an answer of its own: 0 or its
+   refusal, 5 or 8 to 17, count and flag in group_answers (KAPITSA_GROUP_WORDS a group), and its linear
+   and angular residual maximum in group_maxima (2 a group). group_numbers gets each row's group. Of an
+   accepted group rows and bodies get what kapitsa_solve_position gives them; of a refused one all its
+   numbers stay as they were, its maxima, and the impulses and new centres of its bodies, too. A body
+   whose mass numbers are all zero, or one in no row, gets impulses of +0.0, and its centre as new
+   centre; 17 by the impulse of such a body still refuses its group. What is lent behind the last group
+   stays as it was. The work memory of these two functions is on the stack, some 600 KB whatever the
+   counts: a thread that calls them should have a megabyte. */
+KAPITSA_MUST_USE uint32_t kapitsa_solve_groups(
+    double *numbers, size_t numbers_len, const uint32_t *words, size_t words_len,
+    const double *masses, size_t masses_len, const double *centres, size_t centres_len,
+    const uint32_t *rule_words, size_t rule_words_len,
+    const double *rule_tolerances, size_t rule_tolerances_len,
+    uint32_t rows, uint32_t bodies, uint32_t limit, uint32_t mode, double shift,
+    double *solution, size_t solution_len, double *impulses, size_t impulses_len,
+    double *new_centres, size_t new_centres_len,
+    uint32_t *rule_numbers, size_t rule_numbers_len,
+    uint32_t *group_numbers, size_t group_numbers_len,
+    uint32_t *group_answers, size_t group_answers_len,
+    double *group_maxima, size_t group_maxima_len,
+    uint32_t *group_count, size_t group_count_len);
+
+/* The same of kapitsa_solve_velocity, with 20 between 6 and 7, and no centres. */
+KAPITSA_MUST_USE uint32_t kapitsa_solve_velocity_groups(
+    double *numbers, size_t numbers_len, const uint32_t *words, size_t words_len,
+    const double *masses, size_t masses_len, const double *residuals, size_t residuals_len,
+    const uint32_t *rule_words, size_t rule_words_len,
+    const double *rule_tolerances, size_t rule_tolerances_len,
+    uint32_t rows, uint32_t bodies, uint32_t limit, uint32_t mode, double shift,
+    double *solution, size_t solution_len, double *impulses, size_t impulses_len,
+    uint32_t *rule_numbers, size_t rule_numbers_len,
+    uint32_t *group_numbers, size_t group_numbers_len,
+    uint32_t *group_answers, size_t group_answers_len,
+    double *group_maxima, size_t group_maxima_len,
+    uint32_t *group_count, size_t group_count_len);
 
 /* Refusals 3, 4, 27, 28, 6, 20, 7 and 18. kapitsa_closing_check with -residual in the error's place:
    multipliers are the gains since the residuals were measured, gap is in m/s and rad/s, and 18
@@ -491,6 +546,49 @@ KAPITSA_APART uint32_t kapitsa_solve_velocity_in(
         rows, bodies, limit, mode, shift, solution, solution_len, impulses, impulses_len,
         rule_numbers, rule_numbers_len, counts, 2, maxima, 2
         KAPITSA_SOLVE_WORK(KAPITSA_LEND, KAPITSA_LEND)))
+}
+
+/* By groups no work memory is lent. Read *group_count only where 0 was returned. */
+KAPITSA_APART uint32_t kapitsa_solve_groups_in(
+    double *numbers, size_t numbers_len, const uint32_t *words, size_t words_len,
+    const double *masses, size_t masses_len, const double *centres, size_t centres_len,
+    const uint32_t *rule_words, size_t rule_words_len,
+    const double *rule_tolerances, size_t rule_tolerances_len,
+    uint32_t rows, uint32_t bodies, uint32_t limit, uint32_t mode, double shift,
+    double *solution, size_t solution_len, double *impulses, size_t impulses_len,
+    double *new_centres, size_t new_centres_len,
+    uint32_t *rule_numbers, size_t rule_numbers_len,
+    uint32_t *group_numbers, size_t group_numbers_len,
+    uint32_t *group_answers, size_t group_answers_len,
+    double *group_maxima, size_t group_maxima_len, uint32_t *group_count)
+{
+    KAPITSA_RETURN_CONTROLLED(kapitsa_solve_groups(
+        numbers, numbers_len, words, words_len, masses, masses_len, centres, centres_len,
+        rule_words, rule_words_len, rule_tolerances, rule_tolerances_len,
+        rows, bodies, limit, mode, shift, solution, solution_len, impulses, impulses_len,
+        new_centres, new_centres_len, rule_numbers, rule_numbers_len,
+        group_numbers, group_numbers_len, group_answers, group_answers_len,
+        group_maxima, group_maxima_len, group_count, 1))
+}
+
+KAPITSA_APART uint32_t kapitsa_solve_velocity_groups_in(
+    double *numbers, size_t numbers_len, const uint32_t *words, size_t words_len,
+    const double *masses, size_t masses_len, const double *residuals, size_t residuals_len,
+    const uint32_t *rule_words, size_t rule_words_len,
+    const double *rule_tolerances, size_t rule_tolerances_len,
+    uint32_t rows, uint32_t bodies, uint32_t limit, uint32_t mode, double shift,
+    double *solution, size_t solution_len, double *impulses, size_t impulses_len,
+    uint32_t *rule_numbers, size_t rule_numbers_len,
+    uint32_t *group_numbers, size_t group_numbers_len,
+    uint32_t *group_answers, size_t group_answers_len,
+    double *group_maxima, size_t group_maxima_len, uint32_t *group_count)
+{
+    KAPITSA_RETURN_CONTROLLED(kapitsa_solve_velocity_groups(
+        numbers, numbers_len, words, words_len, masses, masses_len, residuals, residuals_len,
+        rule_words, rule_words_len, rule_tolerances, rule_tolerances_len,
+        rows, bodies, limit, mode, shift, solution, solution_len, impulses, impulses_len,
+        rule_numbers, rule_numbers_len, group_numbers, group_numbers_len,
+        group_answers, group_answers_len, group_maxima, group_maxima_len, group_count, 1))
 }
 
 /* Of all checks read *verdict, gap and rule_numbers only where 0 was returned: a refusal leaves

@@ -1,6 +1,7 @@
 //! Zapekuri for Rust: safe calls of the position solve, at once or proposed and then committed, and of
-//! the velocity solve, of the closing check of each, alone and with its list of margins, and of the
-//! inverse of a local inertia in `libkapitsa_c.a` (`rt staticlib kapitsa_c`), an archive for x86-64.
+//! the velocity solve, both by groups too, of the closing check of each, alone and with its list of
+//! margins, and of the inverse of a local inertia in `libkapitsa_c.a` (`rt staticlib kapitsa_c`), an
+//! archive for x86-64.
 //! The archive tests every count, length and number itself. Here stands what it cannot see to: that
 //! the work memory is there and carved without overlap, and that the processor is in the mode that it
 //! assumes.
@@ -469,6 +470,134 @@ pub fn solve_velocity(
     })
 }
 
+/// Rows that share a body, directly or through further rows: one of several mechanisms on a bench. It is
+/// answered or refused as a table of its rows alone, in their order, with all bodies.
+#[derive(Clone, Debug, PartialEq)]
+pub struct Group<A> {
+    /// Ascending.
+    pub rows: Vec<usize>,
+    pub answer: Result<A, Refusal>,
+}
+
+/// What a solve by groups is lent for its groups, of which there are at most as many as rows.
+struct GroupMemory {
+    /// Each row's group.
+    numbers: Vec<u32>,
+    /// Three words a group: its refusal or 0, count and flag.
+    answers: Vec<u32>,
+    /// Two a group, linear and angular.
+    maxima: Vec<f64>,
+    count: [u32; 1],
+}
+
+impl GroupMemory {
+    fn of(rows: usize) -> Self {
+        let (numbers, answers) = (vec![0; rows], vec![0; 3 * rows]);
+        Self { numbers, answers, maxima: vec![0.0; 2 * rows], count: [0] }
+    }
+
+    /// Each group by its number, `answer` made of its count, flag and maxima.
+    fn groups<A>(&self, answer: impl Fn(u32, bool, [f64; 2]) -> A) -> Vec<Group<A>> {
+        let told = self.answers.chunks_exact(3).zip(self.maxima.chunks_exact(2));
+        let each = (0..self.count[0]).zip(told);
+        each.map(|(number, (words, maxima))| {
+            let rows = (0..self.numbers.len()).filter(|row| self.numbers[*row] == number);
+            let answer = match words[0] {
+                0 => Ok(answer(words[1], words[2] == 1, [maxima[0], maxima[1]])),
+                refusal => Err(Refusal::of(refusal)),
+            };
+            Group { rows: rows.collect(), answer }
+        })
+        .collect()
+    }
+}
+
+/// A solve by groups of the archive, in the default mode; what it tells of the groups. `$lent` and
+/// `$moved` are as in `solve!`. Its work memory is on the stack.
+#[rustfmt::skip]
+macro_rules! solve_by_groups {
+    ($function:ident, $tables:ident, $lent:expr, $rules:ident, $limit:ident, $mode:ident,
+     $shift:ident, $to:ident, [$($moved:expr)?]) => {{
+        let (n, b) = counts($tables.words, $tables.masses)?;
+        let mut memory = GroupMemory::of(n);
+        let control = DefaultControl::set();
+        // SAFETY: each pointer and length is of one slice, and no two of the slices overlap.
+        let refusal = unsafe {
+            $function(
+                $tables.numbers.as_mut_ptr(), $tables.numbers.len(),
+                $tables.words.as_ptr(), $tables.words.len(),
+                $tables.masses.as_ptr(), $tables.masses.len(),
+                $lent.as_ptr(), $lent.len(),
+                $rules.words.as_ptr(), $rules.words.len(),
+                $rules.tolerances.as_ptr(), $rules.tolerances.len(),
+                n as u32, b as u32, $limit, $mode as u32, $shift,
+                $to.solution.as_mut_ptr(), $to.solution.len(),
+                $to.impulses.as_mut_ptr(), $to.impulses.len(),
+                $($moved.as_mut_ptr(), $moved.len(),)?
+                $to.rule_numbers.as_mut_ptr(), $to.rule_numbers.len(),
+                memory.numbers.as_mut_ptr(), memory.numbers.len(),
+                memory.answers.as_mut_ptr(), memory.answers.len(),
+                memory.maxima.as_mut_ptr(), memory.maxima.len(),
+                memory.count.as_mut_ptr(), memory.count.len(),
+            )
+        };
+        drop(control);
+        if refusal != 0 {
+            return Err(Refusal::of(refusal));
+        }
+        memory
+    }};
+}
+
+/// Solves each mechanism on a bench by itself: the groups, by their lowest row. A body whose ten mass
+/// numbers are all zero, such as a frame that stands, joins nothing. `Err` where 3, 25, 4, 27, 28, 6 or
+/// 7 turns the whole table back, and then nothing is written; else each group has its own answer, or a
+/// refusal, by which all its numbers stay as they were. A body of mass numbers zero, or in no row, gets
+/// impulses of +0.0, and keeps its centre. Takes some 600 KB of stack.
+#[inline(never)]
+pub fn solve_groups(
+    tables: &mut Tables,
+    rules: &Rules,
+    limit: u32,
+    mode: Mode,
+    shift: f64,
+    to: Delivered,
+) -> Result<Vec<Group<Answer>>, Refusal> {
+    #[rustfmt::skip]
+    let memory = solve_by_groups!(
+        kapitsa_solve_groups, tables, tables.centres, rules, limit, mode, shift, to,
+        [to.new_centres]
+    );
+    Ok(memory.groups(|iterations, converged, [linear, angular]| Answer {
+        converged,
+        iterations,
+        linear_residual_m: linear,
+        angular_residual_rad: angular,
+    }))
+}
+
+/// The same of speeds: `solve_velocity` by groups, with 20 between 6 and 7.
+#[inline(never)]
+pub fn solve_velocity_groups(
+    tables: &mut VelocityTables,
+    rules: &Rules,
+    limit: u32,
+    mode: Mode,
+    shift: f64,
+    to: VelocityDelivered,
+) -> Result<Vec<Group<VelocityAnswer>>, Refusal> {
+    #[rustfmt::skip]
+    let memory = solve_by_groups!(
+        kapitsa_solve_velocity_groups, tables, tables.residuals, rules, limit, mode, shift, to, []
+    );
+    Ok(memory.groups(|iterations, converged, [linear, angular]| VelocityAnswer {
+        converged,
+        iterations,
+        linear_residual_mps: linear,
+        angular_residual_radps: angular,
+    }))
+}
+
 /// A closing check of the archive, in the default mode: the verdict and the measured gap. `$lent` is
 /// what it reads beside rows, masses and rules, `$list` what it writes beside the rest, if anything.
 #[rustfmt::skip]
@@ -708,6 +837,35 @@ unsafe extern "C" {
         direction: *mut f64, direction_len: usize, product: *mut f64, product_len: usize,
         body_impulses: *mut f64, body_impulses_len: usize, pattern: *mut u32, pattern_len: usize,
         order: *mut u32, order_len: usize, values: *mut f64, values_len: usize,
+    ) -> u32;
+
+    fn kapitsa_solve_groups(
+        numbers: *mut f64, numbers_len: usize, words: *const u32, words_len: usize,
+        masses: *const f64, masses_len: usize, centres: *const f64, centres_len: usize,
+        rule_words: *const u32, rule_words_len: usize,
+        rule_tolerances: *const f64, rule_tolerances_len: usize,
+        rows: u32, bodies: u32, limit: u32, mode: u32, shift: f64,
+        solution: *mut f64, solution_len: usize, impulses: *mut f64, impulses_len: usize,
+        new_centres: *mut f64, new_centres_len: usize,
+        rule_numbers: *mut u32, rule_numbers_len: usize,
+        group_numbers: *mut u32, group_numbers_len: usize,
+        group_answers: *mut u32, group_answers_len: usize,
+        group_maxima: *mut f64, group_maxima_len: usize,
+        group_count: *mut u32, group_count_len: usize,
+    ) -> u32;
+
+    fn kapitsa_solve_velocity_groups(
+        numbers: *mut f64, numbers_len: usize, words: *const u32, words_len: usize,
+        masses: *const f64, masses_len: usize, residuals: *const f64, residuals_len: usize,
+        rule_words: *const u32, rule_words_len: usize,
+        rule_tolerances: *const f64, rule_tolerances_len: usize,
+        rows: u32, bodies: u32, limit: u32, mode: u32, shift: f64,
+        solution: *mut f64, solution_len: usize, impulses: *mut f64, impulses_len: usize,
+        rule_numbers: *mut u32, rule_numbers_len: usize,
+        group_numbers: *mut u32, group_numbers_len: usize,
+        group_answers: *mut u32, group_answers_len: usize,
+        group_maxima: *mut f64, group_maxima_len: usize,
+        group_count: *mut u32, group_count_len: usize,
     ) -> u32;
 
     fn kapitsa_inverse_spd(

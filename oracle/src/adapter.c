@@ -12,7 +12,9 @@
    the check, with its list or without: refusal, verdict (1: closed), bits of the linear gap, bits of
    the angular gap. Where a call is refused, all but the refusal are 0. Of document 02, l: proposal
    gets rows, flag, count and mark, started the multipliers that the proposal started from; its answer
-   is refusal and the bits of both maxima, a commit's the refusal alone. */
+   is refusal and the bits of both maxima, a commit's the refusal alone. Of document 02, g: group_numbers
+   gets each row's group, group_answers refusal, count and flag of each group, group_maxima its two
+   maxima, group_count how many there are; the answer is the whole table's refusal alone. */
 #include <stddef.h>
 #include <stdint.h>
 
@@ -138,3 +140,58 @@ CHECK(oracle_closing_check, kapitsa_closing_check, centres)
 CHECK(oracle_velocity_closing_check, kapitsa_velocity_closing_check, residuals)
 MARGINS(oracle_closing_margins, kapitsa_closing_margins, centres)
 MARGINS(oracle_velocity_closing_margins, kapitsa_velocity_closing_margins, residuals)
+
+/* A solve by groups of an implementation, and the driver's, of positions and of velocities. */
+#define GROUPS(name)                                                                           \
+    void name(                                                                                 \
+        double *numbers, size_t numbers_len, const uint32_t *words, size_t words_len,          \
+        const double *masses, size_t masses_len, const double *centres, size_t centres_len,    \
+        const uint32_t *rule_words, size_t rule_words_len,                                     \
+        const double *rule_tolerances, size_t rule_tolerances_len,                             \
+        uint32_t rows, uint32_t bodies, uint32_t limit, uint32_t mode, double shift,           \
+        double *solution, size_t solution_len, double *impulses, size_t impulses_len,          \
+        double *new_centres, size_t new_centres_len,                                           \
+        uint32_t *rule_numbers, size_t rule_numbers_len,                                       \
+        uint32_t *group_numbers, size_t group_numbers_len,                                     \
+        uint32_t *group_answers, size_t group_answers_len,                                     \
+        double *group_maxima, size_t group_maxima_len,                                         \
+        uint32_t *group_count, size_t group_count_len, uint64_t *answer, size_t answer_len)
+#define VELOCITY_GROUPS(name)                                                                  \
+    void name(                                                                                 \
+        double *numbers, size_t numbers_len, const uint32_t *words, size_t words_len,          \
+        const double *masses, size_t masses_len, const double *residuals, size_t residuals_len,\
+        const uint32_t *rule_words, size_t rule_words_len,                                     \
+        const double *rule_tolerances, size_t rule_tolerances_len,                             \
+        uint32_t rows, uint32_t bodies, uint32_t limit, uint32_t mode, double shift,           \
+        double *solution, size_t solution_len, double *impulses, size_t impulses_len,          \
+        uint32_t *rule_numbers, size_t rule_numbers_len,                                       \
+        uint32_t *group_numbers, size_t group_numbers_len,                                     \
+        uint32_t *group_answers, size_t group_answers_len,                                     \
+        double *group_maxima, size_t group_maxima_len,                                         \
+        uint32_t *group_count, size_t group_count_len, uint64_t *answer, size_t answer_len)
+
+GROUPS(kapitsa_solve_groups);
+VELOCITY_GROUPS(kapitsa_solve_velocity_groups);
+
+GROUPS(oracle_solve_groups)
+{
+    kapitsa_solve_groups(numbers, numbers_len, words, words_len, masses, masses_len, centres,
+                         centres_len, rule_words, rule_words_len, rule_tolerances,
+                         rule_tolerances_len, rows, bodies, limit, mode, shift, solution,
+                         solution_len, impulses, impulses_len, new_centres, new_centres_len,
+                         rule_numbers, rule_numbers_len, group_numbers, group_numbers_len,
+                         group_answers, group_answers_len, group_maxima, group_maxima_len,
+                         group_count, group_count_len, answer, answer_len);
+}
+
+VELOCITY_GROUPS(oracle_solve_velocity_groups)
+{
+    kapitsa_solve_velocity_groups(numbers, numbers_len, words, words_len, masses, masses_len,
+                                  residuals, residuals_len, rule_words, rule_words_len,
+                                  rule_tolerances, rule_tolerances_len, rows, bodies, limit, mode,
+                                  shift, solution, solution_len, impulses, impulses_len,
+                                  rule_numbers, rule_numbers_len, group_numbers,
+                                  group_numbers_len, group_answers, group_answers_len,
+                                  group_maxima, group_maxima_len, group_count, group_count_len,
+                                  answer, answer_len);
+}

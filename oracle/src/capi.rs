@@ -362,3 +362,76 @@ checks!(
     [rows_to: *mut u32, rows_to_len: usize, numbers_to: *mut f64, numbers_to_len: usize],
     Some(unsafe { Lists::lent((rows_to, rows_to_len), (numbers_to, numbers_to_len)) })
 );
+
+/// A solve by groups (document 02, g) by this name, of this kind of job, with what it takes for centres.
+macro_rules! groups {
+    ($name:ident, $kind:expr, [$($place:ident: $of:ty),*], $centres:expr) => {
+        /// # Safety
+        /// Every pointer is followed by the number of elements that it lends.
+        #[unsafe(no_mangle)]
+        #[allow(clippy::too_many_arguments)]
+        #[rustfmt::skip]
+        pub unsafe extern "C" fn $name(
+            numbers: *mut f64, numbers_len: usize,
+            words: *const u32, words_len: usize,
+            masses: *const f64, masses_len: usize,
+            lent: *const f64, lent_len: usize,
+            rule_words: *const u32, rule_words_len: usize,
+            rule_tolerances: *const f64, rule_tolerances_len: usize,
+            rows: u32, bodies: u32, limit: u32, mode: u32, shift: f64,
+            solution: *mut f64, solution_len: usize,
+            impulses: *mut f64, impulses_len: usize,
+            $($place: $of,)*
+            rule_numbers: *mut u32, rule_numbers_len: usize,
+            group_numbers: *mut u32, group_numbers_len: usize,
+            group_answers: *mut u32, group_answers_len: usize,
+            group_maxima: *mut f64, group_maxima_len: usize,
+            group_count: *mut u32, group_count_len: usize,
+            answer: *mut u64, answer_len: usize,
+        ) {
+            let tables = Tables {
+                numbers: (numbers, numbers_len), words: (words, words_len),
+                masses: (masses, masses_len), lent: (lent, lent_len),
+                rule_words: (rule_words, rule_words_len),
+                rule_tolerances: (rule_tolerances, rule_tolerances_len),
+            };
+            let job = unsafe { tables.job($kind, rows, bodies) };
+            let centres: &mut [f64] = $centres;
+            let mut to = unsafe {
+                model::Bench {
+                    numbers: copied((numbers, numbers_len)),
+                    solution: copied((solution, solution_len)),
+                    impulses: copied((impulses, impulses_len)),
+                    centres: centres.to_vec(),
+                    rule_numbers: copied((rule_numbers, rule_numbers_len)),
+                    group_numbers: copied((group_numbers, group_numbers_len)),
+                    group_answers: copied((group_answers, group_answers_len)),
+                    group_maxima: copied((group_maxima, group_maxima_len)),
+                    group_count: copied((group_count, group_count_len)),
+                }
+            };
+            let found = model::solve_groups(&Job { limit, mode, shift, ..job }, &mut to);
+            centres.copy_from_slice(&to.centres);
+            unsafe {
+                from_raw_parts_mut(numbers, numbers_len).copy_from_slice(&to.numbers);
+                from_raw_parts_mut(solution, solution_len).copy_from_slice(&to.solution);
+                from_raw_parts_mut(impulses, impulses_len).copy_from_slice(&to.impulses);
+                from_raw_parts_mut(rule_numbers, rule_numbers_len).copy_from_slice(&to.rule_numbers);
+                from_raw_parts_mut(group_numbers, group_numbers_len).copy_from_slice(&to.group_numbers);
+                from_raw_parts_mut(group_answers, group_answers_len).copy_from_slice(&to.group_answers);
+                from_raw_parts_mut(group_maxima, group_maxima_len).copy_from_slice(&to.group_maxima);
+                from_raw_parts_mut(group_count, group_count_len).copy_from_slice(&to.group_count);
+                let refusal = found.err().unwrap_or(0).into();
+                from_raw_parts_mut(answer, answer_len).copy_from_slice(&[refusal]);
+            }
+        }
+    };
+}
+
+groups!(
+    kapitsa_solve_groups,
+    Kind::Position,
+    [new_centres: *mut f64, new_centres_len: usize],
+    unsafe { from_raw_parts_mut(new_centres, new_centres_len) }
+);
+groups!(kapitsa_solve_velocity_groups, Kind::Velocity, [], &mut []);

@@ -1,6 +1,7 @@
 //! The differential driver: an implementation against the judge, job by job.
 
 mod effect;
+pub mod groups;
 mod margins;
 
 use crate::closing_jobs::closing_job;

@@ -79,7 +79,7 @@ pub fn any_with(
 }
 
 /// A job that never meets its tolerance runs to its limit, which may be four thousand million.
-fn cut_limit(file: &mut [u8]) {
+pub fn cut_limit(file: &mut [u8]) {
     const MOST: u32 = 5_000;
     let Some(at) = file.len().checked_sub(4 * (TRAILER_WORDS - 2)) else { return };
     let limit = u32::from_le_bytes(file[at..at + 4].try_into().unwrap());

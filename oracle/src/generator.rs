@@ -1,5 +1,6 @@
 //! Jobs by seed and index: a mechanism, its numbers, and what is wrong with it.
 
+mod benches;
 mod centres;
 pub mod doubles;
 mod edges;
@@ -15,6 +16,7 @@ mod shifts;
 mod thresholds;
 mod velocities;
 
+pub use benches::{bench, moving_bench};
 pub use centres::{centred, centred_pin, fixed_centres, from_the_origin, place};
 pub use examples::{chain_along_x, examples, push_x_row};
 pub use fixed::fixed;

@@ -3,6 +3,7 @@
 
 use crate::job::{Job, Kind, Rules};
 use crate::library::Library;
+use crate::model::Bench;
 use std::ffi::{c_int, c_void};
 
 #[rustfmt::skip]
@@ -34,6 +35,22 @@ type Margins = unsafe extern "C" fn(
     *const f64, usize, *mut u32, usize, *mut u32, usize, *mut f64, usize, *mut u64, usize,
 );
 
+/// By groups: in place of the answer, what is told of each group; then how many there are.
+#[rustfmt::skip]
+type GroupPositions = unsafe extern "C" fn(
+    *mut f64, usize, *const u32, usize, *const f64, usize, *const f64, usize,
+    *const u32, usize, *const f64, usize, u32, u32, u32, u32, f64,
+    *mut f64, usize, *mut f64, usize, *mut f64, usize, *mut u32, usize,
+    *mut u32, usize, *mut u32, usize, *mut f64, usize, *mut u32, usize, *mut u64, usize,
+);
+#[rustfmt::skip]
+type GroupVelocities = unsafe extern "C" fn(
+    *mut f64, usize, *const u32, usize, *const f64, usize, *const f64, usize,
+    *const u32, usize, *const f64, usize, u32, u32, u32, u32, f64,
+    *mut f64, usize, *mut f64, usize, *mut u32, usize,
+    *mut u32, usize, *mut u32, usize, *mut f64, usize, *mut u32, usize, *mut u64, usize,
+);
+
 type Cleared = unsafe extern "C" fn() -> c_int;
 
 #[derive(Clone, Copy)]
@@ -43,6 +60,21 @@ enum Solve {
 }
 
 impl Solve {
+    fn of(kind: Kind, found: *mut c_void) -> Self {
+        match kind {
+            Kind::Position => Self::Position(unsafe { std::mem::transmute(found) }),
+            Kind::Velocity => Self::Velocity(unsafe { std::mem::transmute(found) }),
+        }
+    }
+}
+
+#[derive(Clone, Copy)]
+enum Groups {
+    Position(GroupPositions),
+    Velocity(GroupVelocities),
+}
+
+impl Groups {
     fn of(kind: Kind, found: *mut c_void) -> Self {
         match kind {
             Kind::Position => Self::Position(unsafe { std::mem::transmute(found) }),
@@ -69,19 +101,24 @@ pub struct CheckOutputs {
 
 pub struct Implementation {
     solve: Option<Solve>,
+    groups: Option<Groups>,
     close: Close,
     margins: Margins,
     cleared: Option<Cleared>,
 }
 
-/// The functions that solve, check, and check with a list.
-fn names(kind: Kind) -> [&'static str; 3] {
+/// The functions that solve, solve by groups, check, and check with a list.
+fn names(kind: Kind) -> [&'static str; 4] {
     match kind {
-        Kind::Position => {
-            ["oracle_solve_position", "oracle_closing_check", "oracle_closing_margins"]
-        }
+        Kind::Position => [
+            "oracle_solve_position",
+            "oracle_solve_groups",
+            "oracle_closing_check",
+            "oracle_closing_margins",
+        ],
         Kind::Velocity => [
             "oracle_solve_velocity",
+            "oracle_solve_velocity_groups",
             "oracle_velocity_closing_check",
             "oracle_velocity_closing_margins",
         ],
@@ -99,11 +136,12 @@ fn lent(job: &Job) -> &[f64] {
 impl Implementation {
     pub fn open(path: &str, kind: Kind) -> Result<Self, String> {
         let library = Library::open(path)?;
-        let [solve, close, margins] = names(kind);
+        let [solve, groups, close, margins] = names(kind);
         let close = library.function(close)?;
         let margins = library.function(margins)?;
         Ok(Self {
             solve: library.function(solve).ok().map(|found| Solve::of(kind, found)),
+            groups: library.function(groups).ok().map(|found| Groups::of(kind, found)),
             close: unsafe { std::mem::transmute::<*mut c_void, Close>(close) },
             margins: unsafe { std::mem::transmute::<*mut c_void, Margins>(margins) },
             cleared: library
@@ -115,6 +153,10 @@ impl Implementation {
 
     pub fn solves(&self) -> bool {
         self.solve.is_some()
+    }
+
+    pub fn groups(&self) -> bool {
+        self.groups.is_some()
     }
 
     /// Whether the work memory is +0.0; true where the implementation does not tell.
@@ -162,6 +204,56 @@ impl Implementation {
             },
         }
         answer
+    }
+
+    #[rustfmt::skip]
+    /// The whole table's refusal or 0; writes into what is lent, the rows' numbers too, as the function
+    /// does.
+    pub fn solve_groups(&self, job: &Job, rules: &Rules, to: &mut Bench) -> u64 {
+        let mut answer = [u64::MAX];
+        let (lent, lent_len) = (lent(job).as_ptr(), lent(job).len());
+        match self.groups.expect("the implementation solves by groups") {
+            Groups::Position(solve) => unsafe {
+                solve(
+                    to.numbers.as_mut_ptr(), to.numbers.len(),
+                    job.words.as_ptr(), job.words.len(),
+                    job.masses.as_ptr(), job.masses.len(),
+                    lent, lent_len,
+                    rules.words.as_ptr(), rules.words.len(),
+                    rules.tolerances.as_ptr(), rules.tolerances.len(),
+                    job.rows, job.bodies, job.limit, job.mode, job.shift,
+                    to.solution.as_mut_ptr(), to.solution.len(),
+                    to.impulses.as_mut_ptr(), to.impulses.len(),
+                    to.centres.as_mut_ptr(), to.centres.len(),
+                    to.rule_numbers.as_mut_ptr(), to.rule_numbers.len(),
+                    to.group_numbers.as_mut_ptr(), to.group_numbers.len(),
+                    to.group_answers.as_mut_ptr(), to.group_answers.len(),
+                    to.group_maxima.as_mut_ptr(), to.group_maxima.len(),
+                    to.group_count.as_mut_ptr(), to.group_count.len(),
+                    answer.as_mut_ptr(), answer.len(),
+                );
+            },
+            Groups::Velocity(solve) => unsafe {
+                solve(
+                    to.numbers.as_mut_ptr(), to.numbers.len(),
+                    job.words.as_ptr(), job.words.len(),
+                    job.masses.as_ptr(), job.masses.len(),
+                    lent, lent_len,
+                    rules.words.as_ptr(), rules.words.len(),
+                    rules.tolerances.as_ptr(), rules.tolerances.len(),
+                    job.rows, job.bodies, job.limit, job.mode, job.shift,
+                    to.solution.as_mut_ptr(), to.solution.len(),
+                    to.impulses.as_mut_ptr(), to.impulses.len(),
+                    to.rule_numbers.as_mut_ptr(), to.rule_numbers.len(),
+                    to.group_numbers.as_mut_ptr(), to.group_numbers.len(),
+                    to.group_answers.as_mut_ptr(), to.group_answers.len(),
+                    to.group_maxima.as_mut_ptr(), to.group_maxima.len(),
+                    to.group_count.as_mut_ptr(), to.group_count.len(),
+                    answer.as_mut_ptr(), answer.len(),
+                );
+            },
+        }
+        answer[0]
     }
 
     #[rustfmt::skip]

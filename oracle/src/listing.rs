@@ -7,7 +7,12 @@ use std::fmt::Write;
 use std::path::Path;
 
 pub fn of_file(file: &[u8]) -> String {
-    sheet(file, |text, job, solved, _| delivered(text, solved, job.spare == 1))
+    sheet(file, rows_and_bodies)
+}
+
+/// The same of a job that has been read.
+pub fn of_read(job: &Job) -> String {
+    of_job(job, rows_and_bodies)
 }
 
 /// The same lines up to the verdict and, where that is closed, the list.
@@ -53,6 +58,10 @@ fn gap(checked: &Judged<Checked>) -> String {
 /// 0 open, 1 closed, or the check's refusal.
 pub fn verdict(checked: &Judged<Checked>) -> u32 {
     checked.as_ref().map_or_else(|refusal| *refusal, |found| u32::from(found.closed))
+}
+
+fn rows_and_bodies(text: &mut String, job: &Job, solved: &Solved, _: &Judged<Checked>) {
+    delivered(text, solved, job.spare == 1);
 }
 
 /// A body's new centre is told of a file that has centres.

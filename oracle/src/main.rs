@@ -16,6 +16,7 @@ mod job_file;
 mod judge;
 mod library;
 mod listing;
+mod mechanisms;
 mod model;
 mod packing;
 mod program;
@@ -43,6 +44,8 @@ const USAGE: &str = "usage: oracle/run COMMAND
   velocities drive LIBRARY [JOBS] [SEED]
                                   velocity solves and their checks, with rules and shifts among them
   velocities sheets               V1 to V5 on reference and model
+  groups LIBRARY [TABLES] [SEED]  an implementation's solves by groups against the model, of positions
+                                  and of velocities
   record                          makes the recorded solves in crates/solve_recorded
   replay                          judges the recorded solves anew
   cover                           counts what the recorded solves meet
@@ -50,6 +53,7 @@ const USAGE: &str = "usage: oracle/run COMMAND
   differences                     docs/DIFFERENCES.md's inputs on the reference
   bench [LIBRARY]                 times of the reference, and of an implementation
   bench-closing LIBRARY           time of an implementation's closing check at 512 rows, with its list too
+  bench-groups LIBRARY            times of an implementation's solve by groups, and of the one table
   bench-program PROGRAM           time of the job program's process on the largest job
   job FILE                        what the job program prints of a job file
   files FOLDER [JOBS] [SEED] [SPARE]
@@ -57,6 +61,9 @@ const USAGE: &str = "usage: oracle/run COMMAND
   program PROGRAM [FILES] [SEED]  the job program's own process on generated, damaged and random files
   margined FILE                   what the program that lists margins prints of a job file
   margins PROGRAM [FILES] [SEED]  that program's own process on such files
+  grouped FILE                    what the program that solves by groups prints of a job file
+  mechanisms PROGRAM [FILES] [SEED]
+                                  that program's own process on such files, several mechanisms on a bench
   converted FILE [ARGUMENT..]     what the converter writes of a job file, to standard output
   convert PROGRAM [FILES] [SEED]  the converter's own process on such files, both layouts
   inertia record                  makes the recorded matrices in crates/inertia_recorded
@@ -98,6 +105,9 @@ fn command(words: &[&str]) -> Result<bool, String> {
             driver::centres(library, number(2, 100_000)?, number(3, 1)?, &home())
         }
         ["proposals", library, ..] => proposals::run(library, number(2, 200_000)?, number(3, 1)?),
+        ["groups", library, ..] => {
+            driver::groups::run(library, number(2, 100_000)?, number(3, 1)?, &home())
+        }
         ["velocities", "sheets"] => Ok(velocities::sheets()),
         ["velocities", "drive", library, ..] => {
             driver::velocities(library, number(3, 100_000)?, number(4, 1)?, &home())
@@ -111,6 +121,7 @@ fn command(words: &[&str]) -> Result<bool, String> {
         ["bench"] => bench::tables(None),
         ["bench", library] => bench::tables(Some(library)),
         ["bench-closing", library] => bench::closing(library),
+        ["bench-groups", library] => bench::groups::table(library),
         ["bench-program", program] => bench::program::table(program),
         ["job", file] => {
             let bytes = std::fs::read(file).map_err(|error| format!("{file}: {error}"))?;
@@ -128,6 +139,14 @@ fn command(words: &[&str]) -> Result<bool, String> {
         ["program", program, ..] => program::run(program, number(2, 1000)?, number(3, 1)?, &home()),
         ["files", folder, ..] => {
             file_jobs::write(folder, number(2, 1000)?, number(3, 1)?, number(4, 0)? as u32)
+        }
+        ["grouped", file] => {
+            let bytes = std::fs::read(file).map_err(|error| format!("{file}: {error}"))?;
+            print!("{}", mechanisms::of_file(&bytes));
+            Ok(true)
+        }
+        ["mechanisms", program, ..] => {
+            mechanisms::run(program, number(2, 1000)?, number(3, 1)?, &home())
         }
         ["converted", file, asked @ ..] => {
             let bytes = std::fs::read(file).map_err(|error| format!("{file}: {error}"))?;

@@ -6,6 +6,7 @@
 mod algebra;
 mod centres;
 mod closing;
+mod groups;
 mod margins;
 mod operator;
 mod preconditioner;
@@ -15,10 +16,11 @@ mod table;
 
 pub use algebra::{Side, Vector, cross, scaled};
 pub use closing::{Checked, check_words, closing_check};
+pub use groups::{Bench, Groups, only, solve_groups};
 pub use margins::{Margin, margins};
 pub use rules::agreed;
 pub use steps::{Begun, begin};
-pub use table::{Row, Table, opened, tolerances_fit};
+pub use table::{Row, Table, masses_finite, opened, tolerances_fit, words_fit};
 
 use crate::job::{Answer, Job, Kind, Solved};
 use preconditioner::Preconditioner;

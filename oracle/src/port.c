@@ -141,6 +141,53 @@ void oracle_solve_velocity(
     tell_solved(refusal, to, answer, answer_len);
 }
 
+/* A solve by groups takes no work memory. The raw functions, so that group_count may be of any length. */
+void oracle_solve_groups(
+    double *numbers, size_t numbers_len, const uint32_t *words, size_t words_len,
+    const double *masses, size_t masses_len, const double *centres, size_t centres_len,
+    const uint32_t *rule_words, size_t rule_words_len,
+    const double *rule_tolerances, size_t rule_tolerances_len,
+    uint32_t rows, uint32_t bodies, uint32_t limit, uint32_t mode, double shift,
+    double *solution, size_t solution_len, double *impulses, size_t impulses_len,
+    double *new_centres, size_t new_centres_len,
+    uint32_t *rule_numbers, size_t rule_numbers_len,
+    uint32_t *group_numbers, size_t group_numbers_len,
+    uint32_t *group_answers, size_t group_answers_len,
+    double *group_maxima, size_t group_maxima_len,
+    uint32_t *group_count, size_t group_count_len, uint64_t *answer, size_t answer_len)
+{
+    if (answer_len == 1)
+        answer[0] = kapitsa_solve_groups(
+            numbers, numbers_len, words, words_len, masses, masses_len, centres, centres_len,
+            rule_words, rule_words_len, rule_tolerances, rule_tolerances_len, rows, bodies, limit,
+            mode, shift, solution, solution_len, impulses, impulses_len, new_centres,
+            new_centres_len, rule_numbers, rule_numbers_len, group_numbers, group_numbers_len,
+            group_answers, group_answers_len, group_maxima, group_maxima_len, group_count,
+            group_count_len);
+}
+
+void oracle_solve_velocity_groups(
+    double *numbers, size_t numbers_len, const uint32_t *words, size_t words_len,
+    const double *masses, size_t masses_len, const double *residuals, size_t residuals_len,
+    const uint32_t *rule_words, size_t rule_words_len,
+    const double *rule_tolerances, size_t rule_tolerances_len,
+    uint32_t rows, uint32_t bodies, uint32_t limit, uint32_t mode, double shift,
+    double *solution, size_t solution_len, double *impulses, size_t impulses_len,
+    uint32_t *rule_numbers, size_t rule_numbers_len,
+    uint32_t *group_numbers, size_t group_numbers_len,
+    uint32_t *group_answers, size_t group_answers_len,
+    double *group_maxima, size_t group_maxima_len,
+    uint32_t *group_count, size_t group_count_len, uint64_t *answer, size_t answer_len)
+{
+    if (answer_len == 1)
+        answer[0] = kapitsa_solve_velocity_groups(
+            numbers, numbers_len, words, words_len, masses, masses_len, residuals, residuals_len,
+            rule_words, rule_words_len, rule_tolerances, rule_tolerances_len, rows, bodies, limit,
+            mode, shift, solution, solution_len, impulses, impulses_len, rule_numbers,
+            rule_numbers_len, group_numbers, group_numbers_len, group_answers, group_answers_len,
+            group_maxima, group_maxima_len, group_count, group_count_len);
+}
+
 /* What a check takes before its answer, and is passed on; beside is centres or residuals. */
 #define TAKES(beside)                                                                           \
     const double *numbers, size_t numbers_len, const uint32_t *words, size_t words_len,         \

@@ -106,6 +106,12 @@ pub fn printed(
     if let Some(mut input) = child.stdin.take() {
         let _ = input.write_all(&file[..cut]).and_then(|()| input.write_all(&file[cut..]));
     }
+    // Read as it comes: a pipe holds no more than 64 KiB, and groups print more.
+    let output = child.stdout.take();
+    let reader = std::thread::spawn(move || {
+        let mut text = Vec::new();
+        output.map_or(Ok(0), |mut output| output.read_to_end(&mut text)).map(|_| text)
+    });
     let start = Instant::now();
     let status = loop {
         match child.try_wait().map_err(|error| error.to_string())? {
@@ -118,9 +124,7 @@ pub fn printed(
             None => std::thread::sleep(Duration::from_micros(20)),
         }
     };
-    let mut text = Vec::new();
-    if let Some(mut output) = child.stdout.take() {
-        output.read_to_end(&mut text).map_err(|error| error.to_string())?;
-    }
+    let text = reader.join().map_err(|_| "the reader of its output failed".to_string())?;
+    let text = text.map_err(|error| error.to_string())?;
     Ok(if status.success() { Ok(text) } else { Err(status.to_string()) })
 }

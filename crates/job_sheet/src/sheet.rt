@@ -21,7 +21,7 @@ use position_delivery::PositionPcg;
 use position_solve::solve_small_position;
 
 // A job that has been read.
-fn write_job(
+pub fn write_job(
     sheet: Sheet,
     trailer: Trailer,
     numbers: &mut [f64],

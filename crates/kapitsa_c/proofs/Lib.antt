@@ -2,3 +2,4 @@ pub mod Telling
 pub mod Verdicts
 pub mod Listed
 pub mod Proposals
+pub mod Grouping

@@ -1,3 +1,4 @@
+pub mod Benches
 pub mod Closing
 pub mod Margins
 pub mod Proposing

@@ -36,6 +36,29 @@ const FAULTS: [Fault; 26] = [
     tiny_masses,
 ];
 
+/// Those that a solve by groups leaves to the group: none of them makes the whole table's tests fail, but
+/// for numbers that overflow.
+const OWN: [Fault; 14] = [
+    zero_mass,
+    negative_mass,
+    equal_rows,
+    equal_rows,
+    nearly_equal_rows,
+    scaled_row,
+    scaled_errors,
+    scaled_errors,
+    scaled_masses,
+    opening_test,
+    empty_row,
+    gained_multipliers,
+    owners,
+    tiny_masses,
+];
+
+pub fn own(job: &mut Job, random: &mut Random) {
+    random.pick(&OWN)(job, random);
+}
+
 /// Leaves a job alone whose counts no longer fit its lists: further faults index by them.
 pub fn any(job: &mut Job, random: &mut Random) {
     let fits = job.numbers.len() == ROW_NUMBERS * job.rows as usize
