@@ -83,7 +83,7 @@ module _ (t u : Table) (alike : TablesAlike t u) where
     }
 
   module _ (rules : Rules) (same : (i : ℕ) → i < t .rows → ruleOf rules u i ≡ ruleOf rules t i) (listed other : ℕ → Float) (e : (i : ℕ) → i < t .rows → other i ≡ listed i) where
-    closings-agree : ((i : ℕ) → i < t .rows → rowError u i ≡ rowError t i) → (placed : Bool) → ClosingsAgree (closingOf t listed rules placed) (closingOf u other rules placed)
+    pub closings-agree : ((i : ℕ) → i < t .rows → rowError u i ≡ rowError t i) → (placed : Bool) → ClosingsAgree (closingOf t listed rules placed) (closingOf u other rules placed)
     closings-agree errors placed = record {
       table = alike;
       error = errors;
@@ -94,7 +94,7 @@ module _ (t u : Table) (alike : TablesAlike t u) where
       placed = refl;
     }
 
-    speeds-agree : (residual lent : ℕ → Float) → ((i : ℕ) → i < t .rows → lent i ≡ residual i) → ClosingsAgree (speedsOf t listed rules residual) (speedsOf u other rules lent)
+    pub speeds-agree : (residual lent : ℕ → Float) → ((i : ℕ) → i < t .rows → lent i ≡ residual i) → ClosingsAgree (speedsOf t listed rules residual) (speedsOf u other rules lent)
     speeds-agree residual lent f = record {
       table = alike;
       error = λ i h. ap neg (f i h);
@@ -107,7 +107,7 @@ module _ (t u : Table) (alike : TablesAlike t u) where
 
 -- ---- nothing beyond the counts
 module _ (t u : Table) (a : AgreeBelow t u) where
-  tables-alike : TablesAlike t u
+  pub tables-alike : TablesAlike t u
   tables-alike = record {
     rows = a .rows;
     bodies = a .bodies;
@@ -123,7 +123,7 @@ module _ (t u : Table) (a : AgreeBelow t u) where
   own : (i : ℕ) → i < t .rows → ownerOf u i ≡ ownerOf t i
   own i h = ap (λ (r : ConstraintRow). r .words .owner) (a .row i h)
 
-  rule-below : (rules : Rules) (i : ℕ) → i < t .rows → ruleOf rules u i ≡ ruleOf rules t i
+  pub rule-below : (rules : Rules) (i : ℕ) → i < t .rows → ruleOf rules u i ≡ ruleOf rules t i
   rule-below rules i h = ap (λ (r : ConstraintRow). ruleFor rules (r .words .dimension) (r .words .key)) (a .row i h)
 
   pub looks-below : LooksBelow t u

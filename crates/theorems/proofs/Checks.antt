@@ -104,5 +104,9 @@ module _ (c d : Closing) (w : ClosingsAgree c d) where
     placed = w .placed i;
   }
 
+  -- where the rows' bodies are below the body count, a row's rounded |r| + E is the same, whatever is judged
+  pub reach-below : ((i : ℕ) → i < c .table .rows → BodiesBelow (c .table) i) → (i : ℕ) → i < c .table .rows → reach d i ≡ reach c i
+  reach-below inside i h = ap (λ (e : Closing). reach e i) counts-same ∙ reach-same inside i h
+
   pub check-below : (fits : Bool) → checkOf fits d ≡ checkOf fits c
   check-below fits = ap (checkOf fits) counts-same ∙ with-same fits

@@ -46,7 +46,7 @@ unfolding rowPairs
 row-pairs-same f g i zero e = refl
 row-pairs-same f g i (suc m) e = rw (row-pairs-same f g i m (λ j h. e j (omega arith)), e m (omega arith))
 
-pair-count-same : (f g : ℕ → ℕ → Bool) (n : ℕ) → ((i j : ℕ) → i < n → j < i → f i j ≡ g i j) → pairCount f n ≡ pairCount g n
+pub pair-count-same : (f g : ℕ → ℕ → Bool) (n : ℕ) → ((i j : ℕ) → i < n → j < i → f i j ≡ g i j) → pairCount f n ≡ pairCount g n
 unfolding pairCount
 pair-count-same f g zero e = refl
 pair-count-same f g (suc n) e = rw (pair-count-same f g n (λ i j h k. e i j (omega arith) k), row-pairs-same f g n n (λ j h. e n j (omega arith) h))
@@ -57,7 +57,7 @@ unfolding leading
 leading-same f g zero e = refl
 leading-same f g (suc n) e = rw (leading-same f g n (λ k h. e k (omega arith)), e n (omega arith))
 
-run-few : (owner : ℕ → ℕ) (i n : ℕ) → runLength owner i n ≤ n - i
+pub run-few : (owner : ℕ → ℕ) (i n : ℕ) → runLength owner i n ≤ n - i
 unfolding runLength
 run-few owner i n = leading-le (λ k. eqb (owner (i + k)) (owner i)) (n - i)
 

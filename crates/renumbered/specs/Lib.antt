@@ -1,0 +1,5 @@
+pub mod Renumber
+pub mod Moved
+pub mod Lists
+pub mod Claims
+pub mod Calls

@@ -1,0 +1,1 @@
+// Document 02, n, of a solve by groups. Definitions and their proofs alone.
