@@ -1,10 +1,9 @@
--- Impulses in a slice while they are summed, row by row, and while the responses take their place. Assumes nothing.
+-- Impulses in a slice before their sums begin, and while the responses take their place. Assumes nothing.
 use Prim.Native.Nat.{ℕ, _+_, _*_, _<_, _≤_}
 use mathlib.Core.Path.{_≡_, refl, sym, ap, _∙_}
 use mathlib.Core.Bool.{Bool, true, false, cond}
 use mathlib.Core.List.{List}
 use native.Mathlib.Nat.{add-zero, add-assoc}
-use native.Mathlib.Numerals.{add-one}
 use native.Mathlib.Omega.{arith}
 use lib.Dec.{eqb}
 use lib.ListN.{length, getD, length-replicate, getD-replicate}
@@ -12,14 +11,13 @@ use lib.Ieee.{Float, nan}
 use borrow.Author.Tests.{eqb-true, eqb-false}
 use Rattle.loops.specs.Cleared.{plusZero, cleared}
 use Rattle.kapitsa_math.specs.Lent.{vecOf}
-use Rattle.kapitsa_math.specs.declared.vector.Vec3.{Vec3}
 use Rattle.kapitsa_joint.specs.Impulse.{impulseOf, putImpulseOf}
 use Rattle.kapitsa_joint.specs.Mass.{massOf}
 use Rattle.kapitsa_joint.specs.declared.row.RowJacobian.{RowJacobian}
 use Rattle.kapitsa_joint.specs.declared.impulse.GeneralizedImpulse.{GeneralizedImpulse}
 use Rattle.kapitsa_joint.proofs.Stored.{put-impulse-length, put-impulse-same, put-impulse-other}
-use Rattle.mass_operator.specs.Operator.{addImpulseOf, addRowOf, noImpulse, impulseAt, responseOf}
-use Rattle.mass_operator.specs.Lent.{Impulses, Summing, addedAt, addedRow}
+use Rattle.mass_operator.specs.Operator.{noImpulse, impulseAt, responseOf}
+use Rattle.mass_operator.specs.Lent.{Impulses, Summing}
 
 -- ---- an impulse that is put into the slice
 pub put-at : (l : List Float) (b : ℕ) (v : GeneralizedImpulse) (c : ℕ) → 6 * b + 6 ≤ length l → impulseOf (putImpulseOf l b v) c ≡ cond (eqb b c) v (impulseOf l c)
@@ -43,40 +41,6 @@ unfolding impulseAt
 none-yet j x bodies l₀ e c = rw c (record {
   long = length-replicate (length l₀) plusZero ∙ e;
   at = λ b h. clear-impulse (cleared l₀) b (λ k p. getD-replicate (length l₀) (6 * b + k) plusZero nan (omega arith));
-})
-
--- ---- one more row
-pub added-length : (l : List Float) (b : ℕ) (u v : Vec3) (c : Float) → length (addedAt l b u v c) ≡ length l
-unfolding addedAt
-added-length l b u v c = put-impulse-length l b (addImpulseOf (impulseOf l b) u v c)
-
-pub added-row-length : (l : List Float) (j : RowJacobian) (c : Float) → length (addedRow l j c) ≡ length l
-unfolding addedRow
-added-row-length l j c =
-    added-length (addedAt l (j .«body_a») (j .«linear_a») (j .«angular_a») c) (j .«body_b») (j .«linear_b») (j .«angular_b») c ∙ added-length l (j .«body_a») (j .«linear_a») (j .«angular_a») c
-
-added-at : (l : List Float) (a : ℕ) (u v : Vec3) (c : Float) (b : ℕ) → 6 * a + 6 ≤ length l → impulseOf (addedAt l a u v c) b ≡ cond (eqb a b) (addImpulseOf (impulseOf l b) u v c) (impulseOf l b)
-unfolding addedAt
-added-at l a u v c b h = put-at l a (addImpulseOf (impulseOf l a) u v c) b h ∙ go (eqb a b) (eqb-true a b)
-  where
-    go : (t : Bool) → (t ≡ true → a ≡ b) → cond t (addImpulseOf (impulseOf l a) u v c) (impulseOf l b) ≡ cond t (addImpulseOf (impulseOf l b) u v c) (impulseOf l b)
-    go true y = let e : a ≡ b = y refl in rw e
-    go false y = refl
-
-added-row : (l : List Float) (j : RowJacobian) (c : Float) (b : ℕ) → 6 * (j .«body_a») + 6 ≤ length l → 6 * (j .«body_b») + 6 ≤ length l → impulseOf (addedRow l j c) b ≡ addRowOf j c b (impulseOf l b)
-unfolding addedRow addRowOf
-added-row l j c b p q =
-    let m = addedAt l (j .«body_a») (j .«linear_a») (j .«angular_a») c in
-    let e = added-length l (j .«body_a») (j .«linear_a») (j .«angular_a») c in
-    let r : impulseOf m b ≡ cond (eqb (j .«body_a») b) (addImpulseOf (impulseOf l b) (j .«linear_a») (j .«angular_a») c) (impulseOf l b) = added-at l (j .«body_a») (j .«linear_a») (j .«angular_a») c b p in
-    added-at m (j .«body_b») (j .«linear_b») (j .«angular_b») c b (omega arith) ∙ ap (λ (h : GeneralizedImpulse). cond (eqb (j .«body_b») b) (addImpulseOf h (j .«linear_b») (j .«angular_b») c) h) r
-
-pub one-more : {j : ℕ → RowJacobian} {x : ℕ → Float} {bodies i : ℕ} {l l′ : List Float} → Summing j x bodies i l
-    → j i .«body_a» < bodies → j i .«body_b» < bodies → l′ ≡ addedRow l (j i) (x i) → Summing j x bodies (i + 1) l′
-unfolding impulseAt
-one-more {j} {x} {bodies} {i} {l} h p q e = rw (e, add-one i) (record {
-  long = added-row-length l (j i) (x i) ∙ h .long;
-  at = λ b t. added-row l (j i) (x i) b (omega (arith, h .long)) (omega (arith, h .long)) ∙ ap (addRowOf (j i) (x i) b) (h .at b t);
 })
 
 pub all-rows : {j : ℕ → RowJacobian} {x : ℕ → Float} {bodies i n : ℕ} {l : List Float} → Summing j x bodies i l → i ≤ n → n ≤ i → Summing j x bodies n l

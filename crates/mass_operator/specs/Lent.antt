@@ -4,11 +4,10 @@ use mathlib.Core.Path.{_≡_}
 use mathlib.Core.List.{List}
 use lib.ListN.{length}
 use lib.Ieee.{Float}
-use Rattle.kapitsa_math.specs.declared.vector.Vec3.{Vec3}
-use Rattle.kapitsa_joint.specs.Impulse.{impulseOf, putImpulseOf}
+use Rattle.kapitsa_joint.specs.Impulse.{impulseOf}
 use Rattle.kapitsa_joint.specs.declared.row.RowJacobian.{RowJacobian}
 use Rattle.kapitsa_joint.specs.declared.impulse.GeneralizedImpulse.{GeneralizedImpulse}
-use Rattle.mass_operator.specs.Operator.{addImpulseOf, impulseAt, rowValueOf}
+use Rattle.mass_operator.specs.Operator.{impulseAt, rowValueOf}
 
 -- the slice l holds the impulses g 0 .. g (bodies - 1)
 pub record Impulses (g : ℕ → GeneralizedImpulse) (bodies : ℕ) (l : List Float) : Type 0 where
@@ -19,13 +18,6 @@ pub record Impulses (g : ℕ → GeneralizedImpulse) (bodies : ℕ) (l : List Fl
 pub record Summing (j : ℕ → RowJacobian) (x : ℕ → Float) (bodies i : ℕ) (l : List Float) : Type 0 where
   pub long : length l ≡ 6 * bodies
   pub at : (b : ℕ) → b < bodies → impulseOf l b ≡ impulseAt j x b i
-
--- one body's impulse with one more term, and those of a row's two bodies
-unfoldable pub addedAt : List Float → ℕ → Vec3 → Vec3 → Float → List Float
-addedAt l b linear angular c = putImpulseOf l b (addImpulseOf (impulseOf l b) linear angular c)
-
-unfoldable pub addedRow : List Float → RowJacobian → Float → List Float
-addedRow l j c = addedAt (addedAt l (j .«body_a») (j .«linear_a») (j .«angular_a») c) (j .«body_b») (j .«linear_b») (j .«angular_b») c
 
 -- a row's value by the responses that a slice holds
 unfoldable pub valueIn : RowJacobian → List Float → Float

@@ -3,3 +3,4 @@ pub mod System
 pub mod Operator
 pub mod Flat
 pub mod Lent
+pub mod BodyPair

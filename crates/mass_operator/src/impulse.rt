@@ -1,19 +1,21 @@
 // The impulses of a vector of coefficients: add_generalized_impulse and global_velocity_impulse of pcg.rs.
 ghost use mathlib.Core.Path.{_≡_};
-ghost use Prim.Native.Nat.{_+_, _*_, _≤_};
-ghost use lib.ListN.{length};
+ghost use Prim.Native.Nat.{_+_, _*_, _<_, _≤_};
+ghost use lib.ListN.{length, getD};
 ghost use Rattle.compact_table.specs.Compact.{compactOf, Linked};
 ghost use Rattle.mass_operator.specs.Operator.{addImpulseOf};
 ghost use Rattle.mass_operator.specs.Flat.{coefficients, Summed};
-ghost use Rattle.mass_operator.specs.Lent.{Summing, addedAt, addedRow};
+ghost use Rattle.mass_operator.specs.Lent.{Summing};
+ghost use Rattle.mass_operator.specs.BodyPair.{addedRow, Exchanged};
+use crate::body_pair::BodyPair;
+use crate::body_pair::body_pair_at;
+use crate::body_pair::on_bodies;
+use crate::body_pair::put_body_pair;
 use crate::finite::Applied;
 use crate::finite::test_finite;
 use compact_table::compact_at;
 use kapitsa_joint::GeneralizedImpulse;
-use kapitsa_joint::impulse_at;
-use kapitsa_joint::put_impulse;
 use kapitsa_math::Vec3;
-use loops::wide;
 
 pub fn add_generalized_impulse(
     impulse: GeneralizedImpulse,
@@ -31,31 +33,37 @@ pub fn add_generalized_impulse(
     }
 }
 
-fn add_at(impulses: &mut [f64], body: u32, linear: Vec3, angular: Vec3, coefficient: f64)
-    requires { ⌜ 6 * body + 6 ≤ length (now impulses) ⌝ }
-    ensures { λ _. ⌜ now (impulses .exit) ≡ addedAt (now (impulses .entry)) body linear angular coefficient ⌝ }
+// One more term for each body of row `i`.
+fn add_row(jacobians: &[f64], links: &[u32], vector: &[f64], i: usize, pair: BodyPair) -> BodyPair
+    requires { ⌜ (12 * i + 12 ≤ length (now jacobians)) × (2 * i + 2 ≤ length (now links)) × (i < length (now vector)) ⌝ }
+    ensures { λ r. ⌜ r ≡ addedRow pair (compactOf (now (jacobians .entry)) (now (links .entry)) i) (coefficients (now (vector .entry)) i) ⌝ }
 {
-    let b = wide(body);
-    let before = impulse_at(impulses, b);
-    put_impulse(
-        impulses,
-        b,
-        add_generalized_impulse(before, linear, angular, coefficient),
-    );
-}
-
-fn add_row(jacobians: &[f64], links: &[u32], i: usize, coefficient: f64, impulses: &mut [f64])
-    requires { ⌜ (12 * i + 12 ≤ length (now jacobians)) × (2 * i + 2 ≤ length (now links)) ⌝ }
-    requires { ⌜ (6 * (compactOf (now jacobians) (now links) i .«body_a») + 6 ≤ length (now impulses)) × (6 * (compactOf (now jacobians) (now links) i .«body_b») + 6 ≤ length (now impulses)) ⌝ }
-    ensures { λ _. ⌜ now (impulses .exit) ≡ addedRow (now (impulses .entry)) (compactOf (now (jacobians .entry)) (now (links .entry)) i) coefficient ⌝ }
-{
+    let coefficient = vector[i];
     let j = compact_at(jacobians, links, i);
     let linear_a = j.linear_a;
     let angular_a = j.angular_a;
     let linear_b = j.linear_b;
     let angular_b = j.angular_b;
-    add_at(impulses, j.body_a, linear_a, angular_a, coefficient);
-    add_at(impulses, j.body_b, linear_b, angular_b, coefficient);
+    BodyPair {
+        body_a: pair.body_a,
+        body_b: pair.body_b,
+        of_a: add_generalized_impulse(pair.of_a, linear_a, angular_a, coefficient),
+        of_b: add_generalized_impulse(pair.of_b, linear_b, angular_b, coefficient),
+    }
+}
+
+// The bodies of row `i`: where they are others, those held are put back and these are taken up.
+fn exchange(links: &[u32], i: usize, pair: BodyPair, impulses: &mut [f64]) -> BodyPair
+    requires { ⌜ 2 * i + 2 ≤ length (now links) ⌝ }
+    requires { ⌜ (6 * (pair .«body_a») + 6 ≤ length (now impulses)) × (6 * (pair .«body_b») + 6 ≤ length (now impulses)) ⌝ }
+    requires { ⌜ (6 * (getD (now links) (2 * i) 0) + 6 ≤ length (now impulses)) × (6 * (getD (now links) (2 * i + 1) 0) + 6 ≤ length (now impulses)) ⌝ }
+    ensures { λ r. ⌜ Exchanged (now (links .entry)) i pair (now (impulses .entry)) r (now (impulses .exit)) ⌝ }
+{
+    if on_bodies(links, i, pair) {
+        return pair;
+    }
+    put_body_pair(impulses, pair);
+    body_pair_at(links, i, impulses)
 }
 
 // The impulse of every body, rows ascending from +0.0.
@@ -71,11 +79,17 @@ pub fn sum_impulses(
     ensures { λ _. ⌜ Summing (compactOf (now (jacobians .entry)) (now (links .entry))) (coefficients (now (vector .entry))) bodies (length (now (vector .entry))) (now (impulses .exit)) ⌝ }
 {
     loops::clear(impulses);
+    if vector.len() == 0 {
+        return;
+    }
+    let mut pair = body_pair_at(links, 0, impulses);
     let mut i = 0;
     while i < vector.len() {
-        add_row(jacobians, links, i, vector[i], impulses);
+        let taken = exchange(links, i, pair, impulses);
+        pair = add_row(jacobians, links, vector, i, taken);
         i += 1;
     }
+    put_body_pair(impulses, pair);
 }
 
 // The same, with the answer whether every number of it is finite.

@@ -1,15 +1,19 @@
 // The operator on a vector: global_velocity_matrix_vector of pcg.rs.
 ghost use mathlib.Core.Path.{_≡_};
 ghost use Prim.Native.Nat.{_+_, _*_, _≤_};
-ghost use lib.ListN.{length};
+ghost use lib.ListN.{length, getD};
 ghost use Rattle.loops.specs.Tabulate.{tabulate};
 ghost use Rattle.kapitsa_joint.specs.Impulse.{impulseOf, putImpulseOf};
 ghost use Rattle.kapitsa_joint.specs.Mass.{massOf};
 ghost use Rattle.compact_table.specs.Compact.{compactOf, Linked};
 ghost use Rattle.mass_operator.specs.System.{compactSystem};
-ghost use Rattle.mass_operator.specs.Operator.{responseOf};
+ghost use Rattle.mass_operator.specs.Operator.{responseOf, rowValueOf};
 ghost use Rattle.mass_operator.specs.Flat.{coefficients, Multiplied};
 ghost use Rattle.mass_operator.specs.Lent.{Impulses, valueIn};
+ghost use Rattle.mass_operator.specs.BodyPair.{bodyPairOf};
+use crate::body_pair::BodyPair;
+use crate::body_pair::body_pair_at;
+use crate::body_pair::on_bodies;
 use crate::finite::Applied;
 use crate::finite::test_finite;
 use crate::impulse::sum_impulses;
@@ -19,7 +23,6 @@ use kapitsa_joint::SolverMass;
 use kapitsa_joint::impulse_at;
 use kapitsa_joint::mass_at;
 use kapitsa_joint::put_impulse;
-use loops::wide;
 
 pub fn response(mass: SolverMass, impulse: GeneralizedImpulse) -> GeneralizedImpulse
     ensures { λ r. ⌜ r ≡ responseOf mass impulse ⌝ }
@@ -53,18 +56,30 @@ fn respond(masses: &[f64], bodies: usize, body_impulses: &mut [f64])
     }
 }
 
-fn value_at(jacobians: &[f64], links: &[u32], i: usize, responses: &[f64]) -> f64
+// The bodies of row `i`: those held, or these taken up.
+fn take_up(links: &[u32], i: usize, pair: BodyPair, responses: &[f64]) -> BodyPair
+    requires { ⌜ 2 * i + 2 ≤ length (now links) ⌝ }
+    requires { ⌜ (6 * (getD (now links) (2 * i) 0) + 6 ≤ length (now responses)) × (6 * (getD (now links) (2 * i + 1) 0) + 6 ≤ length (now responses)) ⌝ }
+    requires { ⌜ (pair .«of_a» ≡ impulseOf (now responses) (pair .«body_a»)) × (pair .«of_b» ≡ impulseOf (now responses) (pair .«body_b»)) ⌝ }
+    ensures { λ r. ⌜ r ≡ bodyPairOf (now (links .entry)) i (now (responses .entry)) ⌝ }
+{
+    if on_bodies(links, i, pair) {
+        return pair;
+    }
+    body_pair_at(links, i, responses)
+}
+
+fn row_value(jacobians: &[f64], links: &[u32], i: usize, pair: BodyPair) -> f64
     requires { ⌜ (12 * i + 12 ≤ length (now jacobians)) × (2 * i + 2 ≤ length (now links)) ⌝ }
-    requires { ⌜ (6 * (compactOf (now jacobians) (now links) i .«body_a») + 6 ≤ length (now responses)) × (6 * (compactOf (now jacobians) (now links) i .«body_b») + 6 ≤ length (now responses)) ⌝ }
-    ensures { λ r. ⌜ r ≡ valueIn (compactOf (now (jacobians .entry)) (now (links .entry)) i) (now (responses .entry)) ⌝ }
+    ensures { λ r. ⌜ r ≡ rowValueOf (compactOf (now (jacobians .entry)) (now (links .entry)) i) (pair .«of_a») (pair .«of_b») ⌝ }
 {
     let j = compact_at(jacobians, links, i);
     let linear_a = j.linear_a;
     let angular_a = j.angular_a;
     let linear_b = j.linear_b;
     let angular_b = j.angular_b;
-    let p = impulse_at(responses, wide(j.body_a));
-    let q = impulse_at(responses, wide(j.body_b));
+    let p = pair.of_a;
+    let q = pair.of_b;
     linear_a.dot(p.linear)
         + angular_a.dot(p.angular)
         + linear_b.dot(q.linear)
@@ -77,9 +92,14 @@ fn values(jacobians: &[f64], links: &[u32], bodies: usize, responses: &[f64], pr
     requires { ⌜ (length (now responses) ≡ 6 * bodies) × Linked (now links) (length (now product)) bodies ⌝ }
     ensures { λ _. ⌜ now (product .exit) ≡ tabulate (λ i. valueIn (compactOf (now (jacobians .entry)) (now (links .entry)) i) (now (responses .entry))) (length (now (product .entry))) ⌝ }
 {
+    if product.len() == 0 {
+        return;
+    }
+    let mut pair = body_pair_at(links, 0, responses);
     let mut i = 0;
     while i < product.len() {
-        product[i] = value_at(jacobians, links, i, responses);
+        pair = take_up(links, i, pair, responses);
+        product[i] = row_value(jacobians, links, i, pair);
         i += 1;
     }
 }
