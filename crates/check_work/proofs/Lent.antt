@@ -15,7 +15,6 @@ use Rattle.mass_operator.specs.System.{systemOf, compactSystem}
 use Rattle.mass_operator.specs.Operator.{valueAt}
 use Rattle.mass_operator.specs.Flat.{coefficients, productOf, Multiplied}
 use Rattle.compact_table.specs.Compact.{Linked}
-use Rattle.mass_operator.specs.declared.finite.Applied.{Applied}
 use Rattle.mass_operator.proofs.Same.{value-same}
 use Rattle.check_measure.specs.Verdict.{sizeOfRow, sizesOf}
 use Rattle.check_work.specs.Work.{Valid}
@@ -35,8 +34,8 @@ linked-of n b numbers words {links = links} v g = record {
 }
 
 -- what the operator leaves on sizes
-pub sizes-product : (b : ℕ) (links : List ℕ) (jacobians masses multipliers : List Float) {j m x : List Float} {r : Applied} {v p : List Float}
-    → j ≡ map absolute jacobians → m ≡ map absolute masses → x ≡ map absolute multipliers → Multiplied (compactSystem (length x) b j links m) (coefficients x) r v p
+pub sizes-product : (b : ℕ) (links : List ℕ) (jacobians masses multipliers : List Float) {j m x : List Float} {r : Float} {v p : List Float}
+    → j ≡ map absolute jacobians → m ≡ map absolute masses → x ≡ map absolute multipliers → Multiplied (compactSystem (length x) b j links m) x r v p
     → p ≡ productOf (compactSystem (length multipliers) b (map absolute jacobians) links (map absolute masses)) (coefficients (map absolute multipliers))
 sizes-product b links jacobians masses multipliers {j} {m} {x} e f g h =
     h .multiplied

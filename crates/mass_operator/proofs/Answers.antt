@@ -17,6 +17,7 @@ use Rattle.mass_operator.specs.Applied.{allFiniteOf, appliedOf, appliedO
 use Rattle.mass_operator.specs.declared.finite.Applied.{Applied}
 use Rattle.mass_operator.specs.declared.finite.Applied.the-variants.{Done, Overflow}
 use Rattle.compact_table.specs.Compact.{compactOf, Linked}
+use Rattle.mass_operator.specs.Dot.{dotProductOf}
 use Rattle.mass_operator.specs.System.{compactSystem}
 use Rattle.mass_operator.specs.Operator.{impulseAt, responseOf, responseAt, valueAt}
 use Rattle.mass_operator.specs.Flat.{coefficients, impulsesOf, responsesOf, productOf, Summed, Multiplied}
@@ -70,15 +71,14 @@ module _ (jacobians : List Float) (links : List ℕ) (masses vector : List Float
         let b : j i .«body_b» < bodies = unfold compactOf in linked .b i t in
         rw (response (j i .«body_a») a, response (j i .«body_b») b)
 
-    pub multiplied-is : {r : Applied} {m : ℕ} → product ≡ tabulate (λ i. valueIn (j i) responses) m → m ≡ rows → r ≡ appliedOf product → Multiplied (compactSystem rows bodies jacobians links masses) x r responses product
+    pub multiplied-is : {r : Float} {m : ℕ} → product ≡ tabulate (λ i. valueIn (j i) responses) m → m ≡ rows → r ≡ dotProductOf vector product → Multiplied (compactSystem rows bodies jacobians links masses) vector r responses product
     unfolding responsesOf productOf
     multiplied-is {r} {m} e q a =
         let p : product ≡ tabulate (valueAt (compactSystem rows bodies jacobians links masses) x) rows = e ∙ ap (tabulate (λ i. valueIn (j i) responses)) q ∙ same in
         record {
           responded = impulses-flat (responseAt (compactSystem rows bodies jacobians links masses) x) bodies responses responses-hold;
           multiplied = p;
-          answered = a ∙ ap appliedOf p;
-          told = applied-told _ (a ∙ ap appliedOf p) 16;
+          answered = a ∙ ap (dotProductOf vector) p;
         }
       where
         same : tabulate (λ i. valueIn (j i) responses) rows ≡ tabulate (valueAt (compactSystem rows bodies jacobians links masses) x) rows

@@ -1,7 +1,8 @@
--- Laws of the impulses in their slices, and that testing the product tests all.
+-- Laws of the impulses in their slices, and that testing the product tests all, and testing a dot product with it tests the product.
 pub mod Flat
 pub mod Sums
 pub mod BodyPairs
+pub mod Dots
 pub mod Room
 pub mod Answers
 pub mod Overflow

@@ -10,6 +10,7 @@ use Rattle.kapitsa_joint.specs.declared.row.RowJacobian.{RowJacobian}
 use Rattle.kapitsa_joint.specs.declared.impulse.GeneralizedImpulse.{GeneralizedImpulse}
 use Rattle.mass_operator.specs.Applied.{allFiniteOf, appliedOf, appliedOut}
 use Rattle.mass_operator.specs.declared.finite.Applied.{Applied}
+use Rattle.mass_operator.specs.Dot.{dotProductOf}
 use Rattle.mass_operator.specs.System.{System}
 use Rattle.mass_operator.specs.Operator.{impulseAt, responseAt, valueAt}
 
@@ -37,10 +38,10 @@ pub record Summed (j : ℕ → RowJacobian) (x : ℕ → Float) (rows bodies : �
   pub answered : answer ≡ appliedOf (impulsesOf j x rows bodies)
   pub told : (number : ℕ) → test (allFiniteOf (impulsesOf j x rows bodies)) number ≡ appliedOut number answer
 
--- document 01, refusal 16, "A number in the recurrence is not finite": of the operator's numbers, testing the product tests all (proofs/Overflow.antt).
+-- The answer is vector · product: "alpha = s / (direction · product)". Document 01, refusal 16, "A number in the recurrence is not finite": of the operator's numbers,
+-- testing the product tests all (proofs/Overflow.antt), and testing the answer tests the product (proofs/Dots.antt).
 -- The responses stand where the impulses stood.
-pub record Multiplied (s : System) (x : ℕ → Float) (answer : Applied) (responses product : List Float) : Type 0 where
-  pub responded : responses ≡ responsesOf s x
-  pub multiplied : product ≡ productOf s x
-  pub answered : answer ≡ appliedOf (productOf s x)
-  pub told : test (allFiniteOf (productOf s x)) 16 ≡ appliedOut 16 answer
+pub record Multiplied (s : System) (vector : List Float) (answer : Float) (responses product : List Float) : Type 0 where
+  pub responded : responses ≡ responsesOf s (coefficients vector)
+  pub multiplied : product ≡ productOf s (coefficients vector)
+  pub answered : answer ≡ dotProductOf vector (productOf s (coefficients vector))

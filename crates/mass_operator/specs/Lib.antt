@@ -1,6 +1,7 @@
 pub mod Applied
 pub mod System
 pub mod Operator
+pub mod Dot
 pub mod Flat
 pub mod Lent
 pub mod BodyPair

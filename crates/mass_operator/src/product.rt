@@ -7,15 +7,14 @@ ghost use Rattle.kapitsa_joint.specs.Impulse.{impulseOf, putImpulseOf};
 ghost use Rattle.kapitsa_joint.specs.Mass.{massOf};
 ghost use Rattle.compact_table.specs.Compact.{compactOf, Linked};
 ghost use Rattle.mass_operator.specs.System.{compactSystem};
+ghost use Rattle.mass_operator.specs.Dot.{dotProductOf};
 ghost use Rattle.mass_operator.specs.Operator.{responseOf, rowValueOf};
-ghost use Rattle.mass_operator.specs.Flat.{coefficients, Multiplied};
+ghost use Rattle.mass_operator.specs.Flat.{Multiplied};
 ghost use Rattle.mass_operator.specs.Lent.{Impulses, valueIn};
 ghost use Rattle.mass_operator.specs.BodyPair.{bodyPairOf};
 use crate::body_pair::BodyPair;
 use crate::body_pair::body_pair_at;
 use crate::body_pair::on_bodies;
-use crate::finite::Applied;
-use crate::finite::test_finite;
 use crate::impulse::sum_impulses;
 use compact_table::compact_at;
 use kapitsa_joint::GeneralizedImpulse;
@@ -86,25 +85,38 @@ fn row_value(jacobians: &[f64], links: &[u32], i: usize, pair: BodyPair) -> f64
         + angular_b.dot(q.angular)
 }
 
-// The value of every row.
-fn values(jacobians: &[f64], links: &[u32], bodies: usize, responses: &[f64], product: &mut [f64])
+// The value of every row, and `vector` times them.
+fn values(
+    jacobians: &[f64],
+    links: &[u32],
+    bodies: usize,
+    responses: &[f64],
+    vector: &[f64],
+    product: &mut [f64],
+) -> f64
     requires { ⌜ (12 * length (now product) ≤ length (now jacobians)) × (2 * length (now product) ≤ length (now links)) ⌝ }
-    requires { ⌜ (length (now responses) ≡ 6 * bodies) × Linked (now links) (length (now product)) bodies ⌝ }
+    requires { ⌜ (length (now responses) ≡ 6 * bodies) × (length (now vector) ≡ length (now product)) × Linked (now links) (length (now product)) bodies ⌝ }
     ensures { λ _. ⌜ now (product .exit) ≡ tabulate (λ i. valueIn (compactOf (now (jacobians .entry)) (now (links .entry)) i) (now (responses .entry))) (length (now (product .entry))) ⌝ }
+    ensures { λ r. ⌜ r ≡ dotProductOf (now (vector .entry)) (now (product .exit)) ⌝ }
 {
     if product.len() == 0 {
-        return;
+        return 0.0;
     }
     let mut pair = body_pair_at(links, 0, responses);
+    let mut sum = 0.0;
     let mut i = 0;
     while i < product.len() {
         pair = take_up(links, i, pair, responses);
-        product[i] = row_value(jacobians, links, i, pair);
+        let value = row_value(jacobians, links, i, pair);
+        product[i] = value;
+        sum = sum + vector[i] * value;
         i += 1;
     }
+    sum
 }
 
-// J M^-1 J^T on `vector`, with six numbers a body to work in: impulses, then responses in their place.
+// J M^-1 J^T on `vector`, with six numbers a body to work in: impulses, then responses in their place. The answer is `vector` times the product:
+// it is finite only where the whole product is (proofs/Dots.antt).
 pub fn global_velocity_matrix_vector(
     jacobians: &[f64],
     links: &[u32],
@@ -113,15 +125,14 @@ pub fn global_velocity_matrix_vector(
     bodies: usize,
     body_impulses: &mut [f64],
     product: &mut [f64],
-) -> Applied
+) -> f64
     requires { ⌜ (12 * length (now vector) ≤ length (now jacobians)) × (2 * length (now vector) ≤ length (now links)) ⌝ }
     requires { ⌜ (10 * bodies ≤ length (now masses)) × (length (now «body_impulses») ≡ 6 * bodies) × (length (now product) ≡ length (now vector)) ⌝ }
     requires { ⌜ Linked (now links) (length (now vector)) bodies ⌝ }
-    ensures { λ r. ⌜ Multiplied (compactSystem (length (now (vector .entry))) bodies (now (jacobians .entry)) (now (links .entry)) (now (masses .entry))) (coefficients (now (vector .entry)))
+    ensures { λ r. ⌜ Multiplied (compactSystem (length (now (vector .entry))) bodies (now (jacobians .entry)) (now (links .entry)) (now (masses .entry))) (now (vector .entry))
         r (now («body_impulses» .exit)) (now (product .exit)) ⌝ }
 {
     sum_impulses(jacobians, links, vector, bodies, body_impulses);
     respond(masses, bodies, body_impulses);
-    values(jacobians, links, bodies, body_impulses, product);
-    test_finite(product)
+    values(jacobians, links, bodies, body_impulses, vector, product)
 }

@@ -1,5 +1,4 @@
--- Laws of the recurrence: the sums and vectors that its loops make, the ways through its functions, and that one test at the end of a dot product is enough.
+-- Laws of the recurrence: the vectors that its loops make, and the ways through its functions.
 pub mod Sums
 pub mod Ways
 pub mod Turns
-pub mod Overflow

@@ -5,14 +5,15 @@ use mathlib.Core.Bool.{Bool, true, false, not, _&&_}
 use mathlib.Core.List.{List}
 use lib.ListN.{length}
 use lib.Ieee.{Float}
-use Rattle.loops.specs.Run.{Run, going, ended, on, next}
+use lib.Ieee.Scale.{finite}
+use Rattle.loops.specs.Run.{Run, going, ended, on, next, check}
 use Rattle.loops.specs.Judge.{test}
 use Rattle.loops.proofs.Loop.{on-going, on-ended}
 use Rattle.mass_operator.specs.System.{System}
 use Rattle.mass_operator.specs.Flat.{coefficients, productOf, Multiplied}
 use Rattle.mass_operator.specs.Applied.{allFiniteOf}
-use Rattle.mass_operator.specs.declared.finite.Applied.{Applied}
-use Rattle.mass_operator.specs.declared.finite.Applied.the-variants as applied
+use Rattle.mass_operator.specs.Operator.{valueAt}
+use Rattle.mass_operator.proofs.Dots.{dot-not-finite}
 use Rattle.sparse.proofs.Left.{free}
 use Rattle.triangular.specs.Triangular.{orSixteen}
 use Rattle.triangular.specs.Answers.{solveOut, solvedOut}
@@ -24,6 +25,7 @@ use Rattle.recurrence.specs.Answers.{scaleOut, carriedOut, standing, Adv
 use Rattle.recurrence.specs.declared.ratio.Scale.{Scale}
 use Rattle.recurrence.specs.declared.ratio.Scale.the-variants as scales
 use Rattle.loops.proofs.Judge.{test-pass, test-fail}
+use Rattle.loops.proofs.Tabulate.{length-tabulate}
 
 -- ---- `update`
 module _ (x₀ r₀ direction product : List Float) (a : Float) (x r : List Float) (s t : Bool) (ex : x ≡ plusScaled x₀ a direction) (er : r ≡ lessScaled r₀ a product) (es : s ≡ allFiniteOf x) (et : t ≡ allFiniteOf r) where
@@ -39,30 +41,42 @@ module _ (x₀ r₀ direction product : List Float) (a : Float) (x r : List Floa
   update-is h = rw (← ex, ← er) (test-pass _ _ _ both h refl)
 
 -- ---- `advance`
-module _ (system : System) (x₀ r₀ direction : List Float) (s : Float) (answer : Applied) (responses product : List Float) (m : Multiplied system (coefficients direction) answer responses product) where
-  pub advance-bad : answer ≡ applied.Overflow → advanceOf system record { solution = x₀; residual = r₀ } record { direction = direction; s = s } ≡ ended 16
+alpha-sixteen : (s d : Float) → finite d ≡ false → alphaOf s d ≡ ended 16
+unfolding alphaOf test check
+alpha-sixteen s d h = on-ended _ _ _ (rw h)
+
+product-rows : (system : System) (x : ℕ → Float) → length (productOf system x) ≡ system .rows
+unfolding productOf
+product-rows system x = length-tabulate (valueAt system x) (system .rows)
+
+-- the test of the product refuses nothing that the test of direction · product lets through
+module _ (s d : Float) (f : Float → Run Iterate ℕ) where
+  tested : (b : Bool) → (b ≡ false → finite d ≡ false) → next (test b 16) (λ _. next (alphaOf s d) f) ≡ next (alphaOf s d) f
+  unfolding test check
+  tested true h = on-going _ _ _ refl
+  tested false h = on-ended _ _ _ refl ∙ sym (on-ended _ _ _ (alpha-sixteen s d (h refl)))
+
+module _ (system : System) (x₀ r₀ direction : List Float) (s d : Float) (responses product : List Float) (m : Multiplied system direction d responses product) (rows : system .rows ≡ length direction) (q : Scale) (eq : alphaOf s d ≡ scaleOut q) where
+  by-dot : advanceOf system record { solution = x₀; residual = r₀ } record { direction = direction; s = s } ≡ next (alphaOf s d) (updatedOf record { solution = x₀; residual = r₀ } direction product)
   unfolding advanceOf
-  advance-bad t = on-ended _ _ _ (m .told ∙ rw t)
+  by-dot = rw (← m .multiplied, ← answered) (tested s d _ (allFiniteOf product) (λ h. rw answered (dot-not-finite direction product long h)))
+    where
+      answered : d ≡ dotProductOf direction product
+      answered = m .answered ∙ rw (← m .multiplied)
 
-  module _ (d : Float) (q : Scale) (done : answer ≡ applied.Done) (ed : d ≡ dotProductOf direction product) (eq : alphaOf s d ≡ scaleOut q) where
-    fits : test (allFiniteOf (productOf system (coefficients direction))) 16 ≡ going tt
-    fits = m .told ∙ rw done
+      long : length product ≡ length direction
+      long = ap length (m .multiplied) ∙ product-rows system (coefficients direction) ∙ rows
 
-    scaled : alphaOf s (dotProductOf direction (productOf system (coefficients direction))) ≡ scaleOut q
-    scaled = rw (← m .multiplied, ← ed) eq
+  pub advance-refused : (number : ℕ) → q ≡ scales.Refused number → advanceOf system record { solution = x₀; residual = r₀ } record { direction = direction; s = s } ≡ ended number
+  advance-refused number t = by-dot ∙ on-ended _ _ _ (eq ∙ rw t)
 
-    pub advance-refused : (number : ℕ) → q ≡ scales.Refused number → advanceOf system record { solution = x₀; residual = r₀ } record { direction = direction; s = s } ≡ ended number
-    unfolding advanceOf
-    advance-refused number t = on-going _ _ _ fits ∙ on-ended _ _ _ (scaled ∙ rw t)
-
-    pub advance-on : (a : Float) {o : Run Iterate ℕ} → q ≡ scales.Value a → updatedOf record { solution = x₀; residual = r₀ } direction product a ≡ o → advanceOf system record { solution = x₀; residual = r₀ } record { direction = direction; s = s } ≡ o
-    unfolding advanceOf
-    advance-on a t h = on-going _ _ _ fits ∙ on-going _ _ _ {s = a} (scaled ∙ rw t) ∙ rw (← m .multiplied) h
+  pub advance-on : (a : Float) {o : Run Iterate ℕ} → q ≡ scales.Value a → updatedOf record { solution = x₀; residual = r₀ } direction product a ≡ o → advanceOf system record { solution = x₀; residual = r₀ } record { direction = direction; s = s } ≡ o
+  advance-on a t h = by-dot ∙ on-going _ _ _ {s = a} (eq ∙ rw t) ∙ h
 
 -- what the operator works in stands after a refusal too
-pub advance-left : (system : System) (direction : List Float) (answer : Applied) (responses product solution₀ solution residual₀ residual : List Float) → Multiplied system (coefficients direction) answer responses product → length solution ≡ length solution₀ → length residual ≡ length residual₀
+pub advance-left : (system : System) (direction : List Float) (d : Float) (responses product solution₀ solution residual₀ residual : List Float) → Multiplied system direction d responses product → length solution ≡ length solution₀ → length residual ≡ length residual₀
     → AdvanceLeft system direction responses product solution₀ solution residual₀ residual
-advance-left system direction answer responses product solution₀ solution residual₀ residual m x r = record { responded = m .responded; multiplied = m .multiplied; solution-left = free x; residual-left = free r }
+advance-left system direction d responses product solution₀ solution residual₀ residual m x r = record { responded = m .responded; multiplied = m .multiplied; solution-left = free x; residual-left = free r }
 
 -- ---- `first_direction`
 pub first-is : (residual z d : List Float) (s : Float) (q : Scale) → d ≡ z → s ≡ dotProductOf residual z → productFit s ≡ scaleOut q → firstFrom (going z) residual ≡ carriedOut q d

@@ -1,4 +1,4 @@
-// The vector operations of the recurrence. None tests on the way: a number that went not finite stays so (proofs/Overflow.antt).
+// The vector operations of the recurrence. None tests on the way: a number that went not finite stays so (mass_operator, proofs/Dots.antt).
 ghost use mathlib.Core.Path.{_≡_};
 ghost use Prim.Native.Nat.{_≤_};
 ghost use lib.ListN.{length};

@@ -1,7 +1,7 @@
 -- `mass_operator::product::global_velocity_matrix_vector` meets its contract. Assumes nothing.
 use borrow.Author.Needs.{needs}
-use Rattle.mass_operator.proofs.Answers.{multiplied-is}
 use Rattle.compact_table.proofs.Linked.{linked-same}
+use Rattle.mass_operator.proofs.Answers.{multiplied-is}
 use Rattle.mass_operator.proofs.product.global_velocity_matrix_vector.Statement.{statement}
 use Rattle.mass_operator.proofs.product.global_velocity_matrix_vector.Tie as tie
 
@@ -11,8 +11,7 @@ global-velocity-matrix-vector-spec =
     (tie.spec
     (λ c κs. search needs)  -- sum-impulses-requires
     (λ c κs. search needs)  -- respond-requires
-    (λ c κs. ((search needs, search needs), (search needs, linked-same _ _ _ _ ((c .before .before .before .before .before .before .before .before .before .before .before .before .before .before .before .before) .pre .1 .0 .2) ((c .before .before .before .before .before .before .before .before .before .before .before .before .before .before .before .before) .pre .1 .1))))  -- values-requires
-    (λ c κs. search needs)  -- test-finite-requires
+    (λ c κs. ((search needs, search needs), (search needs, search needs, linked-same _ _ _ _ ((c .before .before .before .before .before .before .before .before .before .before .before .before .before .before .before .before) .pre .1 .0 .2) ((c .before .before .before .before .before .before .before .before .before .before .before .before .before .before .before .before) .pre .1 .1))))  -- values-requires
     (λ c. search needs)  -- same-length
     (λ c. search needs)  -- same-length-2
-    (λ c. multiplied-is _ _ _ ((c .before .before .before .before .before .before .before .before .before .before .before .before .before .before .before .before .before .before .before .before .before) .args .vector .now) _ _ _ _ ((c .before .before .before .before .before .before .before .before .before .before .before .before .before .before .before .before .before .before .before .before .before) .pre .1 .1) ((c .before .before .before .before .before .before .before .before .before .before .before .before .before .sum-impulses) .ensures) ((c .before .before .before .before .before .before .before .before .before .respond) .ensures) ((c .before .before .before .before .values) .ensures) ((c .before .before .before .before .before .before .before .before .before .before .before .before .before .before .before .before .before .before .before .before .before) .pre .1 .0 .2) ((c .test-finite) .ensures)))  -- returns
+    (λ c. multiplied-is _ _ _ ((c .before .before .before .before .before .before .before .before .before .before .before .before .before .before .before .before .before .before .before) .args .vector .now) _ _ _ _ ((c .before .before .before .before .before .before .before .before .before .before .before .before .before .before .before .before .before .before .before) .pre .1 .1) ((c .before .before .before .before .before .before .before .before .before .before .before .sum-impulses) .ensures) ((c .before .before .before .before .before .before .before .respond) .ensures) ((c .before .before .values) .ensures .0) ((c .before .before .before .before .before .before .before .before .before .before .before .before .before .before .before .before .before .before .before) .pre .1 .0 .2) ((c .before .before .values) .ensures .1)))  -- returns

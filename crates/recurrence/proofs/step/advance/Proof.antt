@@ -1,7 +1,7 @@
 -- `recurrence::step::advance` meets its contract. Assumes nothing.
 use mathlib.Core.Path.{refl}
 use Rattle.loops.proofs.Loop.{loops}
-use Rattle.recurrence.proofs.Turns.{advance-bad, advance-left, advance-on, advance-refused}
+use Rattle.recurrence.proofs.Turns.{advance-left, advance-on, advance-refused}
 use Rattle.recurrence.proofs.step.advance.Statement.{statement}
 use Rattle.recurrence.proofs.step.advance.Tie as tie
 
@@ -12,21 +12,15 @@ advance-spec =
     tie.close
     (tie.spec
     (λ c κs. search known)  -- global-velocity-matrix-vector-requires
-    (λ c. search known)  -- enum-told
-    (λ c. search known)  -- enum-told-2
-    (λ c. search known)  -- same-length
-    (λ c. search known)  -- same-length-2
-    (λ c. (advance-bad _ _ _ _ _ _ _ _ ((c .before .before .before .before .before .before .global-velocity-matrix-vector) .ensures) ((c .enum-told2) .given .1), advance-left _ _ _ _ _ _ _ _ _ ((c .before .before .before .before .before .before .global-velocity-matrix-vector) .ensures) refl refl))  -- returns
-    (λ c κs. search known)  -- dot-product-requires
     (λ c κs. search known)  -- alpha-requires
     (λ c. search known)  -- enum-known-scale
     (λ c κs. search known)  -- update-requires
     (λ c. search known)  -- enum-known-number
+    (λ c. search known)  -- same-length
+    (λ c. search known)  -- same-length-2
     (λ c. search known)  -- same-length-3
     (λ c. search known)  -- same-length-4
+    (λ c. (advance-on _ _ _ _ _ _ _ _ ((c .before .before .before .before .before .before .before .before .before .before .before .before .before .before .before .before .global-velocity-matrix-vector) .ensures) refl _ ((c .before .before .before .before .before .before .before .before .before .before .before .alpha) .ensures) _ ((c .before .before .before .before .before .before .before .before .before .scale) .given .1) ((c .before .before .before .before .update) .ensures), advance-left _ _ _ _ _ _ _ _ _ ((c .before .before .before .before .before .before .before .before .before .before .before .before .before .before .before .before .global-velocity-matrix-vector) .ensures) (search known) (search known)))  -- returns
     (λ c. search known)  -- same-length-5
     (λ c. search known)  -- same-length-6
-    (λ c. (advance-on _ _ _ _ _ _ _ _ ((c .before .before .before .before .before .before .before .before .before .before .before .before .before .before .before .before .before .before .before .before .global-velocity-matrix-vector) .ensures) _ _ ((c .before .before .before .before .before .before .before .before .before .before .before .before .before .before .enum-told) .given .1) ((c .before .before .before .before .before .before .before .before .before .before .before .before .dot-product) .ensures) ((c .before .before .before .before .before .before .before .before .before .before .before .alpha) .ensures) _ ((c .before .before .before .before .before .before .before .before .before .scale) .given .1) ((c .before .before .before .before .update) .ensures), advance-left _ _ _ _ _ _ _ _ _ ((c .before .before .before .before .before .before .before .before .before .before .before .before .before .before .before .before .before .before .before .before .global-velocity-matrix-vector) .ensures) (search known) (search known)))  -- returns-2
-    (λ c. search known)  -- same-length-7
-    (λ c. search known)  -- same-length-8
-    (λ c. (advance-refused _ _ _ _ _ _ _ _ ((c .before .before .before .before .before .before .before .before .before .before .before .before .global-velocity-matrix-vector) .ensures) _ _ ((c .before .before .before .before .before .before .enum-told) .given .1) ((c .before .before .before .before .dot-product) .ensures) ((c .before .before .before .alpha) .ensures) _ ((c .before .number) .given .1), advance-left _ _ _ _ _ _ _ _ _ ((c .before .before .before .before .before .before .before .before .before .before .before .before .global-velocity-matrix-vector) .ensures) refl refl)))  -- returns-3
+    (λ c. (advance-refused _ _ _ _ _ _ _ _ ((c .before .before .before .before .before .before .before .before .global-velocity-matrix-vector) .ensures) refl _ ((c .before .before .before .alpha) .ensures) _ ((c .before .number) .given .1), advance-left _ _ _ _ _ _ _ _ _ ((c .before .before .before .before .before .before .before .before .global-velocity-matrix-vector) .ensures) refl refl)))  -- returns-2

@@ -2,7 +2,7 @@
 use Prim.Native.Nat.{_-_}
 use lib.ListN.{length}
 use borrow.Author.Needs.{needs}
-use Rattle.recurrence.proofs.Sums.{Dots, dots-end, dots-more, dots-none}
+use Rattle.mass_operator.proofs.Dots.{Dots, dots-end, dots-more, dots-none}
 use Rattle.recurrence.proofs.vector.dot_product.Statement.{statement}
 use Rattle.recurrence.proofs.vector.dot_product.Tie as tie
 
