@@ -1,6 +1,6 @@
 -- What the calls of a step ask of lent memory, where `Standing` says what stands there for n rows and k are as many. Assumes nothing.
 use Prim.Native.Nat.{ℕ, _*_, _≤_}
-use mathlib.Core.Path.{_≡_, sym, subst}
+use mathlib.Core.Path.{_≡_, sym, subst, _∙_}
 use mathlib.Core.List.{List}
 use native.Mathlib.Omega.{arith}
 use lib.ListN.{length}
@@ -18,6 +18,10 @@ module _ (p : Preconditioner) (n bodies : ℕ) (tolerances masses jacobians : Li
 
   pub linked-fits : Linked links k bodies
   linked-fits = subst (λ (i : ℕ). Linked links i bodies) (sym e) (h .linked)
+
+  -- `take_diagonal_step`
+  pub diagonal-fits : (12 * k ≤ length jacobians) × (2 * k ≤ length links) × (10 * bodies ≤ length masses) × (length (m .diagonal) ≡ k) × (length tolerances ≡ k)
+  diagonal-fits = (omega (arith, h .jacobians-long), omega (arith, h .links-long), h .masses-long, h .ready .long ∙ sym e, h .tolerances-long ∙ sym e)
 
   -- `first`, `renew`
   pub ready-fits : Ready p k m

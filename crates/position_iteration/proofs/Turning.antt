@@ -1,18 +1,24 @@
 -- The ways through a step, the loop over the steps, and what leads to it. Assumes nothing.
 use Prim.Native.Nat.{ℕ, _+_, _<_, _≤_}
 use mathlib.Core.Path.{_≡_, refl, sym, ap, _∙_, subst}
-use mathlib.Core.Bool.{Bool, true, false}
+use mathlib.Core.Bool.{Bool, true, false, not}
 use mathlib.Core.List.{List}
 use lib.ListN.{length}
 use lib.Ieee.{Float}
 use Rattle.loops.specs.Run.{Run, going, ended, check, turns}
+use borrow.Author.Tests.{not-true, not-false}
 use Rattle.loops.proofs.Loop.{on-going, on-ended, At, at-more, at-stop, at-end}
+use Rattle.loops.proofs.Inverse.{apart, ended-inj}
 use Rattle.mass_operator.specs.System.{System, compactSystem}
+use Rattle.mass_operator.specs.Applied.{allFiniteOf}
 use Rattle.preconditioner.specs.Room.{Memory}
 use Rattle.preconditioner.specs.Held.{zIn}
 use Rattle.preconditioner.specs.declared.apply.Preconditioner.{Preconditioner}
 use Rattle.recurrence.specs.Step.{Iterate, Carried, advanceOf, renewFrom}
+use Rattle.recurrence.specs.Parts.{steppedOf}
 use Rattle.recurrence.specs.Answers.{advancedOut, carriedOut}
+use Rattle.recurrence.proofs.Residual.{residual-overflow}
+use Rattle.recurrence.proofs.Together.{stepped-refused, stepped-finite, stepped-overflow}
 use Rattle.recurrence.specs.declared.ratio.Scale.{Scale}
 use Rattle.recurrence.specs.declared.ratio.Scale.the-variants as scales
 use Rattle.recurrence.specs.declared.step.Advanced.{Advanced}
@@ -22,8 +28,8 @@ use Rattle.steps.specs.Method.{Recurrence}
 use Rattle.steps.specs.Solve.{turn, afterLoop}
 use Rattle.position_iteration.specs.Method.{stepsBy}
 use Rattle.position_iteration.specs.Standing.{TurnIs, iteratedOut}
-use Rattle.position_iteration.specs.declared.iteration.Turned.{Turned}
-use Rattle.position_iteration.specs.declared.iteration.Turned.the-variants as turned
+use Rattle.position_iteration.specs.declared.turn.Turned.{Turned}
+use Rattle.position_iteration.specs.declared.turn.Turned.the-variants as turned
 use Rattle.position_iteration.specs.declared.iteration.Iterated.the-variants as iterated
 
 abbrev iterate : List Float → List Float → Iterate
@@ -32,32 +38,56 @@ iterate x r = record { solution = x; residual = r }
 abbrev carried : List Float → Float → Carried
 carried d s = record { direction = d; s = s }
 
--- ---- `take_step`
-module _ (z : List Float → Run (List Float) ℕ) (s : System) (tolerance : ℕ → Float) (v : Iterate) (c : Carried) (a : Advanced) (x r : List Float) (called : advanceOf s v c ≡ advancedOut a x r) where
+-- ---- a step: the residual is tested where it meets, and by what follows where it misses
+module _ (z : List Float → Run (List Float) ℕ) (s : System) (tolerance : ℕ → Float) (v : Iterate) (c : Carried) (a : Advanced) (x r : List Float) (called : steppedOf s v c ≡ advancedOut a x r) where
   pub step-refused : (k : ℕ) (d : List Float) → a ≡ steps.Refused k → TurnIs (stepsBy z s tolerance) (v, c) (turned.Refused k) x r d
   unfolding turn
-  step-refused k d t = record { at = λ j. on-ended _ _ _ (called ∙ rw t) }
+  step-refused k d t = record { at = λ j. on-ended _ _ _ (stepped-refused s v c k (called ∙ rw t)) }
 
-  module _ (done : a ≡ steps.Done) (b : Bool) (eb : b ≡ meetsOf tolerance r (length r)) (long : length r ≡ s .rows) where
-    tested : (o : Bool) → b ≡ o → meetsOf tolerance r (s .rows) ≡ o
-    tested o e = rw (← long) (sym eb ∙ e)
+  module _ (done : a ≡ steps.Done) where
+    made : steppedOf s v c ≡ going (iterate x r)
+    made = called ∙ rw done
 
-    pub step-met : (d : List Float) → b ≡ true → TurnIs (stepsBy z s tolerance) (v, c) turned.Met x r d
-    unfolding turn check
-    step-met d e = record { at = λ j. on-going _ _ _ {s = iterate x r} (called ∙ rw done) ∙ rw (tested true e) }
+    finite-step : allFiniteOf r ≡ true → advanceOf s v c ≡ going (iterate x r)
+    finite-step f = stepped-finite s v c (iterate x r) made f
 
-    module _ (miss : b ≡ false) (q : Scale) (d : List Float) (renewed : renewFrom (z r) r c ≡ carriedOut q d) where
-      pub step-on : (t : Float) → q ≡ scales.Value t → TurnIs (stepsBy z s tolerance) (v, c) (turned.On t) x r d
+    pub step-overflow : (d : List Float) (f : Bool) → f ≡ allFiniteOf r → not f ≡ true → TurnIs (stepsBy z s tolerance) (v, c) (turned.Refused 16) x r d
+    unfolding turn
+    step-overflow d f ef h = record { at = λ j. on-ended _ _ _ {a = 16} (stepped-overflow s v c (iterate x r) made (sym ef ∙ not-true f h)) }
+
+    module _ (b : Bool) (eb : b ≡ meetsOf tolerance r (length r)) (long : length r ≡ s .rows) where
+      tested : (o : Bool) → b ≡ o → meetsOf tolerance r (s .rows) ≡ o
+      tested o e = rw (← long) (sym eb ∙ e)
+
+      pub step-met : (d : List Float) (f : Bool) → f ≡ allFiniteOf r → not f ≡ false → b ≡ true → TurnIs (stepsBy z s tolerance) (v, c) turned.Met x r d
       unfolding turn check
-      step-on t e = record { at = λ j. on-going _ _ _ {s = iterate x r} (called ∙ rw done) ∙ rw (tested false miss) (on-going _ _ _ {s = carried d t} (renewed ∙ rw e)) }
+      step-met d f ef h e = record { at = λ j. on-going _ _ _ {s = iterate x r} (finite-step (sym ef ∙ not-false f h)) ∙ rw (tested true e) }
 
-      pub step-out : (k : ℕ) → q ≡ scales.Refused k → TurnIs (stepsBy z s tolerance) (v, c) (turned.Refused k) x r d
-      unfolding turn check
-      step-out k e = record { at = λ j. on-going _ _ _ {s = iterate x r} (called ∙ rw done) ∙ rw (tested false miss) (on-ended _ _ _ {a = k} (renewed ∙ rw e)) }
+      module _ (miss : b ≡ false) (sixteen : (n : ℕ) → z r ≡ ended n → n ≡ 16) (q : Scale) (d : List Float) (renewed : renewFrom (z r) r c ≡ carriedOut q d) where
+        refused : allFiniteOf r ≡ false → renewFrom (z r) r c ≡ ended 16
+        refused f = residual-overflow (z r) sixteen r c f
+
+        pub step-on : (t : Float) → q ≡ scales.Value t → TurnIs (stepsBy z s tolerance) (v, c) (turned.On t) x r d
+        unfolding turn check
+        step-on t e = by (allFiniteOf r) refl
+          where
+            by : (f : Bool) → allFiniteOf r ≡ f → TurnIs (stepsBy z s tolerance) (v, c) (turned.On t) x r d
+            by true f = record { at = λ j. on-going _ _ _ {s = iterate x r} (finite-step f) ∙ rw (tested false miss) (on-going _ _ _ {s = carried d t} (renewed ∙ rw e)) }
+            by false f = absurd (apart (renewFrom (z r) r c) {s = carried d t} {a = 16} (renewed ∙ rw e) (refused f))
+
+        pub step-out : (k : ℕ) → q ≡ scales.Refused k → TurnIs (stepsBy z s tolerance) (v, c) (turned.Refused k) x r d
+        unfolding turn check
+        step-out k e = by (allFiniteOf r) refl
+          where
+            by : (f : Bool) → allFiniteOf r ≡ f → TurnIs (stepsBy z s tolerance) (v, c) (turned.Refused k) x r d
+            by true f = record { at = λ j. on-going _ _ _ {s = iterate x r} (finite-step f) ∙ rw (tested false miss) (on-ended _ _ _ {a = k} (renewed ∙ rw e)) }
+            by false f =
+                let same : 16 ≡ k = ended-inj (sym (refused f) ∙ renewed ∙ rw e) in
+                record { at = λ j. on-ended _ _ _ {a = k} (stepped-overflow s v c (iterate x r) made f ∙ ap ended same) }
 
 -- the vectors are as long as there are rows
-pub advance-same : (bodies : ℕ) (jacobians : List Float) (links : List ℕ) (masses : List Float) (k n : ℕ) (v : Iterate) (c : Carried) {o : Run Iterate ℕ} → k ≡ n → advanceOf (compactSystem k bodies jacobians links masses) v c ≡ o → advanceOf (compactSystem n bodies jacobians links masses) v c ≡ o
-advance-same bodies jacobians links masses k n v c {o} e h = subst (λ (i : ℕ). advanceOf (compactSystem i bodies jacobians links masses) v c ≡ o) e h
+pub stepped-same : (bodies : ℕ) (jacobians : List Float) (links : List ℕ) (masses : List Float) (k n : ℕ) (v : Iterate) (c : Carried) {o : Run Iterate ℕ} → k ≡ n → steppedOf (compactSystem k bodies jacobians links masses) v c ≡ o → steppedOf (compactSystem n bodies jacobians links masses) v c ≡ o
+stepped-same bodies jacobians links masses k n v c {o} e h = subst (λ (i : ℕ). steppedOf (compactSystem i bodies jacobians links masses) v c ≡ o) e h
 
 pub renew-same : (p : Preconditioner) (m : Memory) (k n : ℕ) (r : List Float) (c : Carried) {o : Run Carried ℕ} → k ≡ n → renewFrom (zIn p k m r) r c ≡ o → renewFrom (zIn p n m r) r c ≡ o
 renew-same p m k n r c {o} e h = subst (λ (i : ℕ). renewFrom (zIn p i m r) r c ≡ o) e h

@@ -11,14 +11,15 @@ use Rattle.kapitsa_joint.specs.Table.{tolerancesIn}
 use Rattle.compact_table.specs.Compact.{Linked}
 use Rattle.mass_operator.specs.System.{compactSystem}
 use Rattle.preconditioner.specs.Room.{Memory}
+use Rattle.preconditioner.specs.Apply.{diagonalSolveOf}
 use Rattle.preconditioner.specs.Held.{Ready, zIn}
 use Rattle.preconditioner.specs.declared.apply.Preconditioner.{Preconditioner}
 use Rattle.recurrence.specs.Step.{Iterate, Carried}
 use Rattle.steps.specs.Method.{Recurrence}
 use Rattle.steps.specs.Solve.{turn}
 use Rattle.position_iteration.specs.Method.{stepsBy}
-use Rattle.position_iteration.specs.declared.iteration.Turned.{Turned}
-use Rattle.position_iteration.specs.declared.iteration.Turned.the-variants as turned
+use Rattle.position_iteration.specs.declared.turn.Turned.{Turned}
+use Rattle.position_iteration.specs.declared.turn.Turned.the-variants as turned
 use Rattle.position_iteration.specs.declared.iteration.Iterated.{Iterated}
 use Rattle.position_iteration.specs.declared.iteration.Iterated.the-variants as iterated
 
@@ -34,6 +35,10 @@ pub record Standing (p : Preconditioner) (n bodies : ℕ) (tolerances masses jac
 -- the steps that stand there
 abbrev pub stepsIn : Preconditioner → ℕ → ℕ → List Float → List Float → List Float → List ℕ → Memory → Recurrence Iterate Carried
 stepsIn p n bodies tolerances masses jacobians links m = stepsBy (zIn p n m) (compactSystem n bodies jacobians links masses) (tolerancesIn tolerances)
+
+-- in mode 0, where z is the residual by the diagonal
+abbrev pub diagonalStepsIn : ℕ → ℕ → List Float → List Float → List Float → List ℕ → List Float → Recurrence Iterate Carried
+diagonalStepsIn n bodies tolerances masses jacobians links diagonal = stepsBy (λ residual. going (diagonalSolveOf residual diagonal)) (compactSystem n bodies jacobians links masses) (tolerancesIn tolerances)
 
 -- ---- what the answers tell: the step stands in pending and residual, what is carried in direction and s
 abbrev pub turnedOut : Turned → ℕ → List Float → List Float → List Float → Run (Iterate × Carried) (Run (ℕ × Iterate) ℕ)

@@ -1,86 +1,18 @@
-// The loop over the steps: each is made, tested, and where it misses z, s and direction are made anew.
+// The loop over the steps.
 ghost use mathlib.Core.Path.{_≡_};
 ghost use Prim.Native.Nat.{_*_};
 ghost use lib.ListN.{length};
 ghost use Rattle.loops.specs.Run.{turns};
 ghost use Rattle.steps.specs.Solve.{turn, afterLoop};
-ghost use Rattle.position_iteration.specs.Standing.{Standing, stepsIn, TurnIs, iteratedOut, StepsFree};
-use position::position_vector_converged;
+ghost use Rattle.position_iteration.specs.Standing.{Standing, stepsIn, iteratedOut, StepsFree};
+use crate::turn::Turned;
+use crate::turn::take_step;
 use preconditioner::Preconditioner;
-use recurrence::Advanced;
-use recurrence::Scale;
-use recurrence::advance;
-use recurrence::renew;
-
-pub enum Turned {
-    On(f64),
-    Met,
-    Refused(u32),
-}
 
 pub enum Iterated {
     Met(u32),
     Limit,
     Refused(u32),
-}
-
-// One turn: a step, and s anew where it misses.
-fn take_step(
-    tolerances: &[f64],
-    preconditioner: Preconditioner,
-    masses: &[f64],
-    bodies: usize,
-    jacobians: &[f64],
-    links: &[u32],
-    diagonal: &[f64],
-    pattern: &[u32],
-    order: &[u32],
-    values: &[f64],
-    residual_product: f64,
-    body_impulses: &mut [f64],
-    product: &mut [f64],
-    pending: &mut [f64],
-    residual: &mut [f64],
-    direction: &mut [f64],
-) -> Turned
-    requires { ⌜ Standing preconditioner (length (now tolerances)) bodies (now tolerances) (now masses) (now jacobians) (now links) record { diagonal = now diagonal; pattern = now pattern; order = now order; values = now values } ⌝ }
-    requires { ⌜ (length (now «body_impulses») ≡ 6 * bodies) × (length (now product) ≡ length (now tolerances)) × (length (now pending) ≡ length (now tolerances)) × (length (now residual) ≡ length (now tolerances)) × (length (now direction) ≡ length (now tolerances)) ⌝ }
-    ensures { λ r. ⌜ TurnIs (stepsIn preconditioner (length (now (tolerances .entry))) bodies (now (tolerances .entry)) (now (masses .entry)) (now (jacobians .entry)) (now (links .entry)) record { diagonal = now (diagonal .entry); pattern = now (pattern .entry); order = now (order .entry); values = now (values .entry) }) (record { solution = now (pending .entry); residual = now (residual .entry) }, record { direction = now (direction .entry); s = «residual_product» }) r (now (pending .exit)) (now (residual .exit)) (now (direction .exit)) ⌝ }
-{
-    match advance(
-        jacobians,
-        links,
-        masses,
-        bodies,
-        direction,
-        residual_product,
-        body_impulses,
-        product,
-        pending,
-        residual,
-    ) {
-        Advanced::Done => {}
-        Advanced::Refused(number) => {
-            return Turned::Refused(number);
-        }
-    }
-    if position_vector_converged(tolerances, residual) {
-        return Turned::Met;
-    }
-    match renew(
-        preconditioner,
-        diagonal,
-        pattern,
-        order,
-        values,
-        residual,
-        residual_product,
-        product,
-        direction,
-    ) {
-        Scale::Value(s) => Turned::On(s),
-        Scale::Refused(number) => Turned::Refused(number),
-    }
 }
 
 // The steps up to the limit. The step counted stands in `pending` and `residual`; after a refusal all that is written is left free.

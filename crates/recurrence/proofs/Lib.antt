@@ -1,4 +1,8 @@
--- Laws of the recurrence: the vectors that its loops make, and the ways through its functions.
+-- Laws of the recurrence: the vectors that its loops make, the ways through its functions, what tests imply one another, and that its parts are a step.
+pub mod Tested
 pub mod Sums
 pub mod Ways
 pub mod Turns
+pub mod OnePass
+pub mod Residual
+pub mod Together

@@ -1,7 +1,7 @@
 -- The ways through a step and through the directions. Assumes nothing.
 use Prim.Native.Nat.{ℕ}
 use mathlib.Core.Path.{_≡_, refl, sym, ap, _∙_}
-use mathlib.Core.Bool.{Bool, true, false, not, _&&_}
+use mathlib.Core.Bool.{Bool, true, false, not}
 use mathlib.Core.List.{List}
 use lib.ListN.{length}
 use lib.Ieee.{Float}
@@ -20,27 +20,25 @@ use Rattle.triangular.specs.Answers.{solveOut, solvedOut}
 use Rattle.triangular.specs.declared.substitution.Solved.{Solved}
 use Rattle.triangular.specs.declared.substitution.Solved.the-variants as solves
 use Rattle.recurrence.specs.Vectors.{dotProductOf, plusScaled, lessScaled}
-use Rattle.recurrence.specs.Step.{Iterate, Carried, alphaOf, updatedOf, advanceOf, productFit, firstFrom, betaOf, turnedOf, renewFrom}
-use Rattle.recurrence.specs.Answers.{scaleOut, carriedOut, standing, AdvanceLeft, CarriedLeft}
+use Rattle.recurrence.specs.Step.{Iterate, Carried, alphaOf, productFit, firstFrom, betaOf, turnedOf, renewFrom}
+use Rattle.recurrence.specs.Parts.{lengthOf, movedOf, steppedOf, withDiagonal, nextFrom}
+use Rattle.recurrence.specs.Answers.{scaleOut, carriedOut, standing, ProductLeft, AdvanceLeft, DiagonalLeft, CarriedLeft}
 use Rattle.recurrence.specs.declared.ratio.Scale.{Scale}
 use Rattle.recurrence.specs.declared.ratio.Scale.the-variants as scales
 use Rattle.loops.proofs.Judge.{test-pass, test-fail}
 use Rattle.loops.proofs.Tabulate.{length-tabulate}
 
 -- ---- `update`
-module _ (x₀ r₀ direction product : List Float) (a : Float) (x r : List Float) (s t : Bool) (ex : x ≡ plusScaled x₀ a direction) (er : r ≡ lessScaled r₀ a product) (es : s ≡ allFiniteOf x) (et : t ≡ allFiniteOf r) where
-  both : (s && t) ≡ (allFiniteOf x && allFiniteOf r)
-  both = rw (es, et)
+module _ (x₀ r₀ direction product : List Float) (a : Float) (x : List Float) (t : Bool) (ex : x ≡ plusScaled x₀ a direction) (et : t ≡ allFiniteOf x) where
+  pub update-bad : not t ≡ true → movedOf record { solution = x₀; residual = r₀ } direction product a ≡ ended 16
+  unfolding movedOf
+  update-bad h = rw (← ex) (test-fail _ _ _ et h)
 
-  pub update-bad : not (s && t) ≡ true → updatedOf record { solution = x₀; residual = r₀ } direction product a ≡ ended 16
-  unfolding updatedOf
-  update-bad h = rw (← ex, ← er) (test-fail _ _ _ both h)
+  pub update-is : (r : List Float) → r ≡ lessScaled r₀ a product → not t ≡ false → movedOf record { solution = x₀; residual = r₀ } direction product a ≡ going record { solution = x; residual = r }
+  unfolding movedOf
+  update-is r er h = rw (← ex, ← er) (test-pass _ _ _ et h refl)
 
-  pub update-is : not (s && t) ≡ false → updatedOf record { solution = x₀; residual = r₀ } direction product a ≡ going record { solution = x; residual = r }
-  unfolding updatedOf
-  update-is h = rw (← ex, ← er) (test-pass _ _ _ both h refl)
-
--- ---- `advance`
+-- ---- `step_length`
 alpha-sixteen : (s d : Float) → finite d ≡ false → alphaOf s d ≡ ended 16
 unfolding alphaOf test check
 alpha-sixteen s d h = on-ended _ _ _ (rw h)
@@ -50,33 +48,47 @@ unfolding productOf
 product-rows system x = length-tabulate (valueAt system x) (system .rows)
 
 -- the test of the product refuses nothing that the test of direction · product lets through
-module _ (s d : Float) (f : Float → Run Iterate ℕ) where
-  tested : (b : Bool) → (b ≡ false → finite d ≡ false) → next (test b 16) (λ _. next (alphaOf s d) f) ≡ next (alphaOf s d) f
-  unfolding test check
-  tested true h = on-going _ _ _ refl
-  tested false h = on-ended _ _ _ refl ∙ sym (on-ended _ _ _ (alpha-sixteen s d (h refl)))
+tested : (s d : Float) (b : Bool) → (b ≡ false → finite d ≡ false) → next (test b 16) (λ _. alphaOf s d) ≡ alphaOf s d
+unfolding test check
+tested s d true h = on-going _ _ _ refl
+tested s d false h = on-ended _ _ _ refl ∙ sym (alpha-sixteen s d (h refl))
 
-module _ (system : System) (x₀ r₀ direction : List Float) (s d : Float) (responses product : List Float) (m : Multiplied system direction d responses product) (rows : system .rows ≡ length direction) (q : Scale) (eq : alphaOf s d ≡ scaleOut q) where
-  by-dot : advanceOf system record { solution = x₀; residual = r₀ } record { direction = direction; s = s } ≡ next (alphaOf s d) (updatedOf record { solution = x₀; residual = r₀ } direction product)
-  unfolding advanceOf
-  by-dot = rw (← m .multiplied, ← answered) (tested s d _ (allFiniteOf product) (λ h. rw answered (dot-not-finite direction product long h)))
-    where
-      answered : d ≡ dotProductOf direction product
-      answered = m .answered ∙ rw (← m .multiplied)
+pub length-is : (system : System) (direction : List Float) (s d : Float) (responses product : List Float) {o : Run Float ℕ} → Multiplied system direction d responses product → system .rows ≡ length direction → alphaOf s d ≡ o → lengthOf system record { direction = direction; s = s } ≡ o
+unfolding lengthOf
+length-is system direction s d responses product m rows h = rw (← m .multiplied, ← answered) (tested s d (allFiniteOf product) (λ f. rw answered (dot-not-finite direction product long f)) ∙ h)
+  where
+    answered : d ≡ dotProductOf direction product
+    answered = m .answered ∙ rw (← m .multiplied)
 
-      long : length product ≡ length direction
-      long = ap length (m .multiplied) ∙ product-rows system (coefficients direction) ∙ rows
-
-  pub advance-refused : (number : ℕ) → q ≡ scales.Refused number → advanceOf system record { solution = x₀; residual = r₀ } record { direction = direction; s = s } ≡ ended number
-  advance-refused number t = by-dot ∙ on-ended _ _ _ (eq ∙ rw t)
-
-  pub advance-on : (a : Float) {o : Run Iterate ℕ} → q ≡ scales.Value a → updatedOf record { solution = x₀; residual = r₀ } direction product a ≡ o → advanceOf system record { solution = x₀; residual = r₀ } record { direction = direction; s = s } ≡ o
-  advance-on a t h = by-dot ∙ on-going _ _ _ {s = a} (eq ∙ rw t) ∙ h
+    long : length product ≡ length direction
+    long = ap length (m .multiplied) ∙ product-rows system (coefficients direction) ∙ rows
 
 -- what the operator works in stands after a refusal too
-pub advance-left : (system : System) (direction : List Float) (d : Float) (responses product solution₀ solution residual₀ residual : List Float) → Multiplied system direction d responses product → length solution ≡ length solution₀ → length residual ≡ length residual₀
-    → AdvanceLeft system direction responses product solution₀ solution residual₀ residual
-advance-left system direction d responses product solution₀ solution residual₀ residual m x r = record { responded = m .responded; multiplied = m .multiplied; solution-left = free x; residual-left = free r }
+pub product-left : (system : System) (direction : List Float) (d : Float) (responses product : List Float) → Multiplied system direction d responses product → ProductLeft system direction responses product
+product-left system direction d responses product m = record { responded = m .responded; multiplied = m .multiplied }
+
+-- ---- `advance`
+module _ (system : System) (x₀ r₀ direction : List Float) (s : Float) (q : Scale) (responses product : List Float) (long : lengthOf system record { direction = direction; s = s } ≡ scaleOut q) (left : ProductLeft system direction responses product) where
+  pub advance-refused : (number : ℕ) → q ≡ scales.Refused number → steppedOf system record { solution = x₀; residual = r₀ } record { direction = direction; s = s } ≡ ended number
+  unfolding steppedOf
+  advance-refused number t = on-ended _ _ _ (long ∙ rw t)
+
+  pub advance-on : (a : Float) {o : Run Iterate ℕ} → q ≡ scales.Value a → movedOf record { solution = x₀; residual = r₀ } direction product a ≡ o → steppedOf system record { solution = x₀; residual = r₀ } record { direction = direction; s = s } ≡ o
+  unfolding steppedOf
+  advance-on a t h = on-going _ _ _ {s = a} (long ∙ rw t) ∙ rw (← left .multiplied) h
+
+  -- with z and s, in mode 0
+  pub diagonal-refused : (diagonal : List Float) (number : ℕ) → q ≡ scales.Refused number → next (steppedOf system record { solution = x₀; residual = r₀ } record { direction = direction; s = s }) (withDiagonal diagonal) ≡ ended number
+  diagonal-refused diagonal number t = on-ended _ _ _ (advance-refused number t)
+
+  pub diagonal-on : (diagonal : List Float) (a : Float) {o : Run (Iterate × List Float × Float) ℕ} → q ≡ scales.Value a → next (movedOf record { solution = x₀; residual = r₀ } direction product a) (withDiagonal diagonal) ≡ o → next (steppedOf system record { solution = x₀; residual = r₀ } record { direction = direction; s = s }) (withDiagonal diagonal) ≡ o
+  diagonal-on diagonal a t h = ap (λ (v : Run Iterate ℕ). next v (withDiagonal diagonal)) (advance-on a t refl) ∙ h
+
+pub advance-left : (system : System) (direction responses product solution₀ solution residual₀ residual : List Float) → ProductLeft system direction responses product → length solution ≡ length solution₀ → length residual ≡ length residual₀ → AdvanceLeft system direction responses product solution₀ solution residual₀ residual
+advance-left system direction responses product solution₀ solution residual₀ residual m x r = record { product-left = m; solution-left = free x; residual-left = free r }
+
+pub diagonal-left : (system : System) (direction responses product product₀ product₁ solution₀ solution residual₀ residual : List Float) → ProductLeft system direction responses product → length product₁ ≡ length product₀ → length solution ≡ length solution₀ → length residual ≡ length residual₀ → DiagonalLeft system direction responses product₀ product₁ solution₀ solution residual₀ residual
+diagonal-left system direction responses product product₀ product₁ solution₀ solution residual₀ residual m p x r = record { responded = m .responded; product-left = free p; solution-left = free x; residual-left = free r }
 
 -- ---- `first_direction`
 pub first-is : (residual z d : List Float) (s : Float) (q : Scale) → d ≡ z → s ≡ dotProductOf residual z → productFit s ≡ scaleOut q → firstFrom (going z) residual ≡ carriedOut q d
@@ -99,19 +111,20 @@ module _ (new old : Float) (z d₀ : List Float) (q : Scale) (eq : betaOf new ol
     turn-is h = on-going _ _ _ {s = b} (eq ∙ rw t) ∙ rw (← ed) (test-pass _ _ _ ef h refl)
 
 -- ---- `next_direction`
-module _ (residual z d₀ : List Float) (old s : Float) (q : Scale) (es : s ≡ dotProductOf residual z) (eq : productFit s ≡ scaleOut q) where
-  fitted : productFit (dotProductOf residual z) ≡ scaleOut q
-  fitted = rw (← es) eq
+module _ (z d₀ : List Float) (old s : Float) (q : Scale) (eq : productFit s ≡ scaleOut q) where
+  pub next-refused : (number : ℕ) → q ≡ scales.Refused number → nextFrom z record { direction = d₀; s = old } s ≡ ended number
+  unfolding nextFrom
+  next-refused number t = on-ended _ _ _ (eq ∙ rw t)
 
-  pub next-refused : (number : ℕ) → q ≡ scales.Refused number → renewFrom (going z) residual record { direction = d₀; s = old } ≡ ended number
-  unfolding renewFrom
-  next-refused number t = on-going _ _ _ refl ∙ on-ended _ _ _ (fitted ∙ rw t)
-
-  pub next-on : (new : Float) {o : Run Carried ℕ} → q ≡ scales.Value new → next (betaOf new old) (turnedOf z d₀ new) ≡ o → renewFrom (going z) residual record { direction = d₀; s = old } ≡ o
-  unfolding renewFrom
-  next-on new t h = on-going _ _ _ refl ∙ on-going _ _ _ (fitted ∙ rw t) ∙ h
+  pub next-on : (new : Float) {o : Run Carried ℕ} → q ≡ scales.Value new → next (betaOf new old) (turnedOf z d₀ new) ≡ o → nextFrom z record { direction = d₀; s = old } s ≡ o
+  unfolding nextFrom
+  next-on new t h = on-going _ _ _ (eq ∙ rw t) ∙ h
 
 -- ---- `first`, `renew`: z, or 16
+pub renewed : (residual z : List Float) (c : Carried) (s : Float) {o : Run Carried ℕ} → s ≡ dotProductOf residual z → nextFrom z c s ≡ o → renewFrom (going z) residual c ≡ o
+unfolding renewFrom nextFrom
+renewed residual z c s es h = on-going _ _ _ refl ∙ rw (← es) h
+
 module _ (run : Run (List Float) (List Float)) (residual : List Float) (z : List Float) (a : Solved) (e : orSixteen run ≡ solvedOut a z) where
   z-done : a ≡ solves.Done → orSixteen run ≡ going z
   z-done t = e ∙ rw t
@@ -130,8 +143,8 @@ module _ (run : Run (List Float) (List Float)) (residual : List Float) (z : List
   unfolding renewFrom
   renew-bad c t = on-ended _ _ _ (z-over t)
 
-  pub renew-on : (c : Carried) {o : Run Carried ℕ} → a ≡ solves.Done → renewFrom (going z) residual c ≡ o → renewFrom (orSixteen run) residual c ≡ o
-  renew-on c t h = ap (λ y. renewFrom y residual c) (z-done t) ∙ h
+  pub renew-on : (c : Carried) (s : Float) {o : Run Carried ℕ} → a ≡ solves.Done → s ≡ dotProductOf residual z → nextFrom z c s ≡ o → renewFrom (orSixteen run) residual c ≡ o
+  renew-on c s t es h = ap (λ y. renewFrom y residual c) (z-done t) ∙ renewed residual z c s es h
 
 -- z as it stands, refused or not
 pub carried-left : (run : Run (List Float) (List Float)) (z direction₀ direction : List Float) (a : Solved) → run ≡ solveOut a z → length direction ≡ length direction₀ → CarriedLeft run z direction₀ direction

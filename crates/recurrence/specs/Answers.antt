@@ -21,6 +21,11 @@ abbrev pub advancedOut : Advanced → List Float → List Float → Run Iterate 
 advancedOut steps.Done solution residual = going (record { solution = solution; residual = residual })
 advancedOut (steps.Refused number) solution residual = ended number
 
+-- the answer is s, and z stands beside the step
+abbrev pub diagonalOut : Scale → List Float → List Float → List Float → Run (Iterate × List Float × Float) ℕ
+diagonalOut (scales.Value s) solution residual z = going (record { solution = solution; residual = residual }, z, s)
+diagonalOut (scales.Refused number) solution residual z = ended number
+
 -- the answer is s
 abbrev pub carriedOut : Scale → List Float → Run Carried ℕ
 carriedOut (scales.Value s) direction = going (record { direction = direction; s = s })
@@ -32,10 +37,21 @@ carriedOut (scales.Refused number) direction = ended number
 unfoldable pub standing : Run (List Float) (List Float) → List Float
 standing r = on r (λ z. z) (λ z. z)
 
--- `advance`: what the operator works in, refused or not. After a refusal solution and residual are free.
-pub record AdvanceLeft (s : System) (direction impulses product solution₀ solution residual₀ residual : List Float) : Type 0 where
+-- what the operator works in, refused or not
+pub record ProductLeft (s : System) (direction impulses product : List Float) : Type 0 where
   pub responded : impulses ≡ responsesOf s (coefficients direction)
   pub multiplied : product ≡ productOf s (coefficients direction)
+
+-- `advance`: after a refusal solution and residual are free
+pub record AdvanceLeft (s : System) (direction impulses product solution₀ solution residual₀ residual : List Float) : Type 0 where
+  pub product-left : ProductLeft s direction impulses product
+  pub solution-left : Free solution₀ solution
+  pub residual-left : Free residual₀ residual
+
+-- `advance_diagonal`: after a refusal solution, residual and product are free
+pub record DiagonalLeft (s : System) (direction impulses product₀ product solution₀ solution residual₀ residual : List Float) : Type 0 where
+  pub responded : impulses ≡ responsesOf s (coefficients direction)
+  pub product-left : Free product₀ product
   pub solution-left : Free solution₀ solution
   pub residual-left : Free residual₀ residual
 

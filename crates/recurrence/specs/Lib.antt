@@ -1,3 +1,5 @@
 pub mod Vectors
 pub mod Step
+pub mod Parts
+pub mod Pass
 pub mod Answers

@@ -5,6 +5,7 @@ ghost use lib.ListN.{length};
 ghost use Rattle.loops.specs.Run.{going, next};
 ghost use Rattle.preconditioner.specs.Held.{Ready, zRun, zIn};
 ghost use Rattle.recurrence.specs.Step.{productFit, firstFrom, betaOf, turnedOf, renewFrom};
+ghost use Rattle.recurrence.specs.Parts.{nextFrom};
 ghost use Rattle.recurrence.specs.Vectors.{dotProductOf};
 ghost use Rattle.recurrence.specs.Answers.{scaleOut, carriedOut, CarriedLeft};
 use crate::ratio::Scale;
@@ -12,7 +13,6 @@ use crate::ratio::beta;
 use crate::ratio::fit_product;
 use crate::vector::dot_product;
 use crate::vector::update_direction;
-use mass_operator::all_finite;
 use preconditioner::Preconditioner;
 use preconditioner::apply_preconditioner;
 use triangular::Solved;
@@ -37,8 +37,7 @@ fn turn_direction(
 {
     match beta(next_residual_product, residual_product) {
         Scale::Value(scale) => {
-            update_direction(direction, preconditioned, scale);
-            if !all_finite(direction) {
+            if !update_direction(direction, preconditioned, scale) {
                 return Scale::Refused(16);
             }
             Scale::Value(next_residual_product)
@@ -47,17 +46,17 @@ fn turn_direction(
     }
 }
 
-// The direction after a step that missed.
-fn next_direction(
-    residual: &[f64],
+// The direction after a step that missed, from z and its s.
+pub fn next_direction(
+    next_residual_product: f64,
     residual_product: f64,
     preconditioned: &[f64],
     direction: &mut [f64],
 ) -> Scale
-    requires { ⌜ (length (now preconditioned) ≡ length (now residual)) × (length (now direction) ≡ length (now residual)) ⌝ }
-    ensures { λ r. ⌜ renewFrom (going (now (preconditioned .entry))) (now (residual .entry)) record { direction = now (direction .entry); s = «residual_product» } ≡ carriedOut r (now (direction .exit)) ⌝ }
+    requires { ⌜ length (now preconditioned) ≡ length (now direction) ⌝ }
+    ensures { λ r. ⌜ nextFrom (now (preconditioned .entry)) record { direction = now (direction .entry); s = «residual_product» } «next_residual_product» ≡ carriedOut r (now (direction .exit)) ⌝ }
 {
-    match fit_product(dot_product(residual, preconditioned)) {
+    match fit_product(next_residual_product) {
         Scale::Value(s) => turn_direction(residual_product, s, preconditioned, direction),
         Scale::Refused(number) => Scale::Refused(number),
     }
@@ -125,5 +124,6 @@ pub fn renew(
     ) else {
         return Scale::Refused(16);
     };
-    next_direction(residual, residual_product, preconditioned, direction)
+    let s = dot_product(residual, preconditioned);
+    next_direction(s, residual_product, preconditioned, direction)
 }

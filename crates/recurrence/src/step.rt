@@ -1,17 +1,15 @@
-// A step: the operator on the direction, alpha, and the updates of solution and residual.
+// A step: its length, and the updates of solution and residual. Of the two the solution alone is tested here: a residual that is not finite is refused by what follows (proofs/Residual.antt).
 ghost use mathlib.Core.Path.{_≡_};
 ghost use Prim.Native.Nat.{_+_, _*_, _≤_};
 ghost use lib.ListN.{length};
 ghost use Rattle.compact_table.specs.Compact.{Linked};
 ghost use Rattle.mass_operator.specs.System.{compactSystem};
-ghost use Rattle.recurrence.specs.Step.{updatedOf, advanceOf};
+ghost use Rattle.recurrence.specs.Parts.{movedOf, steppedOf};
 ghost use Rattle.recurrence.specs.Answers.{advancedOut, AdvanceLeft};
+use crate::length::step_length;
 use crate::ratio::Scale;
-use crate::ratio::alpha;
 use crate::vector::scaled_add;
 use crate::vector::scaled_subtract;
-use mass_operator::all_finite;
-use mass_operator::global_velocity_matrix_vector;
 
 pub enum Advanced {
     Done,
@@ -26,18 +24,16 @@ fn update(
     product: &[f64],
 ) -> Advanced
     requires { ⌜ (length (now direction) ≡ length (now solution)) × (length (now product) ≡ length (now residual)) ⌝ }
-    ensures { λ r. ⌜ updatedOf record { solution = now (solution .entry); residual = now (residual .entry) } (now (direction .entry)) (now (product .entry)) alpha
+    ensures { λ r. ⌜ movedOf record { solution = now (solution .entry); residual = now (residual .entry) } (now (direction .entry)) (now (product .entry)) alpha
         ≡ advancedOut r (now (solution .exit)) (now (residual .exit)) ⌝ }
 {
-    scaled_add(solution, alpha, direction);
-    scaled_subtract(residual, alpha, product);
-    if !(all_finite(solution) & all_finite(residual)) {
+    if !scaled_add(solution, alpha, direction) {
         return Advanced::Refused(16);
     }
+    scaled_subtract(residual, alpha, product);
     Advanced::Done
 }
 
-// The product is not tested: where a number of it is not finite, direction times product is not (mass_operator, proofs/Dots.antt), and both are 16.
 // After a refusal solution and residual are left free.
 pub fn advance(
     jacobians: &[f64],
@@ -54,23 +50,23 @@ pub fn advance(
     requires { ⌜ (12 * length (now direction) ≤ length (now jacobians)) × (2 * length (now direction) ≤ length (now links)) × (10 * bodies ≤ length (now masses)) ⌝ }
     requires { ⌜ (length (now «body_impulses») ≡ 6 * bodies) × (length (now product) ≡ length (now direction)) × (length (now solution) ≡ length (now direction)) × (length (now residual) ≡ length (now direction)) ⌝ }
     requires { ⌜ Linked (now links) (length (now direction)) bodies ⌝ }
-    ensures { λ r. ⌜ advanceOf (compactSystem (length (now (direction .entry))) bodies (now (jacobians .entry)) (now (links .entry)) (now (masses .entry)))
+    ensures { λ r. ⌜ steppedOf (compactSystem (length (now (direction .entry))) bodies (now (jacobians .entry)) (now (links .entry)) (now (masses .entry)))
         record { solution = now (solution .entry); residual = now (residual .entry) } record { direction = now (direction .entry); s = «residual_product» }
         ≡ advancedOut r (now (solution .exit)) (now (residual .exit)) ⌝ }
     ensures { λ _. ⌜ AdvanceLeft (compactSystem (length (now (direction .entry))) bodies (now (jacobians .entry)) (now (links .entry)) (now (masses .entry))) (now (direction .entry))
         (now («body_impulses» .exit)) (now (product .exit)) (now (solution .entry)) (now (solution .exit)) (now (residual .entry)) (now (residual .exit)) ⌝ }
 {
-    let denominator = global_velocity_matrix_vector(
+    match step_length(
         jacobians,
         links,
         masses,
-        direction,
         bodies,
+        direction,
+        residual_product,
         body_impulses,
         product,
-    );
-    match alpha(residual_product, denominator) {
-        Scale::Value(scale) => update(solution, residual, scale, direction, product),
+    ) {
+        Scale::Value(alpha) => update(solution, residual, alpha, direction, product),
         Scale::Refused(number) => Advanced::Refused(number),
     }
 }

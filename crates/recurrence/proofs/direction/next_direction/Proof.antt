@@ -10,7 +10,6 @@ pub next-direction-spec : {M : Type 1} → statement M
 next-direction-spec =
     tie.close
     (tie.spec
-    (λ c κs. search known)  -- dot-product-requires
     (λ c κs. search known)  -- fit-product-requires
     (λ c. search known)  -- enum-known-s
     (λ c κs. search known)  -- turn-direction-requires

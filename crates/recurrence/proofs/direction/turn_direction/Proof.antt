@@ -13,7 +13,6 @@ turn-direction-spec =
     (λ c κs. search known)  -- beta-requires
     (λ c. search known)  -- enum-known-scale
     (λ c κs. search known)  -- update-direction-requires
-    (λ c κs. search known)  -- all-finite-requires
     (λ c. search known)  -- same-length
     (λ c. search known)  -- returns
     (λ c. search known)  -- enum-known-number

@@ -11,16 +11,15 @@ pub advance-spec : {M : Type 1} → statement M
 advance-spec =
     tie.close
     (tie.spec
-    (λ c κs. search known)  -- global-velocity-matrix-vector-requires
-    (λ c κs. search known)  -- alpha-requires
-    (λ c. search known)  -- enum-known-scale
+    (λ c κs. search known)  -- step-length-requires
+    (λ c. search known)  -- enum-known-alpha
     (λ c κs. search known)  -- update-requires
     (λ c. search known)  -- enum-known-number
     (λ c. search known)  -- same-length
     (λ c. search known)  -- same-length-2
     (λ c. search known)  -- same-length-3
     (λ c. search known)  -- same-length-4
-    (λ c. (advance-on _ _ _ _ _ _ _ _ ((c .before .before .before .before .before .before .before .before .before .before .before .before .before .before .before .before .global-velocity-matrix-vector) .ensures) refl _ ((c .before .before .before .before .before .before .before .before .before .before .before .alpha) .ensures) _ ((c .before .before .before .before .before .before .before .before .before .scale) .given .1) ((c .before .before .before .before .update) .ensures), advance-left _ _ _ _ _ _ _ _ _ ((c .before .before .before .before .before .before .before .before .before .before .before .before .before .before .before .before .global-velocity-matrix-vector) .ensures) (search known) (search known)))  -- returns
+    (λ c. (advance-on _ _ _ _ _ _ _ _ ((c .before .before .before .before .before .before .before .before .before .before .before .before .before .before .before .step-length) .ensures .0) ((c .before .before .before .before .before .before .before .before .before .before .before .before .before .before .before .step-length) .ensures .1) _ ((c .before .before .before .before .before .before .before .before .before .alpha) .given .1) ((c .before .before .before .before .update) .ensures), advance-left _ _ _ _ _ _ _ _ ((c .before .before .before .before .before .before .before .before .before .before .before .before .before .before .before .step-length) .ensures .1) (search known) (search known)))  -- returns
     (λ c. search known)  -- same-length-5
     (λ c. search known)  -- same-length-6
-    (λ c. (advance-refused _ _ _ _ _ _ _ _ ((c .before .before .before .before .before .before .before .before .global-velocity-matrix-vector) .ensures) refl _ ((c .before .before .before .alpha) .ensures) _ ((c .before .number) .given .1), advance-left _ _ _ _ _ _ _ _ _ ((c .before .before .before .before .before .before .before .before .global-velocity-matrix-vector) .ensures) refl refl)))  -- returns-2
+    (λ c. (advance-refused _ _ _ _ _ _ _ _ ((c .before .before .before .before .before .before .before .step-length) .ensures .0) ((c .before .before .before .before .before .before .before .step-length) .ensures .1) _ ((c .before .number) .given .1), advance-left _ _ _ _ _ _ _ _ ((c .before .before .before .before .before .before .before .step-length) .ensures .1) refl refl)))  -- returns-2

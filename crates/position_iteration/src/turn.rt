@@ -1,0 +1,191 @@
+// One turn of the loop: a step, and where it misses z, s and direction anew.
+// A residual that is not finite makes s so, and that is refused; where the step meets, by a tolerance that is infinite, it has a test of its own.
+ghost use mathlib.Core.Path.{_≡_};
+ghost use Prim.Native.Nat.{_*_, _≤_};
+ghost use lib.ListN.{length};
+ghost use Rattle.compact_table.specs.Compact.{Linked};
+ghost use Rattle.position_iteration.specs.Standing.{Standing, stepsIn, diagonalStepsIn, TurnIs};
+use mass_operator::all_finite;
+use position::position_vector_converged;
+use preconditioner::Preconditioner;
+use recurrence::Advanced;
+use recurrence::Scale;
+use recurrence::advance;
+use recurrence::advance_diagonal;
+use recurrence::next_direction;
+use recurrence::renew;
+
+pub enum Turned {
+    On(f64),
+    Met,
+    Refused(u32),
+}
+
+// With a factor: z and s are made where the step misses.
+fn take_factor_step(
+    tolerances: &[f64],
+    preconditioner: Preconditioner,
+    masses: &[f64],
+    bodies: usize,
+    jacobians: &[f64],
+    links: &[u32],
+    diagonal: &[f64],
+    pattern: &[u32],
+    order: &[u32],
+    values: &[f64],
+    residual_product: f64,
+    body_impulses: &mut [f64],
+    product: &mut [f64],
+    pending: &mut [f64],
+    residual: &mut [f64],
+    direction: &mut [f64],
+) -> Turned
+    requires { ⌜ Standing preconditioner (length (now tolerances)) bodies (now tolerances) (now masses) (now jacobians) (now links) record { diagonal = now diagonal; pattern = now pattern; order = now order; values = now values } ⌝ }
+    requires { ⌜ (length (now «body_impulses») ≡ 6 * bodies) × (length (now product) ≡ length (now tolerances)) × (length (now pending) ≡ length (now tolerances)) × (length (now residual) ≡ length (now tolerances)) × (length (now direction) ≡ length (now tolerances)) ⌝ }
+    ensures { λ r. ⌜ TurnIs (stepsIn preconditioner (length (now (tolerances .entry))) bodies (now (tolerances .entry)) (now (masses .entry)) (now (jacobians .entry)) (now (links .entry)) record { diagonal = now (diagonal .entry); pattern = now (pattern .entry); order = now (order .entry); values = now (values .entry) }) (record { solution = now (pending .entry); residual = now (residual .entry) }, record { direction = now (direction .entry); s = «residual_product» }) r (now (pending .exit)) (now (residual .exit)) (now (direction .exit)) ⌝ }
+{
+    match advance(
+        jacobians,
+        links,
+        masses,
+        bodies,
+        direction,
+        residual_product,
+        body_impulses,
+        product,
+        pending,
+        residual,
+    ) {
+        Advanced::Done => {}
+        Advanced::Refused(number) => {
+            return Turned::Refused(number);
+        }
+    }
+    if position_vector_converged(tolerances, residual) {
+        if !all_finite(residual) {
+            return Turned::Refused(16);
+        }
+        return Turned::Met;
+    }
+    match renew(
+        preconditioner,
+        diagonal,
+        pattern,
+        order,
+        values,
+        residual,
+        residual_product,
+        product,
+        direction,
+    ) {
+        Scale::Value(s) => Turned::On(s),
+        Scale::Refused(number) => Turned::Refused(number),
+    }
+}
+
+// In mode 0: z and s come with the step.
+fn take_diagonal_step(
+    tolerances: &[f64],
+    masses: &[f64],
+    bodies: usize,
+    jacobians: &[f64],
+    links: &[u32],
+    diagonal: &[f64],
+    residual_product: f64,
+    body_impulses: &mut [f64],
+    product: &mut [f64],
+    pending: &mut [f64],
+    residual: &mut [f64],
+    direction: &mut [f64],
+) -> Turned
+    requires { ⌜ (12 * length (now direction) ≤ length (now jacobians)) × (2 * length (now direction) ≤ length (now links)) × (10 * bodies ≤ length (now masses)) × (length (now diagonal) ≡ length (now direction)) × (length (now tolerances) ≡ length (now direction)) ⌝ }
+    requires { ⌜ (length (now «body_impulses») ≡ 6 * bodies) × (length (now product) ≡ length (now direction)) × (length (now pending) ≡ length (now direction)) × (length (now residual) ≡ length (now direction)) ⌝ }
+    requires { ⌜ Linked (now links) (length (now direction)) bodies ⌝ }
+    ensures { λ r. ⌜ TurnIs (diagonalStepsIn (length (now (direction .entry))) bodies (now (tolerances .entry)) (now (masses .entry)) (now (jacobians .entry)) (now (links .entry)) (now (diagonal .entry))) (record { solution = now (pending .entry); residual = now (residual .entry) }, record { direction = now (direction .entry); s = «residual_product» }) r (now (pending .exit)) (now (residual .exit)) (now (direction .exit)) ⌝ }
+{
+    match advance_diagonal(
+        jacobians,
+        links,
+        masses,
+        bodies,
+        diagonal,
+        direction,
+        residual_product,
+        body_impulses,
+        product,
+        pending,
+        residual,
+    ) {
+        Scale::Value(next) => {
+            if position_vector_converged(tolerances, residual) {
+                if !all_finite(residual) {
+                    return Turned::Refused(16);
+                }
+                return Turned::Met;
+            }
+            match next_direction(next, residual_product, product, direction) {
+                Scale::Value(s) => Turned::On(s),
+                Scale::Refused(number) => Turned::Refused(number),
+            }
+        }
+        Scale::Refused(number) => Turned::Refused(number),
+    }
+}
+
+pub fn take_step(
+    tolerances: &[f64],
+    preconditioner: Preconditioner,
+    masses: &[f64],
+    bodies: usize,
+    jacobians: &[f64],
+    links: &[u32],
+    diagonal: &[f64],
+    pattern: &[u32],
+    order: &[u32],
+    values: &[f64],
+    residual_product: f64,
+    body_impulses: &mut [f64],
+    product: &mut [f64],
+    pending: &mut [f64],
+    residual: &mut [f64],
+    direction: &mut [f64],
+) -> Turned
+    requires { ⌜ Standing preconditioner (length (now tolerances)) bodies (now tolerances) (now masses) (now jacobians) (now links) record { diagonal = now diagonal; pattern = now pattern; order = now order; values = now values } ⌝ }
+    requires { ⌜ (length (now «body_impulses») ≡ 6 * bodies) × (length (now product) ≡ length (now tolerances)) × (length (now pending) ≡ length (now tolerances)) × (length (now residual) ≡ length (now tolerances)) × (length (now direction) ≡ length (now tolerances)) ⌝ }
+    ensures { λ r. ⌜ TurnIs (stepsIn preconditioner (length (now (tolerances .entry))) bodies (now (tolerances .entry)) (now (masses .entry)) (now (jacobians .entry)) (now (links .entry)) record { diagonal = now (diagonal .entry); pattern = now (pattern .entry); order = now (order .entry); values = now (values .entry) }) (record { solution = now (pending .entry); residual = now (residual .entry) }, record { direction = now (direction .entry); s = «residual_product» }) r (now (pending .exit)) (now (residual .exit)) (now (direction .exit)) ⌝ }
+{
+    if let Preconditioner::Diagonal = preconditioner {
+        return take_diagonal_step(
+            tolerances,
+            masses,
+            bodies,
+            jacobians,
+            links,
+            diagonal,
+            residual_product,
+            body_impulses,
+            product,
+            pending,
+            residual,
+            direction,
+        );
+    }
+    take_factor_step(
+        tolerances,
+        preconditioner,
+        masses,
+        bodies,
+        jacobians,
+        links,
+        diagonal,
+        pattern,
+        order,
+        values,
+        residual_product,
+        body_impulses,
+        product,
+        pending,
+        residual,
+        direction,
+    )
+}
