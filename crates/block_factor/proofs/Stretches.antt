@@ -2,9 +2,10 @@
 use Prim.Native.Nat.{ℕ, zero, suc, _+_, _*_, _-_, _<_, _≤_}
 use mathlib.Core.Path.{_≡_, refl, sym, ap, _∙_}
 use mathlib.Core.Bool.{Bool, true, false, not}
-use mathlib.Core.List.{List}
+use mathlib.Core.List.{List, _++_, append-nil}
 use native.Mathlib.Omega.{arith}
-use lib.ListN.{getD, set, length}
+use lib.ListN.{getD, set, length, take, drop, drop-of-length-le}
+use lib.Seq.{take-all, length-take-le}
 use lib.Ieee.{Float, nan, binary64, sub, mul, div}
 use lib.Ieee.Scale.{finite}
 use Rattle.loops.specs.Run.{Run, going, ended, turns, check}
@@ -48,6 +49,23 @@ module _ (l y y′ : List Float) (len m t : ℕ) (r : Solved) (called : blockBac
   unfolding blockBackwardTurn
   backs-out told = rw (← e) (rw (← e) at called ∙ rw told)
 
-pub block-solved : (l residual y y₁ : List Float) (m : ℕ) {o : Run (List Float) (List Float)} → y₁ ≡ count (blockForwardTurn l residual) y (length residual) → blockBackwardRun l m y₁ ≡ o → m ≡ length residual → blockSolveRun l residual y ≡ o
+-- `solve_rows`: y₁ is what the forward solve made of y
+pub block-solved : (l residual y y₁ : List Float) {o : Run (List Float) (List Float)} → y₁ ≡ count (blockForwardTurn l residual) y (length residual) → blockBackwardRun l (length y₁) y₁ ≡ o → length y₁ ≡ length y → length residual ≡ length y → blockSolveRun l residual y ≡ o
 unfolding blockSolveRun
-block-solved l residual y y₁ m e h em = rw (← e, ← em) h
+block-solved l residual y y₁ e h k m = let em : length y₁ ≡ length residual = k ∙ sym m in rw (← e, ← em) h
+
+-- ---- `solve_block`: stretches of n numbers are lent as their first n
+pub first-long : (y : List Float) (n : ℕ) → length y ≡ n → length (take n y) ≡ n
+first-long y n e = length-take-le n y (omega arith)
+
+pub first-like : (x y : List Float) (n : ℕ) → length x ≡ length y → length y ≡ n → length (take n x) ≡ n
+first-like x y n h e = first-long x n (h ∙ e)
+
+pub first-few : (y : List Float) (n : ℕ) → length y ≡ n → length y ≤ 6 → length (take n y) ≤ 6
+first-few y n e h = rw (first-long y n e) (omega arith)
+
+pub first-alike : (x y : List Float) (n : ℕ) → length x ≡ length y → length y ≡ n → length (take n x) ≡ length (take n y)
+first-alike x y n h e = first-like x y n h e ∙ sym (first-long y n e)
+
+pub rows-solved : (l residual y z : List Float) (n : ℕ) (r : Solved) → length y ≡ n → length residual ≡ length y → blockSolveRun l (take n residual) (take n y) ≡ solveOut r z → blockSolveRun l residual y ≡ solveOut r (z ++ drop n y)
+rows-solved l residual y z n r e h called = rw (take-all n residual (omega arith), take-all n y (omega arith)) at called ∙ ap (solveOut r) (sym (rw (drop-of-length-le y {i = n} (omega arith)) (append-nil z)))

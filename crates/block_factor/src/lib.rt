@@ -4,5 +4,4 @@ pub mod stretch; // stretch.rt: the solves on the stretch of one block
 
 pub use block::Cell;
 pub use block::cell_at;
-pub use stretch::VelocityBlockFactor;
 pub use stretch::solve_block;

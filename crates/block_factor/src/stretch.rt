@@ -9,8 +9,8 @@ ghost use Rattle.block_factor.specs.Solves.{blockForwardLess, blockForwa
 use triangular::Solved;
 
 // `value` less the products of row `row` with what the earlier rows have.
-fn less_earlier(value: f64, lower: &[f64; 36], part: &[f64], row: usize) -> f64
-    requires { ⌜ (row < 6) × (row < length (now part)) ⌝ }
+fn less_earlier(value: f64, lower: &[f64], part: &[f64], row: usize) -> f64
+    requires { ⌜ (length (now lower) ≡ 36) × (row < 6) × (row < length (now part)) ⌝ }
     ensures { λ r. ⌜ r ≡ count (blockForwardLess (now (lower .entry)) (now (part .entry)) row) value row ⌝ }
 {
     let mut rest = value;
@@ -22,8 +22,8 @@ fn less_earlier(value: f64, lower: &[f64; 36], part: &[f64], row: usize) -> f64
     rest
 }
 
-fn forward(lower: &[f64; 36], residual: &[f64], part: &mut [f64])
-    requires { ⌜ (length (now part) ≤ 6) × (length (now residual) ≡ length (now part)) ⌝ }
+fn forward(lower: &[f64], residual: &[f64], part: &mut [f64])
+    requires { ⌜ (length (now lower) ≡ 36) × (length (now part) ≤ 6) × (length (now residual) ≡ length (now part)) ⌝ }
     ensures { λ _. ⌜ now (part .exit) ≡ count (blockForwardTurn (now (lower .entry)) (now (residual .entry))) (now (part .entry)) (length (now (residual .entry))) ⌝ }
 {
     let mut row = 0;
@@ -35,8 +35,8 @@ fn forward(lower: &[f64; 36], residual: &[f64], part: &mut [f64])
 }
 
 // `value` less the products of column `row` with what the `below` rows below it have.
-fn less_later(value: f64, lower: &[f64; 36], part: &[f64], row: usize, below: usize) -> f64
-    requires { ⌜ (length (now part) ≤ 6) × (row + 1 + below ≡ length (now part)) ⌝ }
+fn less_later(value: f64, lower: &[f64], part: &[f64], row: usize, below: usize) -> f64
+    requires { ⌜ (length (now lower) ≡ 36) × (length (now part) ≤ 6) × (row + 1 + below ≡ length (now part)) ⌝ }
     ensures { λ r. ⌜ r ≡ count (blockBackwardLess (now (lower .entry)) (now (part .entry)) row) value below ⌝ }
 {
     let mut rest = value;
@@ -49,8 +49,8 @@ fn less_later(value: f64, lower: &[f64; 36], part: &[f64], row: usize, below: us
     rest
 }
 
-fn backward_at(lower: &[f64; 36], part: &mut [f64], row: usize) -> Solved
-    requires { ⌜ (length (now part) ≤ 6) × (row < length (now part)) ⌝ }
+fn backward_at(lower: &[f64], part: &mut [f64], row: usize) -> Solved
+    requires { ⌜ (length (now lower) ≡ 36) × (length (now part) ≤ 6) × (row < length (now part)) ⌝ }
     ensures { λ r. ⌜ blockBackwardOf (now (lower .entry)) (length (now (part .entry))) row (now (part .entry)) ≡ solveOut r (now (part .exit)) ⌝ }
 {
     let below = part.len() - 1 - row;
@@ -62,8 +62,8 @@ fn backward_at(lower: &[f64; 36], part: &mut [f64], row: usize) -> Solved
     Solved::Done
 }
 
-fn backward(lower: &[f64; 36], part: &mut [f64]) -> Solved
-    requires { ⌜ length (now part) ≤ 6 ⌝ }
+fn backward(lower: &[f64], part: &mut [f64]) -> Solved
+    requires { ⌜ (length (now lower) ≡ 36) × (length (now part) ≤ 6) ⌝ }
     ensures { λ r. ⌜ blockBackwardRun (now (lower .entry)) (length (now (part .entry))) (now (part .entry)) ≡ solveOut r (now (part .exit)) ⌝ }
 {
     let len = part.len();
@@ -78,17 +78,27 @@ fn backward(lower: &[f64; 36], part: &mut [f64]) -> Solved
     Solved::Done
 }
 
-// The factor of a block: its lower triangle has row stride 6. Where the block begins and how long it is, the stretches that are lent say.
-pub struct VelocityBlockFactor {
-    pub lower: [f64; 36],
+fn solve_rows(lower: &[f64], residual: &[f64], part: &mut [f64]) -> Solved
+    requires { ⌜ (length (now lower) ≡ 36) × (length (now part) ≤ 6) × (length (now residual) ≡ length (now part)) ⌝ }
+    ensures { λ r. ⌜ blockSolveRun (now (lower .entry)) (now (residual .entry)) (now (part .entry)) ≡ solveOut r (now (part .exit)) ⌝ }
+{
+    forward(lower, residual, part);
+    backward(lower, part)
 }
 
-// `residual` and `part` are the stretches of the block: nothing else of the output can be touched.
-pub fn solve_block(block: VelocityBlockFactor, residual: &[f64], part: &mut [f64]) -> Solved
-    requires { ⌜ (length (now part) ≤ 6) × (length (now residual) ≡ length (now part)) ⌝ }
-    ensures { λ r. ⌜ blockSolveRun (block .lower) (now (residual .entry)) (now (part .entry)) ≡ solveOut r (now (part .exit)) ⌝ }
+// `lower` is the block's 36 numbers where they stand; `residual` and `part` are its stretches: nothing else of the output can be touched.
+// The number of rows is a constant in each arm, so that the compiler writes the loops out, which halves the instructions.
+pub fn solve_block(lower: &[f64], residual: &[f64], part: &mut [f64]) -> Solved
+    requires { ⌜ (length (now lower) ≡ 36) × (length (now part) ≤ 6) × (length (now residual) ≡ length (now part)) ⌝ }
+    ensures { λ r. ⌜ blockSolveRun (now (lower .entry)) (now (residual .entry)) (now (part .entry)) ≡ solveOut r (now (part .exit)) ⌝ }
 {
-    let lower = block.lower;
-    forward(&lower, residual, part);
-    backward(&lower, part)
+    match part.len() {
+        1 => solve_rows(lower, &residual[..1], &mut part[..1]),
+        2 => solve_rows(lower, &residual[..2], &mut part[..2]),
+        3 => solve_rows(lower, &residual[..3], &mut part[..3]),
+        4 => solve_rows(lower, &residual[..4], &mut part[..4]),
+        5 => solve_rows(lower, &residual[..5], &mut part[..5]),
+        6 => solve_rows(lower, &residual[..6], &mut part[..6]),
+        _ => solve_rows(lower, residual, part),
+    }
 }

@@ -1,5 +1,5 @@
 -- A turn of the loop over the runs that solves: each block on its own stretch. Assumes nothing.
-use Prim.Native.Nat.{ℕ, _+_, _-_, _<_, _≤_}
+use Prim.Native.Nat.{ℕ, _+_, _*_, _-_, _<_, _≤_}
 use mathlib.Core.Path.{_≡_, refl, sym, ap, _∙_}
 use mathlib.Core.Bool.{true, false}
 use mathlib.Core.List.{List, _++_}
@@ -13,28 +13,26 @@ use Rattle.triangular.specs.Answers.{solveOut}
 use Rattle.triangular.specs.declared.substitution.Solved.{Solved}
 use Rattle.triangular.specs.declared.substitution.Solved.the-variants as solves
 use Rattle.block_factor.specs.Solves.{blockSolveRun}
-use Rattle.block_factor.specs.declared.stretch.VelocityBlockFactor.{VelocityBlockFactor}
 use Rattle.block_jacobi.specs.Runs.{begins, runLength, RunsFit}
-use Rattle.block_jacobi.specs.Blocks.{stretch, putStretch, solveTurn, blocksSolveRun}
+use Rattle.block_jacobi.specs.Blocks.{stretch, putStretch, blockIn, solveTurn, blocksSolveRun}
 use Rattle.block_jacobi.proofs.RunsOf.{Runs, Passes, runs-stop, runs-end}
 
 part : (a n : ℕ) → a + n - a ≡ n
 part a n = omega arith
 
--- the stretches of a call are those from `start` to `start + len`
-module _ (block : ℕ → List Float) (owner : ℕ → ℕ) (residual y z : List Float) (start len n : ℕ) (b : VelocityBlockFactor) (r : Solved)
+-- the stretches of a call are those from `start` to `start + len`, and its block the 36 numbers from `36 * start` on
+module _ (blocks : List Float) (owner : ℕ → ℕ) (residual y z : List Float) (start len n : ℕ) (r : Solved)
     (first : begins owner start ≡ true) (e : len ≡ runLength owner start n) (en : n ≡ length residual)
-    (made : b ≡ record { lower = block start })
-    (called : blockSolveRun (b .lower) (take (start + len - start) (drop start residual)) (take (start + len - start) (drop start y)) ≡ solveOut r z) where
-  solved : blockSolveRun (block start) (stretch residual start len) (stretch y start len) ≡ solveOut r z
-  unfolding stretch
-  solved = rw (made, part start len) at called
+    (called : blockSolveRun (take (36 * start + 36 - 36 * start) (drop (36 * start) blocks)) (take (start + len - start) (drop start residual)) (take (start + len - start) (drop start y)) ≡ solveOut r z) where
+  solved : blockSolveRun (blockIn blocks start) (stretch residual start len) (stretch y start len) ≡ solveOut r z
+  unfolding blockIn stretch
+  solved = rw (part (36 * start) 36, part start len) at called
 
-  pub solve-on : r ≡ solves.Done → solveTurn block owner residual start y ≡ going (take start y ++ (z ++ drop (start + len - start) (drop start y)))
+  pub solve-on : r ≡ solves.Done → solveTurn (blockIn blocks) owner residual start y ≡ going (take start y ++ (z ++ drop (start + len - start) (drop start y)))
   unfolding solveTurn putStretch check
   solve-on t = rw (first, ← en, ← e, part start len) (on-going _ _ _ {s = z} (solved ∙ rw t))
 
-  pub solve-out : r ≡ solves.Overflow → solveTurn block owner residual start y ≡ ended (take start y ++ (z ++ drop (start + len - start) (drop start y)))
+  pub solve-out : r ≡ solves.Overflow → solveTurn (blockIn blocks) owner residual start y ≡ ended (take start y ++ (z ++ drop (start + len - start) (drop start y)))
   unfolding solveTurn putStretch check
   solve-out t = rw (first, ← en, ← e, part start len) (on-ended _ _ _ {a = z} (solved ∙ rw t))
 

@@ -6,7 +6,6 @@ ghost use Rattle.triangular.specs.Answers.{solveOut};
 ghost use Rattle.block_jacobi.specs.Runs.{ownerIn, RunsFit};
 ghost use Rattle.block_jacobi.specs.Blocks.{blockIn, blocksSolveRun};
 use crate::run::run_length;
-use crate::store::block_at;
 use block_factor::solve_block;
 use triangular::Solved;
 
@@ -25,8 +24,12 @@ pub fn apply_block_jacobi_preconditioner(
     while start < owners.len() {
         let len = run_length(owners, start);
         let end = start + len;
-        let block = block_at(blocks, start);
-        let Solved::Done = solve_block(block, &residual[start..end], &mut output[start..end]) else {
+        let at = 36 * start;
+        let Solved::Done = solve_block(
+            &blocks[at..at + 36],
+            &residual[start..end],
+            &mut output[start..end],
+        ) else {
             return Solved::Overflow;
         };
         start = end;

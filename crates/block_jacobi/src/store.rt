@@ -2,8 +2,7 @@
 ghost use mathlib.Core.Path.{_≡_};
 ghost use Prim.Native.Nat.{_+_, _*_, _≤_};
 ghost use lib.ListN.{length};
-ghost use Rattle.block_jacobi.specs.Blocks.{blockIn, putBlock};
-use block_factor::VelocityBlockFactor;
+ghost use Rattle.block_jacobi.specs.Blocks.{putBlock};
 
 pub fn put_block(blocks: &mut [f64], start: usize, lower: &[f64; 36])
     requires { ⌜ 36 * start + 36 ≤ length (now blocks) ⌝ }
@@ -11,14 +10,4 @@ pub fn put_block(blocks: &mut [f64], start: usize, lower: &[f64; 36])
 {
     let at = 36 * start;
     loops::copy(&mut blocks[at..at + 36], lower);
-}
-
-pub fn block_at(blocks: &[f64], start: usize) -> VelocityBlockFactor
-    requires { ⌜ 36 * start + 36 ≤ length (now blocks) ⌝ }
-    ensures { λ r. ⌜ r ≡ record { lower = blockIn (now (blocks .entry)) start } ⌝ }
-{
-    let at = 36 * start;
-    let mut lower = [0.0; 36];
-    loops::copy(&mut lower, &blocks[at..at + 36]);
-    VelocityBlockFactor { lower: lower }
 }

@@ -18,7 +18,7 @@ backward-at-spec =
     (λ c. search known)  -- mul-value
     (λ c. search known)  -- add-value
     (λ c. search known)  -- mul-value-2
-    (λ c. search known)  -- element-copy-out-value
+    (λ c. search known)  -- shared-slice-read-value
     (λ c. search known)  -- mul-part
     (λ c. search known)  -- slice-write-part
     (λ c κs. search known)  -- is-finite-requires

@@ -29,7 +29,7 @@ forward-spec =
     (λ c. search known)  -- mul-part
     (λ c. search known)  -- add-part
     (λ c. search known)  -- mul-part-2
-    (λ c. search known)  -- element-copy-out-part
+    (λ c. search known)  -- shared-slice-read-part
     (λ c. search known)  -- mul-part-3
     (λ c. search known)  -- slice-write-part
     (λ c. search known)  -- add-row

@@ -25,9 +25,9 @@ less-earlier-spec =
     (λ c. search known)  -- mul-rest
     (λ c. search known)  -- add-rest
     (λ c. search known)  -- mul-rest-2
-    (λ c. search known)  -- element-copy-out-rest
-    (λ c. search known)  -- mul-rest-3
     (λ c. search known)  -- shared-slice-read-rest
+    (λ c. search known)  -- mul-rest-3
+    (λ c. search known)  -- shared-slice-read-rest-2
     (λ c. search known)  -- add-k
     (λ c. search known)  -- loop-less
     (λ c. search known)  -- loop-again
