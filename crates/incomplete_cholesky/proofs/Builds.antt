@@ -23,7 +23,7 @@ use Rattle.sparse.specs.declared.cholesky.Factored.the-variants as factors
 use Rattle.triangular.specs.Column.{Indexed}
 use Rattle.pairs.specs.Pairs.{patternOf, pairCount, pairLimit, pairsOf, finitePairs}
 use Rattle.pairs.specs.Pattern.{startsIn, columnsIn}
-use Rattle.pairs.specs.Answers.{pairedOf, PairsHeld}
+use Rattle.pairs.specs.Answers.{judgedPairs, pairsRun, pairedIn, pairedOf, PairsHeld}
 use Rattle.pairs.proofs.Places.{pairs-free}
 use Rattle.pairs.specs.declared.gathering.Paired.{Paired}
 use Rattle.pairs.specs.declared.gathering.Paired.the-variants as paired
@@ -75,45 +75,46 @@ module _ (w rows : ℕ) (ew : w ≡ rows) (pattern : List ℕ) (diagonal₀ valu
     refused = λ k e. absurd (let z : _≡_ {A = ℕ} 0 1 = cc in omega arith);
   }
 
--- the two tests of the pairs, and then the factor
-abbrev judged : Bool → Bool → Run Factor Factor → Run Factor ℕ
-judged a b x = cond a (ended 10) (check b (orThirteen x) (ended 12))
-
 -- ---- `build_incomplete_cholesky_preconditioner`
 module _ (s : System) (starts columns : List ℕ) (values₀ values : List Float) (r : Paired) (held : PairsHeld s r values₀ starts columns values) where
   pub paired-kept : (count : ℕ) → r ≡ paired.Done count → Kept starts columns
   paired-kept count t = held .done count t .kept
 
-  -- what `pairedOf` says of the two tests
-  split : (a b : Bool) (x : Run Factor Factor) → cond a (paired.Refused 10) (check b (paired.Done (pairCount (patternOf s) (s .rows))) (paired.Refused 12)) ≡ r
-      → (k : ℕ) → r ≡ paired.Refused k → (judged a b x ≡ ended k)
-  unfolding check
-  split true b x e k t = let z : 10 ≡ k = cc in rw z
-  split false true x e k t = absurd (let z : _≡_ {A = ℕ} 0 1 = cc in omega arith)
-  split false false x e k t = let z : 12 ≡ k = cc in rw z
+  -- what the answer says of the pairs' own run
+  refused-run : (x : Run Sparse ℕ) → pairedIn s x ≡ r → (k : ℕ) → r ≡ paired.Refused k → x ≡ ended k
+  unfolding on
+  refused-run (going L) e k t = absurd (let z : _≡_ {A = ℕ} 0 1 = cc in omega arith)
+  refused-run (ended a) e k t = let z : a ≡ k = cc in rw z
 
-  going-on : (a b : Bool) (x : Run Factor Factor) → cond a (paired.Refused 10) (check b (paired.Done (pairCount (patternOf s) (s .rows))) (paired.Refused 12)) ≡ r
-      → (c : ℕ) → r ≡ paired.Done c → judged a b x ≡ orThirteen x
-  unfolding check
-  going-on true b x e c t = absurd (let z : _≡_ {A = ℕ} 0 1 = cc in omega arith)
-  going-on false true x e c t = refl
-  going-on false false x e c t = absurd (let z : _≡_ {A = ℕ} 0 1 = cc in omega arith)
+  done-run : (a b : Bool) (L : Sparse) (x : Run Sparse ℕ) → x ≡ cond a (ended 10) (check b (going L) (ended 12)) → pairedIn s x ≡ r → (c : ℕ) → r ≡ paired.Done c → x ≡ going L
+  unfolding on check
+  done-run true b L x h e c t = absurd (let z : _≡_ {A = ℕ} 0 1 = cc in omega arith)
+  done-run false true L x h e c t = h
+  done-run false false L x h e c t = absurd (let z : _≡_ {A = ℕ} 0 1 = cc in omega arith)
 
   -- a refusal is 10 or 12
-  refusal : (a b : Bool) → cond a (paired.Refused 10) (check b (paired.Done (pairCount (patternOf s) (s .rows))) (paired.Refused 12)) ≡ r → (k : ℕ) → r ≡ paired.Refused k → (k ≡ 10 → ⊥) → k ≡ 12
+  ten-or-twelve : (a b : Bool) (L : Sparse) (k : ℕ) → cond a (ended 10) (check b (going L) (ended 12)) ≡ ended k → (k ≡ 10 → ⊥) → k ≡ 12
   unfolding check
-  refusal true b e k t n = absurd (n (cc))
-  refusal false true e k t n = absurd (let z : _≡_ {A = ℕ} 0 1 = cc in omega arith)
-  refusal false false e k t n = cc
+  ten-or-twelve true b L k e n = absurd (n (cc))
+  ten-or-twelve false true L k e n = absurd (let z : _≡_ {A = ℕ} 0 1 = cc in omega arith)
+  ten-or-twelve false false L k e n = cc
+
+  pairs-refused : (k : ℕ) → r ≡ paired.Refused k → pairsRun s ≡ ended k
+  unfolding pairedOf
+  pairs-refused = refused-run (pairsRun s) (sym (held .answered))
+
+  pairs-done : (c : ℕ) → r ≡ paired.Done c → pairsRun s ≡ going (pairsOf s)
+  unfolding pairedOf pairsRun judgedPairs
+  pairs-done = done-run (ltb pairLimit (pairCount (patternOf s) (s .rows))) (finitePairs (pairsOf s) (s .rows)) (pairsOf s) _ refl (sym (held .answered))
 
   refused-as : (k : ℕ) → r ≡ paired.Refused k → (k ≡ 10 → ⊥) → k ≡ 12
-  unfolding pairedOf
-  refused-as = refusal (ltb pairLimit (pairCount (patternOf s) (s .rows))) (finitePairs (pairsOf s) (s .rows)) (sym (held .answered))
+  unfolding pairsRun judgedPairs
+  refused-as k t = ten-or-twelve (ltb pairLimit (pairCount (patternOf s) (s .rows))) (finitePairs (pairsOf s) (s .rows)) (pairsOf s) k (pairs-refused k t)
 
   pub build-refused : (order : List ℕ) (diagonal : List Float) (k : ℕ) → r ≡ paired.Refused k → FactorHeld s diagonal (built.Refused k) starts columns order order values₀ values diagonal
-  unfolding choleskyRun pairedOf
+  unfolding choleskyRun on
   build-refused order diagonal k t = record {
-    answered = split (ltb pairLimit (pairCount (patternOf s) (s .rows))) (finitePairs (pairsOf s) (s .rows)) (factorRun (pairsOf s) diagonal) (sym (held .answered)) k t;
+    answered = rw (pairs-refused k t);
     pattern = λ n. let z = refused-as k t (λ z. n (ap built.Refused z)) in let c = held .twelve (rw z at t) in (c .kept, c .places);
     indexed = λ c e. absurd (let z : _≡_ {A = ℕ} 0 1 = cc in omega arith);
     ten = λ e. let z : k ≡ 10 = cc in (refl, held .ten (rw z at t), refl);
@@ -133,10 +134,9 @@ module _ (s : System) (starts columns : List ℕ) (values₀ values : List Float
     told (built.Refused k) n = let z : k ≡ 13 = n k refl in rw z
 
     pub build-finished : FactorHeld s diagonal₀ b starts columns order₀ order values₀ values′ diagonal
-    unfolding choleskyRun pairedOf
+    unfolding choleskyRun on
     build-finished = record {
-      answered = going-on (ltb pairLimit (pairCount (patternOf s) (s .rows))) (finitePairs (pairsOf s) (s .rows)) (factorRun (pairsOf s) diagonal₀) (sym (held .answered)) count t
-          ∙ ap orThirteen made-of ∙ told b (λ k e. h .refused k e .0);
+      answered = rw (pairs-done count t) (ap orThirteen made-of ∙ told b (λ k e. h .refused k e .0));
       pattern = λ _. (held .done count t .kept, held .done count t .places);
       indexed = h .indexed;
       ten = λ e. absurd (let z = h .refused 10 e .0 in omega arith);

@@ -1,29 +1,25 @@
 -- Mode 1: pairs, factor and index in one. pcg.rs, build_incomplete_cholesky_preconditioner_into.
 use Prim.Native.Nat.{ℕ, _+_, _*_}
 use mathlib.Core.Path.{_≡_}
-use mathlib.Core.Bool.{cond}
 use mathlib.Core.List.{List}
-use lib.Dec.{ltb}
 use lib.ListN.{take, drop, replicate}
 use lib.Ieee.{Float}
-use Rattle.loops.specs.Run.{Run, going, ended, check}
+use Rattle.loops.specs.Run.{Run, going, ended, next}
 use Rattle.loops.specs.Cleared.{Free}
 use Rattle.mass_operator.specs.System.{System}
 use Rattle.sparse.specs.Triangle.{Sparse}
 use Rattle.sparse.specs.Cholesky.{Factor, factorRun, orThirteen}
 use Rattle.sparse.specs.Kept.{start, Kept, numbers}
 use Rattle.triangular.specs.Column.{Indexed}
-use Rattle.pairs.specs.Pairs.{patternOf, pairCount, pairLimit, pairRoom, pairsOf, finitePairs}
-use Rattle.pairs.specs.Answers.{PairsFree}
+use Rattle.pairs.specs.Pairs.{patternOf, pairCount, pairRoom, pairsOf}
+use Rattle.pairs.specs.Answers.{pairsRun, PairsFree}
 use Rattle.incomplete_cholesky.specs.declared.build.Built.{Built}
 use Rattle.incomplete_cholesky.specs.declared.build.Built.the-variants as built
 
--- "10. Mode 1 has more than 16,384 pairs." "12. A pair value ... is not finite." "13. A pivot is not finite or at most MIN, or a factor is not finite."
+-- the pairs, refused by 10 and 12, then their factor: "13. A pivot is not finite or at most MIN, or a factor is not finite."
 -- diagonal is the (replaced) diagonal
 unfoldable pub choleskyRun : System → List Float → Run Factor ℕ
-choleskyRun s diagonal =
-    cond (ltb pairLimit (pairCount (patternOf s) (s .rows))) (ended 10)
-    (check (finitePairs (pairsOf s) (s .rows)) (orThirteen (factorRun (pairsOf s) diagonal)) (ended 12))
+choleskyRun s diagonal = next (pairsRun s) (λ L. orThirteen (factorRun L diagonal))
 
 -- what an answer and the slices at exit tell together: the refusal is document 01's number
 abbrev pub buildOut : Built → Sparse → List Float → Run Factor ℕ

@@ -1,22 +1,18 @@
 -- Document 02, i: "Two rows meet on at most two bodies, so the pair value must be shown to have the same bits, and refusal 12 must fall on the same jobs as before." Assumes nothing.
 use Prim.Native.Nat.{ℕ}
-use mathlib.Core.Path.{_≡_, refl, ap, _∙_}
+use mathlib.Core.Path.{_≡_, refl, ap, fun-ext}
 use mathlib.Core.Bool.{Bool, true, false, cond, _&&_}
 use mathlib.Core.Option.{Option, none}
 use lib.Dec.{ltb}
 use lib.Ieee.{Float}
-use Rattle.loops.specs.Run.{check}
-use Rattle.loops.specs.Every.{every}
-use Rattle.loops.proofs.Every.{every-same}
 use Rattle.kapitsa_joint.specs.declared.row.RowJacobian.{RowJacobian}
 use Rattle.kapitsa_joint.specs.declared.mass.SolverMass.{SolverMass}
 use Rattle.mass_operator.specs.System.{System}
 use Rattle.sparse.specs.Triangle.{Sparse}
-use Rattle.pairs.specs.Pairs.{armOf, crossAt, sumOf, pairOf, pairsOf, patternOf, pairCount, pairLimit, finitePair, finitePairs}
-use Rattle.pairs.specs.Answers.{pairedOf}
+use Rattle.pairs.specs.Pairs.{armOf, crossAt, sumOf, pairOf, pairsOf}
+use Rattle.pairs.specs.Answers.{judgedPairs, pairsRun, pairedIn, pairedOf}
 use Rattle.pairs.proofs.Crosses.{sum-swap}
 use Rattle.pairs.specs.declared.gathering.Paired.{Paired}
-use Rattle.pairs.specs.declared.gathering.Paired.the-variants as paired
 
 -- the crosses at the two bodies of the lower row p
 abbrev shareA : (ℕ → SolverMass) → RowJacobian → RowJacobian → Option Float
@@ -58,10 +54,8 @@ unfoldable pub pairsBy : ((ℕ → SolverMass) → RowJacobian → RowJacobian �
 pairsBy value s i j = cond (ltb i (s .rows) && ltb j i) (value (s .mass) (s .jacobian j) (s .jacobian i)) none
 
 -- refusals 10 and 12 with those values
-unfoldable pub pairedBy : ((ℕ → SolverMass) → RowJacobian → RowJacobian → Option Float) → System → Paired
-pairedBy value s =
-    cond (ltb pairLimit (pairCount (patternOf s) (s .rows))) (paired.Refused 10)
-    (check (finitePairs (pairsBy value s) (s .rows)) (paired.Done (pairCount (patternOf s) (s .rows))) (paired.Refused 12))
+abbrev pub pairedBy : ((ℕ → SolverMass) → RowJacobian → RowJacobian → Option Float) → System → Paired
+pairedBy value s = pairedIn s (judgedPairs s (pairsBy value s))
 
 -- values that agree pair by pair
 module _ (value : (ℕ → SolverMass) → RowJacobian → RowJacobian → Option Float) (same : (mass : ℕ → SolverMass) (p q : RowJacobian) → value mass p q ≡ pairOf mass p q) (s : System) where
@@ -69,13 +63,9 @@ module _ (value : (ℕ → SolverMass) → RowJacobian → RowJacobian → Optio
   unfolding pairsBy pairsOf
   by-pair i j = rw (same (s .mass) (s .jacobian j) (s .jacobian i))
 
-  pub by-finite : (n : ℕ) → finitePairs (pairsBy value s) n ≡ finitePairs (pairsOf s) n
-  unfolding finitePairs
-  by-finite n = every-same _ _ n (λ i li. every-same _ _ i (λ j lj. ap finitePair (by-pair i j)))
-
   pub by-answer : pairedBy value s ≡ pairedOf s
-  unfolding pairedBy pairedOf
-  by-answer = rw (by-finite (s .rows))
+  unfolding pairedOf pairsRun
+  by-answer = ap (λ (L : Sparse). pairedIn s (judgedPairs s L)) (fun-ext (λ i. fun-ext (λ j. by-pair i j)))
 
 -- the count, 10 or 12: the same answer in either order
 pub either-answer : (s : System) → (pairedBy lowerFirst s ≡ pairedOf s) × (pairedBy higherFirst s ≡ pairedOf s)

@@ -13,7 +13,7 @@ use lib.Seq.{getD-set-same, getD-set-other}
 use lib.Ieee.{Float, nan}
 use lib.Ieee.Scale.{finite}
 use borrow.Author.Tests.{lt-ltb, le-ltb, not-true, not-false, ltb-false}
-use Rattle.loops.specs.Run.{check}
+use Rattle.loops.specs.Run.{on, check}
 use Rattle.loops.specs.Every.{every}
 use Rattle.loops.specs.Cleared.{clearedWords}
 use Rattle.loops.proofs.Every.{every-iff, every-same}
@@ -30,7 +30,7 @@ use Rattle.sparse.proofs.Left.{free-past}
 use Rattle.pairs.specs.Pairs.{sharesOf, patternOf, rowPairs, pairCount, pairLimit, pairRoom, armOf, crossAt, sumOf, pairOf, pairsOf, finitePair, finitePairs}
 use Rattle.pairs.specs.Pattern.{startsIn, columnsIn}
 use Rattle.pairs.specs.Gather.{numberOf, valueIn, Valued, finiteBelow, sharesIn, shareIn, Stored, Gathering}
-use Rattle.pairs.specs.Answers.{pairedOf, Collected, PairsHeld, PairsFree}
+use Rattle.pairs.specs.Answers.{judgedPairs, pairsRun, pairedOf, Collected, PairsHeld, PairsFree}
 use Rattle.pairs.proofs.Parted.{restOf, starts-long, columns-long, starts-lent, columns-lent, starts-cleared, columns-cleared}
 use Rattle.pairs.specs.declared.pattern.Gathered.{Gathered}
 use Rattle.pairs.specs.declared.pattern.Gathered.the-variants as gathered
@@ -308,7 +308,7 @@ module _ (n bodies : ℕ) (jacobians : List Float) (links : List ℕ) (masses : 
 
   pub pairs-ten : (pattern′ : List ℕ) (values : List Float) → r ≡ gathered.Full → pattern′ ≡ clearedWords pattern
       → PairsHeld (compactSystem n bodies jacobians links masses) (paired.Refused 10) values (startsIn n pattern′) (columnsIn n pattern′) values
-  unfolding pairedOf
+  unfolding pairedOf pairsRun judgedPairs on
   pairs-ten pattern′ values t e = record {
     answered = rw (same, lt-ltb pairLimit (pairCount (shareIn links) n) (past-limit (shareIn links) n (omega (arith, g .full t))));
     ten = λ _. refl;
@@ -331,7 +331,7 @@ module _ (n bodies : ℕ) (jacobians : List Float) (links : List ℕ) (masses : 
         ∙ finite-same (pairsOf (compactSystem n bodies jacobians links masses)) (startsIn n pattern) (columnsIn n pattern) values n (pairs-kept n pattern room r g pattern₀ same-long long c t) (starts-long n pattern (omega arith)) (held .pairs)
 
     pub pairs-twelve : not b ≡ true → PairsHeld (compactSystem n bodies jacobians links masses) (paired.Refused 12) values₀ (startsIn n pattern) (columnsIn n pattern) values
-    unfolding pairedOf check
+    unfolding pairedOf pairsRun judgedPairs on check
     pairs-twelve f = record {
       answered = rw (same, few-enough, ← judged, not-true b f);
       ten = λ e. absurd (let z : _≡_ {A = ℕ} 12 10 = cc in omega arith);
@@ -341,7 +341,7 @@ module _ (n bodies : ℕ) (jacobians : List Float) (links : List ℕ) (masses : 
     }
 
     pub pairs-done : not b ≡ false → PairsHeld (compactSystem n bodies jacobians links masses) (paired.Done c) values₀ (startsIn n pattern) (columnsIn n pattern) values
-    unfolding pairedOf check
+    unfolding pairedOf pairsRun judgedPairs on check
     pairs-done f = record {
       answered = rw (same, few-enough, ← judged, not-false b f, ← (g .done c t .counted));
       ten = λ e. absurd (let z : _≡_ {A = ℕ} 0 1 = cc in omega arith);

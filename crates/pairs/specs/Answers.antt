@@ -6,19 +6,28 @@ use mathlib.Core.List.{List}
 use lib.Dec.{ltb}
 use lib.ListN.{drop, replicate}
 use lib.Ieee.{Float}
-use Rattle.loops.specs.Run.{check}
+use Rattle.loops.specs.Run.{Run, going, ended, on, check}
 use Rattle.loops.specs.Cleared.{Free}
 use Rattle.mass_operator.specs.System.{System}
+use Rattle.sparse.specs.Triangle.{Sparse}
 use Rattle.sparse.specs.Kept.{start, Kept, numbers}
 use Rattle.pairs.specs.Pairs.{patternOf, pairCount, pairLimit, pairRoom, pairsOf, finitePairs}
 use Rattle.pairs.specs.declared.gathering.Paired.{Paired}
 use Rattle.pairs.specs.declared.gathering.Paired.the-variants as paired
 
 -- 10 is judged first: "10. Mode 1 has more than 16,384 pairs", "12. A pair value ... is not finite"
+unfoldable pub judgedPairs : System → Sparse → Run Sparse ℕ
+judgedPairs s pairs = cond (ltb pairLimit (pairCount (patternOf s) (s .rows))) (ended 10) (check (finitePairs pairs (s .rows)) (going pairs) (ended 12))
+
+unfoldable pub pairsRun : System → Run Sparse ℕ
+pairsRun s = judgedPairs s (pairsOf s)
+
+-- the same as an answer, which tells how many pairs there are
+abbrev pub pairedIn : System → Run Sparse ℕ → Paired
+pairedIn s r = on r (λ _. paired.Done (pairCount (patternOf s) (s .rows))) paired.Refused
+
 unfoldable pub pairedOf : System → Paired
-pairedOf s =
-    cond (ltb pairLimit (pairCount (patternOf s) (s .rows))) (paired.Refused 10)
-    (check (finitePairs (pairsOf s) (s .rows)) (paired.Done (pairCount (patternOf s) (s .rows))) (paired.Refused 12))
+pairedOf s = pairedIn s (pairsRun s)
 
 -- the slices keep the triangle of pairs, in as many places as there are pairs
 pub record Collected (s : System) (starts columns : List ℕ) (values : List Float) : Type 0 where

@@ -7,12 +7,16 @@ use lib.Ieee.{Float, nan, binary64, add}
 use lib.Ieee.Scale.{finite}
 use Rattle.loops.specs.Every.{every}
 
+-- "gains its solution number", of row i
+abbrev pub gainBy : (ℕ → Float) → List Float → ℕ → Float
+gainBy accumulated solution i = add binary64 (accumulated i) (getD solution i nan)
+
 -- the number at this place of a row's 27: accumulated_multiplier is 24, accumulated_impulse 25
 abbrev pub accumulatedIn : ℕ → List Float → ℕ → Float
 accumulatedIn place numbers i = getD numbers (27 * i + place) nan
 
 unfoldable pub gainOf : ℕ → List Float → List Float → ℕ → Float
-gainOf place numbers solution i = add binary64 (accumulatedIn place numbers i) (getD solution i nan)
+gainOf place numbers = gainBy (accumulatedIn place numbers)
 
 unfoldable pub gainsFinite : ℕ → List Float → List Float → ℕ → Bool
 gainsFinite place numbers solution n = every (λ i. finite (gainOf place numbers solution i)) n

@@ -3,8 +3,7 @@ use Prim.Native.Nat.{ℕ, zero, suc, _*_}
 use mathlib.Core.Bool.{Bool, not, _&&_, cond, true}
 use mathlib.Core.List.{List, [], _∷_, _++_}
 use lib.Dec.{eqb}
-use lib.ListN.{getD}
-use lib.Ieee.{Float, nan, binary64, add}
+use lib.Ieee.{Float}
 use lib.Ieee.Scale.{finite}
 use Rattle.loops.specs.Run.{Run, check, going, next}
 use Rattle.loops.specs.Judge.{judge, test}
@@ -25,6 +24,7 @@ use Rattle.preconditioner.specs.Apply.{preconditioned}
 use Rattle.preconditioner.specs.declared.mode.Mode.{Mode}
 use Rattle.recurrence.specs.Step.{Iterate, Carried, advanceOf, firstFrom, renewFrom}
 use Rattle.position.specs.Centres.{movedBy}
+use Rattle.position.specs.Multipliers.{gainBy}
 use Rattle.position.specs.Problem.{Problem}
 use Rattle.position.specs.Prepare.{rowsJudged, diagonals, residuals}
 use Rattle.position.specs.Residual.{meetsOf, maximaOf}
@@ -90,7 +90,7 @@ pub record Delivered : Type 0 where
   pub maxima : Maxima
 
 unfoldable pub gainsOf : (ℕ → Float) → ℕ → List Float → List Float
-gainsOf accumulated rows solution = tabulate (λ i. add binary64 (accumulated i) (getD solution i nan)) rows
+gainsOf accumulated rows solution = tabulate (gainBy accumulated solution) rows
 
 unfoldable pub maximaIn : Table → Iterate → Maxima
 maximaIn t v = maximaOf (λ i. dimensionOf (t .row i .words .dimension)) (v .residual) (t .rows)

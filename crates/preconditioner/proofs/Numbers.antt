@@ -9,6 +9,7 @@ use Rattle.loops.proofs.Inverse.{apart, next-going}
 use Rattle.loops.proofs.Ranges.{Among, among-going, among-ended, among-next, among-check, among-cond, among-answered, among-turns, among-judged}
 use Rattle.mass_operator.specs.System.{System}
 use Rattle.pairs.specs.Pairs.{patternOf, pairCount, pairLimit}
+use Rattle.pairs.specs.Answers.{judgedPairs, pairsRun}
 use Rattle.incomplete_cholesky.specs.Build.{choleskyRun}
 use Rattle.block_factor.specs.Blocks.{blockPivot, blockFactor, cellOf}
 use Rattle.block_factor.specs.Answers.{cellRun, blockColumnTurn, blockRowTurn, rowsRun, blockOf}
@@ -20,10 +21,13 @@ use Rattle.preconditioner.specs.declared.mode.Mode.the-variants as modes
 
 -- "10. Mode 1 has more than 16,384 pairs" to "13. A pivot is not finite or at most MIN, or a factor is not finite."
 module _ (P : ℕ → Type 0) (p10 : P 10) (p11 : P 11) (p12 : P 12) (p13 : P 13) where
+  pairs-numbers : (s : System) → Among P (pairsRun s)
+  unfolding pairsRun judgedPairs
+  pairs-numbers s = among-cond P (ltb pairLimit (pairCount (patternOf s) (s .rows))) _ _ (among-ended P 10 p10) (among-check P _ _ _ (among-going P _) (among-ended P 12 p12))
+
   cholesky-numbers : (s : System) (diagonal : List Float) → Among P (choleskyRun s diagonal)
   unfolding choleskyRun
-  cholesky-numbers s diagonal =
-      among-cond P (ltb pairLimit (pairCount (patternOf s) (s .rows))) _ _ (among-ended P 10 p10) (among-check P _ _ _ (among-answered P 13 _ p13) (among-ended P 12 p12))
+  cholesky-numbers s diagonal = among-next P (pairsRun s) _ (pairs-numbers s) (λ _ _. among-answered P 13 _ p13)
 
   cell-numbers : (l : List Float) (row column : ℕ) (v : Float) → Among P (cellOf l row column v)
   unfolding cellOf blockPivot blockFactor

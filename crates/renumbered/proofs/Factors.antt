@@ -11,6 +11,7 @@ use borrow.Author.Tests.{ltb-true}
 use Rattle.loops.proofs.Same.{turns-same, judged-same}
 use Rattle.mass_operator.specs.System.{System}
 use Rattle.pairs.specs.Pairs.{sharesOf, patternOf, armOf, pairOf, pairsOf}
+use Rattle.pairs.specs.Answers.{judgedPairs, pairsRun}
 use Rattle.incomplete_cholesky.specs.Build.{choleskyRun}
 use Rattle.block_factor.specs.Blocks.{blockValue, onePair}
 use Rattle.block_factor.specs.Answers.{cellRun, blockColumnTurn, blockRowTurn, rowsRun, blockOf}
@@ -50,7 +51,7 @@ module _ (p q : ℕ → ℕ) (s : System) (r : Renumbering (s .bodies) p q) (w :
       go i j false e b f = rw e
 
   cholesky-same : (diagonal : List Float) → choleskyRun (renumberedSystem p q s) diagonal ≡ choleskyRun s diagonal
-  unfolding choleskyRun
+  unfolding choleskyRun pairsRun judgedPairs
   cholesky-same diagonal = rw (pair-count-same (patternOf (renumberedSystem p q s)) (patternOf s) (s .rows) (λ i j k l. pattern-same i j k (omega arith)), pairs-same)
 
   -- ---- mode 2

@@ -34,6 +34,7 @@ use Rattle.mass_operator.specs.Flat.{impulsesOf}
 use Rattle.mass_operator.proofs.Flat.{flat-length, flat-holds}
 use Rattle.sparse.specs.Cholesky.{factorRun}
 use Rattle.pairs.specs.Pairs.{pairCount, finitePairs}
+use Rattle.pairs.specs.Answers.{judgedPairs, pairsRun}
 use Rattle.incomplete_cholesky.specs.Build.{choleskyRun}
 use Rattle.preconditioner.specs.Factor.{factorJudged}
 use Rattle.preconditioner.specs.declared.mode.Mode.{Mode}
@@ -65,7 +66,7 @@ no-rows bodies row mass rules shift centre mode limit p q r s = rw (p, q, r, s)
 
 -- of velocities: without rows there is no residual that 20 could meet, and no factor is refused
 no-rows-factor : (s : System) (owner : ℕ → ℕ) (mode : Mode) → s .rows ≡ 0 → factorJudged mode s owner [] ≡ going tt
-unfolding factorJudged judged turns choleskyRun pairCount finitePairs every factorRun shifted tabulate check on
+unfolding factorJudged judged turns choleskyRun pairsRun judgedPairs pairCount finitePairs every factorRun shifted tabulate check on
 no-rows-factor s owner modes.Diagonal e = refl
 no-rows-factor s owner (modes.IncompleteCholesky shift) e = rw e
 no-rows-factor s owner modes.BlockJacobi e = rw e

@@ -18,6 +18,7 @@ use Rattle.mass_operator.specs.Operator.{responseAt, valueAt}
 use Rattle.mass_operator.specs.Flat.{flatImpulses, impulsesOf, productOf}
 use Rattle.mass_operator.proofs.Same.{impulse-same}
 use Rattle.pairs.specs.Pairs.{patternOf, rowPairs, pairCount, pairOf, pairsOf}
+use Rattle.pairs.specs.Answers.{judgedPairs, pairsRun}
 use Rattle.incomplete_cholesky.specs.Build.{choleskyRun}
 use Rattle.block_factor.specs.Blocks.{blockValue}
 use Rattle.block_factor.specs.Answers.{cellRun, blockColumnTurn, blockRowTurn, rowsRun, blockOf}
@@ -109,7 +110,7 @@ module _ (s : System) (jacobian : ℕ → RowJacobian) (mass : ℕ → SolverMas
       go i j false e b f = rw e
 
   cholesky-same : (diagonal : List Float) → choleskyRun (systemWith s jacobian mass) diagonal ≡ choleskyRun s diagonal
-  unfolding choleskyRun
+  unfolding choleskyRun pairsRun judgedPairs
   cholesky-same diagonal = rw (pair-count-same (patternOf (systemWith s jacobian mass)) (patternOf s) (s .rows) (λ i j k l. pattern-same i j k (omega arith)), pairs-same)
 
   -- ---- blocks
