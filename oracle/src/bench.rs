@@ -9,6 +9,7 @@ use crate::random::Random;
 use std::hint::black_box;
 use std::time::{Duration, Instant};
 
+pub mod eigen;
 pub mod groups;
 pub mod program;
 

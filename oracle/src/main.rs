@@ -53,6 +53,7 @@ const USAGE: &str = "usage: oracle/run COMMAND
   differences                     docs/DIFFERENCES.md's inputs on the reference
   bench [LIBRARY]                 times of the reference, and of an implementation
   bench-closing LIBRARY           time of an implementation's closing check at 512 rows, with its list too
+  bench-eigen LIBRARY EIGEN       the same job by Eigen's conjugate gradients (oracle/eigen makes EIGEN)
   bench-groups LIBRARY            times of an implementation's solve by groups, and of the one table
   bench-program PROGRAM           time of the job program's process on the largest job
   job FILE                        what the job program prints of a job file
@@ -121,6 +122,7 @@ fn command(words: &[&str]) -> Result<bool, String> {
         ["bench"] => bench::tables(None),
         ["bench", library] => bench::tables(Some(library)),
         ["bench-closing", library] => bench::closing(library),
+        ["bench-eigen", library, eigen] => bench::eigen::table(library, eigen),
         ["bench-groups", library] => bench::groups::table(library),
         ["bench-program", program] => bench::program::table(program),
         ["job", file] => {
