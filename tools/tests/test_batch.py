@@ -72,7 +72,7 @@ class Batches(Folder):
         self.program("job", ALONE)
         status, lines, _ = self.batch()
         self.assertEqual(status, 0)
-        self.assertRegex(lines["door.job"], r"10 +open +0\.735 mm +0\.0563 deg$")
+        self.assertRegex(lines["door.job"], r"10 +open +0\.748 mm +0\.0384 deg$")
 
     def test_a_program_that_dies_is_told(self):
         size = (self.jobs / "door.job").stat().st_size

@@ -6,10 +6,10 @@ from xml.sax.saxutils import escape
 
 STYLE = """
 body { margin: 1rem auto; max-width: 1188px; font-family: DejaVu Sans, Verdana, Arial, sans-serif; background: white; color: black; }
-svg { width: 100%; height: auto; }
+svg { width: 100%; height: auto; max-height: calc(100vh - 2rem); }
 pre { font-size: 13px; overflow-x: auto; }
 @page { size: A4 landscape; margin: 0; }
-@media print { body { margin: 0; max-width: none; } svg { width: 297mm; height: 209mm; } pre { margin: 12mm; font-size: 9pt; white-space: pre-wrap; page-break-before: always; } }
+@media print { body { margin: 0; max-width: none; } svg { width: 297mm; height: 209mm; max-height: none; } pre { margin: 12mm; font-size: 9pt; white-space: pre-wrap; page-break-before: always; } }
 """
 
 

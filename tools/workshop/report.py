@@ -82,7 +82,7 @@ def verdict(sheet: Sheet, job: Job, names: Names) -> List[str]:
     after = f"After {sheet.count} step{'' if sheet.count == 1 else 's'} ({met}) {widest(sheet, job)}."
     if sheet.verdict == CLOSED:
         return ["CLOSED. The exact gap of every row is within its tolerance.", after]
-    lines = ["OPEN. At least one joint's gap is beyond its tolerance.", after]
+    lines = ["OPEN. At least one row's measured gap, with its radius of rounding, is beyond its tolerance.", after]
     if sheet.measured:
         beyond = {row.owner for row in sheet.measured if not row.within}
         worst = next(iter(by_joint(sheet, job).values()))
