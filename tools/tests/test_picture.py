@@ -83,6 +83,24 @@ class Pictures(unittest.TestCase):
         self.assertIn("TURNED BACK BY 9", words)
         self.assertIn("bolt LOOK HERE", words)
         self.assertIn("What to do", words)
+        _, words = self.looked_at(drawn("refused_06_mass"))
+        self.assertIn("pendulum LOOK HERE", words)
+
+    def test_what_was_not_measured_is_not_drawn_as_closed(self):
+        for name in ["refused_06_mass", "worn_frame", "unjudged_18"]:
+            root, words = self.looked_at(drawn(name))
+            signs = [e for e in root.iter(f"{SVG}circle")]
+            self.assertTrue(signs)
+            self.assertTrue(all(sign.get("stroke-dasharray") for sign in signs))
+            self.assertFalse([word for word in words if "closed" in word])
+        root, _ = self.looked_at(drawn("four_bar"))
+        self.assertFalse([e for e in root.iter(f"{SVG}circle") if e.get("stroke-dasharray")])
+
+    def test_a_long_title_does_not_reach_the_answer(self):
+        job, known, told = chain(2)
+        _, words = self.looked_at(picture.svg_text("c.job", job, names.Names("Loom " * 40, {}, known.joints), told))
+        (title,) = [word for word in words if word.startswith("Loom Loom")]
+        self.assertTrue(title.endswith("…") and svg.width_of(title, 24.0) < picture.WIDTH - 160.0)
 
     def test_many_joints_are_counted(self):
         job, known, told = chain(60)

@@ -94,7 +94,5 @@ def _bar(row: Measured, dimension: int, name: str, kind: str, scale: Scale, y: f
 
 def _label(name: str, kind: str, width: float) -> str:
     """Name and kind; where there is no room, the name alone, and of a long name its beginning."""
-    most = int(width / (svg.LETTER * SIZE))
     words = f"{name} {kind}".strip()
-    words = words if len(words) <= most else name
-    return words if len(words) <= most else words[: most - 1] + "…"
+    return words if svg.width_of(words, SIZE) <= width else svg.cut(name, width, SIZE)

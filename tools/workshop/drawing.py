@@ -19,13 +19,16 @@ from .view import Panel, View, fitted
 
 SIGN = 9.0
 SIZE = 15.0
+BOLD = 1.12  # how much wider bold letters are
 
 
 class Marked(NamedTuple):
-    """The joints that are drawn black in a diamond, and the word that says why."""
+    """The joints that are drawn black in a diamond, or links that are named so, the word that says why, and whether the others were measured."""
 
     owners: Set[int]
     word: str
+    measured: bool
+    links: Set[int] = set()
 
 
 class Bar(NamedTuple):
@@ -90,11 +93,13 @@ def _drawn_bars(bars: Sequence[Bar]) -> List[str]:
     return parts
 
 
-def _sign(kind: str, at: Point, axis: Optional[Point], is_open: bool) -> List[str]:
-    """A joint's sign: white where it is closed, black within a diamond where it is open."""
-    style = {"stroke": "black", "stroke_width": 2, "fill": "black" if is_open else "white"}
+def _sign(kind: str, at: Point, axis: Optional[Point], black: bool, measured: bool) -> List[str]:
+    """A joint's sign: white where it is closed, black within a diamond where it is open, dashed where nothing was measured."""
+    style = {"stroke": "black", "stroke_width": 2, "fill": "black" if black else "white"}
     parts = []
-    if is_open:
+    if not measured and not black:
+        style = {**style, "fill": "#cccccc" if kind == "gear" else "white", "stroke_dasharray": "3 2"}
+    if black:
         x, y, reach = at[0], at[1], 2.1 * SIGN
         diamond = [(x - reach, y), (x, y - reach), (x + reach, y), (x, y + reach)]
         parts.append(svg.polygon(diamond, fill="white", stroke="black", stroke_width=2.5))
@@ -104,12 +109,12 @@ def _sign(kind: str, at: Point, axis: Optional[Point], is_open: bool) -> List[st
         turn = f"rotate({angle:.1f} {at[0]:.2f} {at[1]:.2f})"
         parts.append(svg.rectangle((at[0] - width, at[1] - SIGN * 0.8), 2 * width, 1.6 * SIGN, transform=turn, **style))
     elif kind == "gear":
-        parts.append(svg.element("circle", cx=at[0], cy=at[1], r=SIGN, stroke_dasharray="3.5 2.2", **{**style, "stroke_width": 5}))
+        parts.append(svg.element("circle", cx=at[0], cy=at[1], r=SIGN, **{**style, "stroke_dasharray": "3.5 2.2", "stroke_width": 5}))
     else:
         parts.append(svg.element("circle", cx=at[0], cy=at[1], r=SIGN * 0.85, **style))
     if kind in ("ball", "pivot"):
         dot = SIGN * (0.5 if kind == "ball" else 0.25)
-        parts.append(svg.element("circle", cx=at[0], cy=at[1], r=dot, fill="none" if kind == "ball" else "black", stroke="white" if is_open else "black", stroke_width=1.5))
+        parts.append(svg.element("circle", cx=at[0], cy=at[1], r=dot, fill="none" if kind == "ball" else "black", stroke="white" if black else "black", stroke_width=1.5))
     return parts
 
 
@@ -155,7 +160,7 @@ def mechanism(job: Job, names: Names, marked: Marked, panel: Panel, along: Optio
     for spot in spots:
         owner = next((owner for owner in spot.owners if owner in marked.owners), spot.owners[0])
         axis = names.joints[owner].axis
-        parts += _sign(names.kind(owner), spot.at, view.step(axis) if axis else None, owner in marked.owners)
+        parts += _sign(names.kind(owner), spot.at, view.step(axis) if axis else None, owner in marked.owners, marked.measured)
     parts += _labels(job, names, marked, panel, view, bars, spots)
     return parts + _foot(view, panel)
 
@@ -170,11 +175,13 @@ def _labels(
     inner = Panel(panel.left + 4.0, panel.top + 4.0, panel.right - 4.0, panel.bottom - 44.0)
     placer = Placer(inner, taken, [bar.segment for bar in bars])
     wanted = [(_spot_words(spot, names, marked), spot.at, black(spot), False) for spot in sorted(spots, key=black, reverse=True)]
-    wanted += [(names.link(link), view.place(job.bodies[link].centre), False, True) for link in sorted({bar.link for bar in bars})]
+    for link in sorted({bar.link for bar in bars}):
+        words = names.link(link) + (f" {marked.word}" if link in marked.links else "")
+        wanted.append((words, view.place(job.bodies[link].centre), link in marked.links, True))
     parts: List[str] = []
     left_out = 0
     for words, at, bold, italic in wanted:
-        label = placer.place(words, at, SIZE)
+        label = placer.place(words, at, SIZE * (BOLD if bold else 1.0))
         parts += _label(label, bold, italic) if label else []
         left_out += label is None
     if left_out:

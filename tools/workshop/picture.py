@@ -29,15 +29,15 @@ def _head(file: str, job: Job, names: Names, sheet: Sheet) -> List[str]:
     width = svg.width_of(answer, 22.0) * 1.12 + 34.0
     box = {"fill": "white" if closed else "black", "stroke": "black", "stroke_width": 3, "rx": 18 if closed else 0}
     parts = [
-        svg.text(names.title or file, (30.0, 46.0), 24.0, font_weight="bold"),
+        svg.text(svg.cut(names.title or file, WIDTH - 80.0 - width, 24.0 * 1.12), (30.0, 46.0), 24.0, font_weight="bold"),
         svg.rectangle((WIDTH - 30.0 - width, 18.0), width, 40.0, **box),
         svg.text(answer, (WIDTH - 30.0 - width / 2, 46.0), 22.0, text_anchor="middle", font_weight="bold", fill="black" if closed else "white"),
     ]
     tolerances = report.tolerances(job).replace(" deg", "°")
     told = f"{file}: {len(job.rows)} rows, {len(job.bodies)} links, mode {job.mode}, limit {job.limit}; {tolerances}"
-    parts.append(svg.text(told, (30.0, 80.0), 15.0))
-    for k, words in enumerate(report.verdict(sheet, job, names)[1:3] if not sheet.refusal else []):
-        parts.append(svg.text(words.replace(" deg", "°"), (30.0, 102.0 + 20.0 * k), 15.0))
+    parts.append(svg.text(svg.cut(told, WIDTH - 60.0, 15.0), (30.0, 80.0), 15.0))
+    for k, words in enumerate(report.verdict(sheet, job, names)[1:3] if sheet.gap else []):
+        parts.append(svg.text(svg.cut(words.replace(" deg", "°"), WIDTH - 60.0, 15.0), (30.0, 102.0 + 20.0 * k), 15.0))
     return parts
 
 
@@ -68,22 +68,31 @@ def _right(sheet: Sheet, job: Job, names: Names) -> List[str]:
 
 def marked(sheet: Sheet) -> drawing.Marked:
     """The joints that are beyond their tolerance, or the one where the refusal fell."""
-    if sheet.place[:1] == ("row",):
-        return drawing.Marked({int(sheet.place[2])}, "LOOK HERE")
-    return drawing.Marked({row.owner for row in sheet.measured or () if not row.within}, "OPEN")
+    what = sheet.place[:1]
+    if what == ("row",):
+        return drawing.Marked({int(sheet.place[2])}, "LOOK HERE", False)
+    if what == ("body",):
+        return drawing.Marked(set(), "LOOK HERE", False, {int(sheet.place[1])})
+    return drawing.Marked({row.owner for row in sheet.measured or () if not row.within}, "OPEN", bool(sheet.measured))
+
+
+def _legend(sheet: Sheet) -> str:
+    if sheet.measured:
+        signs = "white sign, straight bar: closed  ·  black sign in a diamond, pointed bar: open"
+    else:
+        signs = "dashed sign: not measured" + ("  ·  black sign in a diamond: where the job was turned back" if sheet.place[:1] == ("row",) else "")
+    return f"{signs}  ·  drawn by tools that are not proved; what they tell of the joints is the programs'"
 
 
 def svg_parts(file: str, job: Job, names: Names, sheet: Sheet, along: Optional[str]) -> List[str]:
     frame = svg.rectangle((LEFT.left, LEFT.top), LEFT.right - LEFT.left, LEFT.bottom - LEFT.top, fill="none", stroke="#777777", stroke_width=1)
-    black = "where it was turned back" if sheet.refusal else "open, as pointed bars are"
-    legend = f"white sign, straight bar: closed  ·  black sign in a diamond: {black}  ·  drawn by tools that are not proved; the gaps are the programs'"
     return [
         svg.rectangle((0.0, 0.0), WIDTH, HEIGHT, fill="white"),
         *_head(file, job, names, sheet),
         frame,
         *drawing.mechanism(job, names, marked(sheet), LEFT, along),
         *_right(sheet, job, names),
-        svg.text(legend, (30.0, 818.0), 13.0),
+        svg.text(_legend(sheet), (30.0, 818.0), 13.0),
     ]
 
 

@@ -44,7 +44,7 @@ def joint_in_words(owner: int, job: Job, names: Names) -> str:
 
 def tolerances(job: Job) -> str:
     """Those of the two tolerances that a row is judged by."""
-    kinds = {row.dimension for row in job.rows} or {0, 1}
+    kinds = {row.dimension for row in job.rows} & {0, 1} or {0, 1}
     told = [units.told(job.tolerances[kind], kind) for kind in (0, 1) if kind in kinds]
     return f"tolerance{'s' if len(told) > 1 else ''} {' and '.join(told)}"
 

@@ -39,6 +39,12 @@ def polygon(points: Sequence[Point], **attributes: object) -> str:
     return element("polygon", points=" ".join(f"{x:.2f},{y:.2f}" for x, y in points), **attributes)
 
 
+def cut(words: str, width: float, size: float) -> str:
+    """The words, or as many of their letters as there is room for."""
+    most = int(width / (LETTER * size))
+    return words if len(words) <= most else words[: most - 1] + "…"
+
+
 def wrapped(words: str, width: float, size: float) -> List[str]:
     """Lines no wider than this, broken at blanks; a word that is too long by itself stays whole."""
     lines: List[str] = []
