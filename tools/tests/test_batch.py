@@ -62,7 +62,7 @@ class Batches(Folder):
             status, lines, totals = self.batch("--jobs", at_once)
             self.assertEqual(status, 0)
             self.assertEqual(totals, "6 files: 1 closed, 1 open, 3 turned back, 1 not judged, 0 without an answer")
-            self.assertRegex(lines["four_bar.job"], r"8 +closed +1\.6\de-14 mm +0 deg$")
+            self.assertRegex(lines["four_bar.job"], r"8 +closed +1\.6\de-14 mm +-$")
             self.assertRegex(lines["door.job"], r"10 +open .* upper \(pin of jamb and door\)$")
             self.assertRegex(lines["refused_09_fixed.job"], r"turned back by 9 \(Immovable\) .*bolt")
             self.assertRegex(lines["worn_frame.job"], r"turned back by 13 \(Pivot\)")

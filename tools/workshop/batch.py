@@ -103,7 +103,8 @@ def _line(entry: Entry) -> List[str]:
     if entry.sheet is not None and entry.sheet.refusal:
         answer += f" by {entry.sheet.refusal} ({refusal(entry.sheet.refusal).name})"
     gap = entry.sheet.gap if entry.sheet else None
-    told = [units.told(gap[kind], kind) for kind in (0, 1)] if gap else ["-", "-"]
+    kinds = {row.dimension for row in entry.job.rows} if entry.job else set()
+    told = [units.told(gap[kind], kind) if gap and kind in kinds else "-" for kind in (0, 1)]
     return [entry.path.name, rows, answer, *told, _worst(entry)]
 
 
