@@ -1,6 +1,7 @@
 """The mechanisms of samples/make.py, described in words, give the same numbers."""
 
 import importlib.util
+import math
 import unittest
 from fractions import Fraction
 
@@ -60,6 +61,23 @@ class SameAsMake(unittest.TestCase):
         job = making.made("\n".join(lines), "f").job
         self.assertEqual(numbers(job), numbers(wanted))
         self.assertEqual((job.limit, job.mode, job.tolerances[0]), (wanted.limit, wanted.mode, wanted.tolerances[0]))
+
+    def test_all_digits_give_all_bits_of_the_train(self):
+        """The clock train with all digits, its slips in degrees."""
+        wanted = job_file.read(maker().clock_train(1).bytes())
+        scans = [(1.1e-4, -0.4e-4, 0.7e-4), (-0.8e-4, 1.6e-4, -0.5e-4), (0.3e-4, -1.2e-4, 1.4e-4), (-1.5e-4, 0.2e-4, 0.6e-4)]
+        arbors = [(0.0, 0.0, "0.40", 45), (0.05, 0.03, "0.12", 32), (0.09, 0.01, "0.06", 26), (0.12, 0.04, "0.03", 20)]
+        words = lambda point: " ".join(mm(part) for part in point)
+        lines = ["limit 64", "tolerance 1e-6 mm 1 deg", f"frame plates at {words(wanted.bodies[0].centre)}"]
+        for k, (_, _, mass, radius) in enumerate(arbors):
+            lines.append(f"link {k} at {words(wanted.bodies[k + 1].centre)} mass {mass} disc {radius} 60 about z")
+        for k, (x, y, _, _) in enumerate(arbors):
+            for z, kind, axis in [(-0.03, "ball", ""), (0.03, "pivot", "axis z")]:
+                pivot = tuple(part + off for part, off in zip((x, y, z), scans[k]))
+                lines.append(f"{kind} {k}{kind} {k} plates at {words(pivot)} and {words((x, y, z))} {axis}")
+        for k, (teeth, slip) in enumerate([("96 12", 4e-4), ("80 10", -7e-4), ("75 8", 3e-4)]):
+            lines.append(f"gear {k} {k} {k + 1} teeth {teeth} axis z slip {math.degrees(slip)!r}")
+        self.assertEqual(numbers(making.made("\n".join(lines), "f").job), numbers(wanted))
 
     def same(self, job, wanted, delta):
         self.assertEqual((job.limit, job.mode), (wanted.limit, wanted.mode))

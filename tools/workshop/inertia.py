@@ -10,7 +10,7 @@ import math
 from typing import Sequence, Tuple
 
 from .refusals import Refused
-from .vectors import Vector, dot
+from .vectors import X, Y, Z, Vector, dot
 
 Columns = Tuple[float, ...]
 NONE: Columns = (0.0,) * 9
@@ -35,6 +35,8 @@ def of_cylinder(mass: float, radius: float, length: float, axis: Vector) -> Colu
     """A rod or a disc about its axis: they differ only in what is long."""
     sideways = 4.0 / (mass * (radius * radius + length * length / 3.0))
     lengthwise = 2.0 / (mass * radius * radius)
+    if axis in (X, Y, Z):  # without the rounding of the general case
+        return diagonal(*(lengthwise if part else sideways for part in axis))
     return tuple(
         sideways * (i == j) + (lengthwise - sideways) * axis[i] * axis[j] for j in range(3) for i in range(3)
     )
