@@ -13,13 +13,22 @@ from .where import WORKSHOP
 # Answers by the file's bytes, from the recorded sheets; a file that is not recorded is refused by 1.
 ANSWER = f"""#!{sys.executable}
 import pathlib, struct, sys, time
-recorded = {{path.read_bytes(): path.with_suffix(".KIND").read_bytes() for path in pathlib.Path({str(WORKSHOP)!r}).glob("*.job")}}
+files = pathlib.Path({str(WORKSHOP)!r}).glob("*.job")
+recorded = {{path.read_bytes(): path.with_suffix(".KIND").read_bytes() for path in files}}
 def answer(data):
     return recorded.get(data, b"solve 1 0 0\\n")
 """
 ALONE = "sys.stdout.buffer.write(answer(sys.stdin.buffer.read()))\n"
-DIES = "data = sys.stdin.buffer.read()\nsys.stdout.buffer.write(answer(data)[:MANY])\nsys.stdout.flush()\nimport os\nif len(data) == SIZE: os.abort()\n"
-CUTS = "data = sys.stdin.buffer.read()\nsys.stdout.buffer.write(answer(data)[:-20] if len(data) == SIZE else answer(data))\n"
+DIES = """data = sys.stdin.buffer.read()
+sys.stdout.buffer.write(answer(data))
+sys.stdout.flush()
+if len(data) == SIZE:
+    import os
+    os.abort()
+"""
+CUTS = """data = sys.stdin.buffer.read()
+sys.stdout.buffer.write(answer(data)[:-20] if len(data) == SIZE else answer(data))
+"""
 HANGS = "time.sleep(60)\n"
 STREAM = """data, n = sys.stdin.buffer.read(), FIRST
 while data and n < MOST:
@@ -76,7 +85,7 @@ class Batches(Folder):
 
     def test_a_program_that_dies_is_told(self):
         size = (self.jobs / "door.job").stat().st_size
-        self.program("job", DIES, MANY=9999999, SIZE=size)
+        self.program("job", DIES, SIZE=size)
         status, lines, totals = self.batch()
         self.assertEqual(status, 1)
         self.assertIn("job died by signal 6", lines["door.job"])
@@ -119,7 +128,9 @@ class Batches(Folder):
         self.program("job", HANGS)
         self.program("jobs", STREAM, FIRST=0, MOST=99)
         status, _, totals = self.batch("--seconds", "10")
-        self.assertEqual((status, totals), (0, "6 files: 1 closed, 1 open, 3 turned back, 1 not judged, 0 without an answer"))
+        self.assertEqual(
+            (status, totals), (0, "6 files: 1 closed, 1 open, 3 turned back, 1 not judged, 0 without an answer")
+        )
 
     def test_a_file_that_cannot_be_read(self):
         self.program("job", ALONE)

@@ -38,12 +38,18 @@ class Commands(Folder):
     def test_make_tells_what_it_foresees(self):
         status, _, err = self.run_it("make", WORKSHOP / "refused_09_fixed.scan", "-o", self.folder / "a.job")
         self.assertEqual(status, 0)
-        self.assertIn("refused_09_fixed.scan:14: 'bolt' gapes between two frames; the job program will turn this back by 9 (Immovable)", err)
+        self.assertIn(
+            "refused_09_fixed.scan:14: 'bolt' gapes between two frames; "
+            "the job program will turn this back by 9 (Immovable)",
+            err,
+        )
 
     def test_make_fails_with_a_line_and_writes_nothing(self):
         (self.folder / "bad.scan").write_text("tolerance 1 mm\nlink\n")
         status, _, err = self.run_it("make", self.folder / "bad.scan")
-        self.assertEqual((status, err), (1, f"{self.folder / 'bad.scan'}:2: expected the link's name, found the end of the line\n"))
+        self.assertEqual(
+            (status, err), (1, f"{self.folder / 'bad.scan'}:2: expected the link's name, found the end of the line\n")
+        )
         self.assertEqual([path.name for path in self.folder.iterdir()], ["bad.scan"])
 
     def test_make_takes_no_file_that_is_no_text(self):
@@ -69,15 +75,32 @@ class Commands(Folder):
     def test_picture_of_stored_texts(self):
         for suffix in ("svg", "html"):
             out = self.folder / f"door.{suffix}"
-            status, _, _ = self.run_it("picture", WORKSHOP / "door.job", WORKSHOP / "door.sheet", WORKSHOP / "door.gaps", "-o", out)
+            status, _, _ = self.run_it(
+                "picture", WORKSHOP / "door.job", WORKSHOP / "door.sheet", WORKSHOP / "door.gaps", "-o", out
+            )
             self.assertEqual(status, 0)
             self.assertIn("upper OPEN", out.read_text(encoding="utf-8"))
-        status, _, err = self.run_it("picture", WORKSHOP / "door.job", WORKSHOP / "door.sheet", "-o", self.folder / "door.png")
+        status, _, err = self.run_it(
+            "picture", WORKSHOP / "door.job", WORKSHOP / "door.sheet", "-o", self.folder / "door.png"
+        )
         self.assertEqual(status, 1)
         self.assertIn(".svg or .html", err)
 
     def test_set(self):
-        status, out, _ = self.run_it("set", WORKSHOP / "door.job", "--limit", 9, "--mode", 1, "--linear", "0.5", "--angular", "180", "-o", self.folder / "new.job")
+        status, out, _ = self.run_it(
+            "set",
+            WORKSHOP / "door.job",
+            "--limit",
+            9,
+            "--mode",
+            1,
+            "--linear",
+            "0.5",
+            "--angular",
+            "180",
+            "-o",
+            self.folder / "new.job",
+        )
         self.assertEqual(status, 0)
         job = job_file.read((self.folder / "new.job").read_bytes())
         self.assertEqual((job.limit, job.mode, job.tolerances), (9, 1, (0.0005, 3.141592653589793)))

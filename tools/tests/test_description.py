@@ -21,11 +21,15 @@ class Errors(unittest.TestCase):
         self.fails(HEAD + "pinn A base arm\n", 5, "expected one of title", "found 'pinn'")
 
     def test_unknown_link(self):
-        self.fails(HEAD + "\n# a comment\npin A base crnk at 0 0 and 1 0\n", 7, "second link's name", "'crnk'", "base, arm")
+        self.fails(
+            HEAD + "\n# a comment\npin A base crnk at 0 0 and 1 0\n", 7, "second link's name", "'crnk'", "base, arm"
+        )
 
     def test_names_stand_once(self):
         self.fails(HEAD + "frame base\n", 5, "link 'base' stands in line 3 already")
-        self.fails(HEAD + "pin A base arm at 0 0 gap 1 0\npin A base arm at 0 0 gap 1 0\n", 6, "joint 'A' stands in line 5")
+        self.fails(
+            HEAD + "pin A base arm at 0 0 gap 1 0\npin A base arm at 0 0 gap 1 0\n", 6, "joint 'A' stands in line 5"
+        )
 
     def test_words_stand_once(self):
         self.fails("limit 3\nlimit 4\n", 2, "'limit' stands in line 1")
@@ -68,6 +72,9 @@ class Errors(unittest.TestCase):
         self.fails(HEAD + "ball A base arm at 0 0 gap 1 0 axis z\n", 5, "expected of a ball: at, gap")
         self.fails(SPACE + "pin A base arm at 0 0 0 gap 1 0 0\n", 4, "a pin has one")
         self.fails(SPACE + "pin A base arm at 0 0 0 gap 1 0 0 axis 0 0 0\n", 4, "not all 0")
+        self.fails(SPACE + "pin A base arm at 0 0 0 gap 1 0 0 axis z and 0 1 1\n", 4, "at most 10 degrees apart")
+        both = "pin A base arm at 0 0 0 gap 1 0 0 axis z and 0 0.1 1 turn 0 0 1\n"
+        self.fails(SPACE + both, 4, "either 'turn' or two axes")
         self.fails(HEAD + "gear A base arm slip 1\n", 5, "either 'teeth N M'")
         self.fails(HEAD + "gear A base arm teeth 3 4 along x slip 1\n", 5, "either 'teeth N M'")
         self.fails(HEAD + "gear A base arm teeth 3 4\n", 5, "expected 'slip'")

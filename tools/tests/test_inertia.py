@@ -19,7 +19,11 @@ class Inertia(unittest.TestCase):
             self.assertAlmostEqual(number, want, places=places)
 
     def test_inverse_times_inertia_is_one(self):
-        for matrix in ([2, 1, 0, 1, 2, 0, 0, 0, 4], [3, -1, 0.5, -1, 2, 0.25, 0.5, 0.25, 1], [1e-9, 0, 0, 0, 1e-9, 0, 0, 0, 1e-9]):
+        for matrix in (
+            [2, 1, 0, 1, 2, 0, 0, 0, 4],
+            [3, -1, 0.5, -1, 2, 0.25, 0.5, 0.25, 1],
+            [1e-9, 0, 0, 0, 1e-9, 0, 0, 0, 1e-9],
+        ):
             self.close(product(matrix, inertia.inverse(matrix)), inertia.diagonal(1.0, 1.0, 1.0))
 
     def test_refusals(self):

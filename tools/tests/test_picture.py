@@ -28,7 +28,10 @@ def chain(count: int):
     lines += [f"pin joint-number-{k} {ends[k]} {ends[k + 1]} at {100 * k} 0 gap 0.1 0.1" for k in range(count)]
     made = making.made("\n".join(lines), "chain")
     gap = lambda k: 2e-5 if k % 3 == 0 else 1e-7
-    rows = tuple(sheet.Measured(i, row.owner, gap(row.owner), 1e-5, gap(row.owner) <= 1e-5) for i, row in enumerate(made.job.rows))
+    rows = tuple(
+        sheet.Measured(i, row.owner, gap(row.owner), 1e-5, gap(row.owner) <= 1e-5)
+        for i, row in enumerate(made.job.rows)
+    )
     told = sheet.Sheet(0, 5, 0, (2e-5, 0.0), 0, measured=rows)
     known = names.parsed(names.text_of(made.mechanism, made.job), made.job)
     return made.job, known, told
@@ -114,7 +117,7 @@ class Pictures(unittest.TestCase):
 
     def test_words_are_escaped(self):
         job, known, told = chain(2)
-        odd = names.Names("<&\">", {}, known.joints)
+        odd = names.Names('<&">', {}, known.joints)
         root = ElementTree.fromstring(picture.svg_text("a&b.job", job, odd, told))
         self.assertIn('<&">', [element.text for element in root.iter(f"{SVG}text")])
 

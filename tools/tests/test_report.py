@@ -6,7 +6,18 @@ from workshop import job_file, names, outcome, report
 
 from .where import GOLDEN, WORKSHOP, sample, text
 
-CASES = ["four_bar", "heddle_frame_open", "clock_train", "door", "worn_frame", "refused_05_limit", "refused_06_mass", "refused_07_itself", "refused_09_fixed", "unjudged_18"]
+CASES = [
+    "four_bar",
+    "heddle_frame_open",
+    "clock_train",
+    "door",
+    "worn_frame",
+    "refused_05_limit",
+    "refused_06_mass",
+    "refused_07_itself",
+    "refused_09_fixed",
+    "unjudged_18",
+]
 
 
 def shown(name: str, rows: bool = False, named: bool = True, gaps: bool = True) -> str:

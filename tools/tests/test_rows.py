@@ -39,7 +39,10 @@ class Jacobians(unittest.TestCase):
         draw = random.Random(7)
         for _ in range(5):
             move = [tuple(draw.uniform(-1e-6, 1e-6) for _ in range(3)) for _ in range(2)]
-            turn = [times(draw.uniform(-1e-5, 1e-5), Z) if flat else tuple(draw.uniform(-1e-5, 1e-5) for _ in range(3)) for _ in range(2)]
+            turn = [
+                times(draw.uniform(-1e-5, 1e-5), Z) if flat else tuple(draw.uniform(-1e-5, 1e-5) for _ in range(3))
+                for _ in range(2)
+            ]
             yield move, turn
 
     def check_linear(self, line, text, directions, flat):
@@ -51,12 +54,20 @@ class Jacobians(unittest.TestCase):
         for row, n in zip(rows, directions):
             self.assertAlmostEqual(row.error, dot(minus(*joint.points), n), places=15)
             for move, turn in self.motions(flat):
-                points = [plus(plus(link.centre, m), turned(minus(p, link.centre), t)) for link, p, m, t in zip(links, joint.points, move, turn)]
+                points = [
+                    plus(plus(link.centre, m), turned(minus(p, link.centre), t))
+                    for link, p, m, t in zip(links, joint.points, move, turn)
+                ]
                 self.assertAlmostEqual(dot(minus(*points), n), row.error + self.change(row, move, turn), delta=1e-11)
 
     @staticmethod
     def change(row, move, turn):
-        return dot(row.linear_a, move[0]) + dot(row.angular_a, turn[0]) + dot(row.linear_b, move[1]) + dot(row.angular_b, turn[1])
+        return (
+            dot(row.linear_a, move[0])
+            + dot(row.angular_a, turn[0])
+            + dot(row.linear_b, move[1])
+            + dot(row.angular_b, turn[1])
+        )
 
     def test_linear_rows_of_every_kind(self):
         at = "at 1 2 3 and 1.2 1.9 3.3"
@@ -100,11 +111,12 @@ class Jacobians(unittest.TestCase):
         """b's axis is a's turned back by a small angle: the rows measure that angle."""
         axis, tilt = Z, (0.0003, -0.0002, 0.0)
         other = turned(axis, times(-1.0, tilt))
-        words = " ".join(f"{number:.15f}" for number in other)
-        made = self.made(SPACE + f"pin J a b at 0 0 0 gap 0 0 0 axis z and {words}")
-        rows = [row for row in made.job.rows if row.dimension == 1]
-        for row, n in zip(rows, (X, Y)):
-            self.assertAlmostEqual(row.error, dot(tilt, n), delta=1e-10)
+        for end in (1.0, -1.0):  # whichever end of the axis the scanner took first
+            words = " ".join(f"{end * number:.15f}" for number in other)
+            made = self.made(SPACE + f"pin J a b at 0 0 0 gap 0 0 0 axis z and {words}")
+            rows = [row for row in made.job.rows if row.dimension == 1]
+            for row, n in zip(rows, (X, Y)):
+                self.assertAlmostEqual(row.error, dot(tilt, n), delta=1e-10)
 
     def test_kinds_without_angles(self):
         for line in ["ball J a b at 0 0 0 gap 1 0 0", "pivot J a b at 0 0 0 gap 1 0 0 axis z"]:
@@ -115,7 +127,9 @@ class Jacobians(unittest.TestCase):
         for inside, sign in [("", -1.0), (" inside", 1.0)]:
             (row,) = self.made(SPACE + f"gear J a b teeth 40 10 axis z slip 0.5{inside}").job.rows
             self.assertEqual((row.dimension, row.error), (1, math.radians(0.5)))
-            self.assertAlmostEqual(self.change(row, (ZERO, ZERO), (times(0.1, Z), times(sign * 0.4, Z))), 0.0, places=15)
+            self.assertAlmostEqual(
+                self.change(row, (ZERO, ZERO), (times(0.1, Z), times(sign * 0.4, Z))), 0.0, places=15
+            )
 
     def test_rack(self):
         """A wheel of 25 mm that turns by t carries the rack that lies under it by 25 t along x."""
@@ -125,7 +139,10 @@ class Jacobians(unittest.TestCase):
         self.assertAlmostEqual(self.change(row, (ZERO, (0.025 * 0.1, 0.0, 0.0)), (times(0.1, Z), ZERO)), 0.0, places=15)
 
     def test_owner_and_key(self):
-        text = SPACE + "ball one a b at 0 0 0 gap 0 0 0\ngear two a b teeth 1 2 axis z slip 0\nweld three a b at 0 0 0 gap 0 0 0"
+        text = (
+            SPACE
+            + "ball one a b at 0 0 0 gap 0 0 0\ngear two a b teeth 1 2 axis z slip 0\nweld three a b at 0 0 0 gap 0 0 0"
+        )
         rows = self.made(text).job.rows
         self.assertEqual([row.owner for row in rows], [0] * 3 + [1] + [2] * 6)
         self.assertEqual([row.key for row in rows], [4] * 3 + [5] + [3] * 6)

@@ -19,7 +19,9 @@ def maker():
 
 def numbers(job):
     """All that a solve reads, but for the key, which here tells the kind of joint."""
-    rows = [(r.dimension, r.owner, r.a, r.b, r.linear_a, r.angular_a, r.linear_b, r.angular_b, r.error) for r in job.rows]
+    rows = [
+        (r.dimension, r.owner, r.a, r.b, r.linear_a, r.angular_a, r.linear_b, r.angular_b, r.error) for r in job.rows
+    ]
     return rows, [(b.inverse_mass, b.inverse_inertia, b.centre) for b in job.bodies]
 
 
@@ -38,7 +40,9 @@ class SameAsMake(unittest.TestCase):
     def test_the_handwritten_descriptions_to_a_rounding(self):
         for name, made in [("four_bar", maker().four_bar(1)), ("clock_train", maker().clock_train(1))]:
             text = (WORKSHOP / f"{name}.scan").read_text(encoding="utf-8")
-            self.same(making.made(text, name).job, job_file.read(made.bytes()), 2e-9 if name == "clock_train" else 4e-17)
+            self.same(
+                making.made(text, name).job, job_file.read(made.bytes()), 2e-9 if name == "clock_train" else 4e-17
+            )
 
     def test_the_sample_files_are_those(self):
         for name, made in [("four_bar", maker().four_bar(1)), ("clock_train", maker().clock_train(1))]:
@@ -65,7 +69,12 @@ class SameAsMake(unittest.TestCase):
     def test_all_digits_give_all_bits_of_the_train(self):
         """The clock train with all digits, its slips in degrees."""
         wanted = job_file.read(maker().clock_train(1).bytes())
-        scans = [(1.1e-4, -0.4e-4, 0.7e-4), (-0.8e-4, 1.6e-4, -0.5e-4), (0.3e-4, -1.2e-4, 1.4e-4), (-1.5e-4, 0.2e-4, 0.6e-4)]
+        scans = [
+            (1.1e-4, -0.4e-4, 0.7e-4),
+            (-0.8e-4, 1.6e-4, -0.5e-4),
+            (0.3e-4, -1.2e-4, 1.4e-4),
+            (-1.5e-4, 0.2e-4, 0.6e-4),
+        ]
         arbors = [(0.0, 0.0, "0.40", 45), (0.05, 0.03, "0.12", 32), (0.09, 0.01, "0.06", 26), (0.12, 0.04, "0.03", 20)]
         words = lambda point: " ".join(mm(part) for part in point)
         lines = ["limit 64", "tolerance 1e-6 mm 1 deg", f"frame plates at {words(wanted.bodies[0].centre)}"]

@@ -12,7 +12,9 @@ NAMES = sorted(path.stem for path in WORKSHOP.glob("*.scan"))
 
 class Samples(unittest.TestCase):
     def test_every_description_has_its_files(self):
-        wanted = {f"{name}{end}" for name in NAMES for end in (".scan", ".job", ".job.names", ".sheet", ".gaps", ".svg")}
+        wanted = {
+            f"{name}{end}" for name in NAMES for end in (".scan", ".job", ".job.names", ".sheet", ".gaps", ".svg")
+        }
         found = {path.name for path in WORKSHOP.iterdir()} - {"remake"}
         self.assertEqual(found, wanted)
 
@@ -20,7 +22,9 @@ class Samples(unittest.TestCase):
         for name in NAMES:
             made = making.made((WORKSHOP / f"{name}.scan").read_text(encoding="utf-8"), name)
             self.assertEqual(job_file.written(made.job), (WORKSHOP / f"{name}.job").read_bytes(), name)
-            self.assertEqual(names.text_of(made.mechanism, made.job), (WORKSHOP / f"{name}.job.names").read_text(encoding="utf-8"))
+            self.assertEqual(
+                names.text_of(made.mechanism, made.job), (WORKSHOP / f"{name}.job.names").read_text(encoding="utf-8")
+            )
 
     def test_pictures(self):
         for name in NAMES:
@@ -34,7 +38,9 @@ class Samples(unittest.TestCase):
         for name in NAMES:
             made = making.made((WORKSHOP / f"{name}.scan").read_text(encoding="utf-8"), name)
             refused = int(text(f"{name}.sheet").split()[1])
-            self.assertIn([item.number for item in made.foreseen], [[refused]] if refused in (5, 6, 7, 9, 26) else [[]], name)
+            self.assertIn(
+                [item.number for item in made.foreseen], [[refused]] if refused in (5, 6, 7, 9, 26) else [[]], name
+            )
 
 
 @unittest.skipUnless(programs.found("job"), "whole ways through target/bin/job, which was not built")

@@ -34,14 +34,24 @@ class Sheets(unittest.TestCase):
                     read("".join(lines[:k] + lines[k + 1 :]), self.job)
 
     def test_odd_words(self):
-        for old, new in [("close 1", "close 2"), ("close 1", "close 18"), ("solve 0 1 1", "solve 0 x 1"), ("row 3", "row 4"), ("row 0 3", "row 0 g")]:
+        for old, new in [
+            ("close 1", "close 2"),
+            ("close 1", "close 18"),
+            ("solve 0 1 1", "solve 0 x 1"),
+            ("row 3", "row 4"),
+            ("row 0 3", "row 0 g"),
+        ]:
             self.assertIn(old, self.text)
             with self.assertRaises(sheet.CutSheet):
                 sheet.parsed(self.text.replace(old, new), self.job)
 
     def test_refused(self):
         self.assertEqual(sheet.parsed("solve 13 0 0\n", self.job).refusal, 13)
-        for line, place in [("refused row 2 1", ("row", "2", "1")), ("refused body 3", ("body", "3")), ("refused limit", ("limit",))]:
+        for line, place in [
+            ("refused row 2 1", ("row", "2", "1")),
+            ("refused body 3", ("body", "3")),
+            ("refused limit", ("limit",)),
+        ]:
             self.assertEqual(sheet.measured(f"solve 7 0 0\n{line}\n", self.job).place, place)
         for wrong in ["refused row 2", "refused", "refused door 1", "refused limit\nrefused limit"]:
             with self.assertRaises(sheet.CutSheet):

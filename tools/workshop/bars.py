@@ -7,7 +7,7 @@ open. A closed bar ends straight and is white, an open one ends in a point and i
 from __future__ import annotations
 
 import math
-from typing import List, Tuple
+from typing import List
 
 from . import svg, units
 from .job_file import Job
@@ -65,7 +65,9 @@ def _axis(scale: Scale, top: float, bottom: float, panel: Panel) -> List[str]:
     for power in scale.ticks():
         x = scale.at(10.0**power)
         if power:
-            parts.append(svg.line((x, top - 6.0), (x, bottom), stroke="#999999", stroke_width=0.8, stroke_dasharray="2 3"))
+            parts.append(
+                svg.line((x, top - 6.0), (x, bottom), stroke="#999999", stroke_width=0.8, stroke_dasharray="2 3")
+            )
             parts.append(svg.text(f"1e{power}", (x, top - 10.0), 12.0, text_anchor="middle"))
     x = scale.at(1.0)
     parts.append(svg.line((x, top - 8.0), (x, bottom + 4.0), stroke_width=3))
@@ -81,7 +83,11 @@ def _bar(row: Measured, dimension: int, name: str, kind: str, scale: Scale, y: f
     label = _label(name, kind, 146.0)
     parts = [svg.text(label, (panel.left, y + 5.0), SIZE, font_weight="normal" if row.within else "bold")]
     if row.within:
-        parts.append(svg.rectangle((start, y - half), max(end - start, 1.5), 2 * half, fill="white", stroke="black", stroke_width=1.6))
+        parts.append(
+            svg.rectangle(
+                (start, y - half), max(end - start, 1.5), 2 * half, fill="white", stroke="black", stroke_width=1.6
+            )
+        )
     else:
         tip = max(end, start + 14.0)
         points = [(start, y - half), (tip - 10.0, y - half), (tip, y), (tip - 10.0, y + half), (start, y + half)]

@@ -9,7 +9,10 @@ from typing import Sequence
 
 from . import batch, job_file, making, names, outcome, page, picture, programs, refusals, report, sheet, units, words
 
-UNPROVED = "These tools are Python and are not proved. What the programs in target/bin print is; the tools only make their input and tell their output."
+UNPROVED = (
+    "These tools are Python and are not proved. What the programs in target/bin print is; "
+    "the tools only make their input and tell their output."
+)
 
 
 def main(arguments: Sequence[str]) -> int:
@@ -37,12 +40,20 @@ def _parser() -> argparse.ArgumentParser:
 
     def sheets(sub: argparse.ArgumentParser) -> None:
         sub.add_argument("job", type=pathlib.Path, metavar="JOB")
-        sub.add_argument("sheets", nargs="*", type=pathlib.Path, metavar="SHEET", help="stored texts of job and of gaps, in place of running them")
+        sub.add_argument(
+            "sheets",
+            nargs="*",
+            type=pathlib.Path,
+            metavar="SHEET",
+            help="stored texts of job and of gaps, in place of running them",
+        )
         sub.add_argument("--program", type=pathlib.Path, help="the job program (target/bin/job)")
 
     make = command("make", run_make, "Makes a job file of a description, and the names beside it.")
     make.add_argument("description", type=pathlib.Path, metavar="DESCRIPTION")
-    make.add_argument("-o", dest="out", type=pathlib.Path, metavar="JOB", help="the description's name with .job, where not given")
+    make.add_argument(
+        "-o", dest="out", type=pathlib.Path, metavar="JOB", help="the description's name with .job, where not given"
+    )
     show = command("show", run_show, "Tells a job's sheet in words and decimals.")
     sheets(show)
     show.add_argument("--rows", action="store_true", help="each row by itself, in place of each joint")
@@ -79,9 +90,16 @@ def run_make(options: argparse.Namespace) -> int:
     out.write_bytes(job_file.written(made.job))
     names.beside(out).write_text(names.text_of(made.mechanism, made.job), encoding="utf-8")
     for item in made.foreseen:
-        print(f"{options.description}:{item.line}: {item.detail}; the job program will turn this back by {refusals.in_words(item.number)}", file=sys.stderr)
+        print(
+            f"{options.description}:{item.line}: {item.detail}; "
+            f"the job program will turn this back by {refusals.in_words(item.number)}",
+            file=sys.stderr,
+        )
     job = made.job
-    print(f"{out}: {len(job.rows)} rows of {len(made.mechanism.joints)} joints, {len(job.bodies)} links, limit {job.limit}, mode {job.mode}")
+    print(
+        f"{out}: {len(job.rows)} rows of {len(made.mechanism.joints)} joints, {len(job.bodies)} links, "
+        f"limit {job.limit}, mode {job.mode}"
+    )
     return 0
 
 
@@ -108,7 +126,11 @@ def run_picture(options: argparse.Namespace) -> int:
     kind = options.out.suffix.lower()
     if kind not in (".svg", ".html"):
         raise words.Problem(str(options.out), 1, "expected a name that ends in .svg or .html")
-    told = drawn if kind == ".svg" else page.html(drawn, report.text(options.job.name, job, named, came.sheet, came.note), options.job.name)
+    told = (
+        drawn
+        if kind == ".svg"
+        else page.html(drawn, report.text(options.job.name, job, named, came.sheet, came.note), options.job.name)
+    )
     options.out.write_text(told, encoding="utf-8")
     print(options.out)
     return 0

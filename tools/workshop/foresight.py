@@ -1,4 +1,7 @@
-"""What in a description the job program will turn back, told by `make` beforehand with the line. The file is written all the same: the program decides."""
+"""What in a description the job program will turn back, told by `make` beforehand with its line.
+
+The file is written all the same: the program decides.
+"""
 
 from __future__ import annotations
 

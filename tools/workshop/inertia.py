@@ -37,9 +37,7 @@ def of_cylinder(mass: float, radius: float, length: float, axis: Vector) -> Colu
     lengthwise = 2.0 / (mass * radius * radius)
     if axis in (X, Y, Z):  # without the rounding of the general case
         return diagonal(*(lengthwise if part else sideways for part in axis))
-    return tuple(
-        sideways * (i == j) + (lengthwise - sideways) * axis[i] * axis[j] for j in range(3) for i in range(3)
-    )
+    return tuple(sideways * (i == j) + (lengthwise - sideways) * axis[i] * axis[j] for j in range(3) for i in range(3))
 
 
 def of_thin_rod(mass: float, length: float) -> float:
@@ -96,4 +94,5 @@ def _solved(factor: Sequence[Sequence[float]], unit: int, scale: float) -> Tuple
 
 def turned(columns: Sequence[float], vector: Vector) -> Vector:
     """A matrix by columns times a vector: from an angular impulse to how far a link turns."""
-    return tuple(dot((columns[i], columns[3 + i], columns[6 + i]), vector) for i in range(3))  # type: ignore[return-value]
+    x, y, z = (dot((columns[i], columns[3 + i], columns[6 + i]), vector) for i in range(3))
+    return (x, y, z)

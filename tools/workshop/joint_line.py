@@ -7,11 +7,12 @@ first link's and the second's) are its gap. A gap taken with a feeler or a dial 
 from __future__ import annotations
 
 import dataclasses
+import math
 from typing import Mapping, Optional, Tuple
 
 from . import units
 from .mechanism import Joint, Link
-from .vectors import AXES, ZERO, Vector, dot, plus
+from .vectors import AXES, ZERO, Vector, dot, negated, plus, times
 from .words import Words
 
 # What each kind takes, and what it cannot do without in space and in a plane.
@@ -23,6 +24,9 @@ TAKES = {
     "weld": ("at", "gap", "turn"),
     "gear": ("teeth", "axis", "inside", "at", "along", "slip"),
 }
+
+# Rows are of first order in the angle: further apart than this, two axes are not one axis scanned twice.
+MOST_APART = math.radians(10.0)
 
 
 @dataclasses.dataclass
@@ -92,7 +96,7 @@ def _turn(words: Words, plane: Optional[str]) -> Vector:
     if plane is None:
         return words.vector(units.radians, "the turn in degrees about x, y and z")
     angle = words.number(units.radians, "the turn in degrees")
-    return tuple(angle * part for part in AXES[plane])  # type: ignore[return-value]
+    return times(angle, AXES[plane])
 
 
 def _held(joint: Joint, words: Words, told: Told, plane: Optional[str]) -> Joint:
@@ -118,7 +122,18 @@ def _axes(kind: str, words: Words, told: Told, plane: Optional[str]) -> Optional
         return None
     if told.axes is None:
         raise words.problem(f"expected 'axis' and a direction: a {kind} has one")
-    return told.axes
+    return _paired(words, told.axes, told.turn)
+
+
+def _paired(words: Words, axes: Tuple[Vector, Vector], turn: Optional[Vector]) -> Tuple[Vector, Vector]:
+    """Both links' axes, pointing the same way: a scanner may take one from its other end."""
+    first, second = axes
+    if first != second and turn is not None:
+        raise words.problem("expected either 'turn' or two axes: both tell how the links are turned")
+    second = negated(second) if dot(first, second) < 0.0 else second
+    if dot(first, second) < math.cos(MOST_APART):
+        raise words.problem("expected two axes that are at most 10 degrees apart")
+    return first, second
 
 
 def _gear(joint: Joint, words: Words, told: Told, plane: Optional[str]) -> Joint:
@@ -137,14 +152,13 @@ def _gear(joint: Joint, words: Words, told: Told, plane: Optional[str]) -> Joint
         raise words.problem("expected 'axis' and a direction: wheels have one")
     if told.points is not None and told.points[1] is not None:
         raise words.problem("expected one point of a gear: where the teeth meet")
-    sign = -1.0 if told.inside else 1.0
     axis_a, axis_b = told.axes or (AXES[plane or "z"],) * 2
     point = told.points[0] if told.points else None
     return dataclasses.replace(
         joint,
         slip=slip,
         ratio=told.teeth[0] / told.teeth[1],
-        axes=(axis_a, tuple(sign * part for part in axis_b)),
+        axes=(axis_a, negated(axis_b) if told.inside else axis_b),
         points=(point, point) if point else (ZERO, ZERO),
         placed=point is not None,
     )

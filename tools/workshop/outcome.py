@@ -1,4 +1,4 @@
-"""What came of a job: its sheet from the programs or from stored texts, with each row's measured gap where it is known."""
+"""What came of a job: its sheet, from the programs or from stored texts, with each row's gap where it is known."""
 
 from __future__ import annotations
 
@@ -30,9 +30,7 @@ def stored(texts: Sequence[str], job: Job) -> Outcome:
     return Outcome(sheet.joined(sheets[0], gaps[0] if gaps else None))
 
 
-def computed(
-    data: bytes, job: Job, program: Optional[pathlib.Path] = None, seconds: Optional[float] = None
-) -> Outcome:
+def computed(data: bytes, job: Job, program: Optional[pathlib.Path] = None, seconds: Optional[float] = None) -> Outcome:
     """By running the programs: `job`, or the one named, and `gaps` where it was built."""
     text = programs.run(program or programs.needed("job"), data, seconds)
     whole, gaps = sheet.parsed(text, job), programs.found("gaps")

@@ -1,4 +1,4 @@
-"""The proved programs, run on a file's bytes. A program that dies, or is not there, is told and never taken for an answer."""
+"""The proved programs, run on a file's bytes. One that dies, or is not there, is told and never taken for an answer."""
 
 from __future__ import annotations
 
@@ -30,7 +30,9 @@ def needed(name: str) -> pathlib.Path:
 def run(program: pathlib.Path, data: bytes, seconds: Optional[float] = None) -> str:
     """What a program prints of these bytes."""
     try:
-        done = subprocess.run([str(program)], input=data, stdout=subprocess.PIPE, stderr=subprocess.PIPE, timeout=seconds)
+        done = subprocess.run(
+            [str(program)], input=data, stdout=subprocess.PIPE, stderr=subprocess.PIPE, timeout=seconds
+        )
     except subprocess.TimeoutExpired:
         raise ProgramFailed(f"{program.name} was stopped after {seconds:g} s; a smaller limit ends sooner") from None
     except OSError as error:

@@ -22,12 +22,16 @@ def table() -> Dict[int, Refusal]:
     """Every refusal by its number."""
     with TABLE.open(encoding="utf-8", newline="") as lines:
         rows = csv.DictReader(lines, delimiter="\t", quoting=csv.QUOTE_NONE)
-        return {int(row["number"]): Refusal(int(row["number"]), row["name"], row["text"], row["advice"]) for row in rows}
+        return {
+            int(row["number"]): Refusal(int(row["number"]), row["name"], row["text"], row["advice"]) for row in rows
+        }
 
 
 def refusal(number: int) -> Refusal:
     """The refusal of this number; one that the table does not have is told as such."""
-    unknown = Refusal(number, "Unknown", "The table of refusals does not have this number.", "Use tools and programs of one state.")
+    unknown = Refusal(
+        number, "Unknown", "The table of refusals does not have this number.", "Use tools and programs of one state."
+    )
     return table().get(number, unknown)
 
 

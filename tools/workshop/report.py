@@ -86,7 +86,10 @@ def verdict(sheet: Sheet, job: Job, names: Names) -> List[str]:
     if sheet.measured:
         beyond = {row.owner for row in sheet.measured if not row.within}
         worst = next(iter(by_joint(sheet, job).values()))
-        lines.append(f"{len(beyond)} of {len({row.owner for row in job.rows})} joints are open, most of all {joint_in_words(worst.owner, job, names)}.")
+        lines.append(
+            f"{len(beyond)} of {len({row.owner for row in job.rows})} joints are open, "
+            f"most of all {joint_in_words(worst.owner, job, names)}."
+        )
     return lines
 
 

@@ -67,9 +67,7 @@ def _angular(joint: Joint, owner: int, direction: Vector) -> Row:
     # Where both links' axes were scanned, the turn across them is b's axis × a's, to first order in the angle.
     turn = plus(joint.turn, cross(joint.axes[1], joint.axes[0])) if joint.axes else joint.turn
     error = dot(turn, direction)
-    return Row(
-        ANGULAR, KEYS[joint.kind], owner, joint.a, joint.b, ZERO, direction, ZERO, negated(direction), error
-    )
+    return Row(ANGULAR, KEYS[joint.kind], owner, joint.a, joint.b, ZERO, direction, ZERO, negated(direction), error)
 
 
 def _gear(joint: Joint, owner: int) -> Row:

@@ -1,4 +1,8 @@
-"""Many files through one run of the program `jobs`: to it, each file's length as a little-endian word and its bytes; from it, for each a line `job N` and its sheet."""
+"""Many files through one run of the program `jobs`.
+
+To it goes each file's length as a little-endian word and then its bytes; from it come, for each, a line `job N` and
+its sheet.
+"""
 
 from __future__ import annotations
 
@@ -32,7 +36,9 @@ def split(text: str, count: int) -> List[Optional[str]]:
 def run(program: pathlib.Path, files: Sequence[bytes], seconds: float) -> List[Optional[str]]:
     """Sheets as far as the program came; whoever calls looks at each and asks again for what is missing."""
     try:
-        done = subprocess.run([str(program)], input=framed(files), stdout=subprocess.PIPE, stderr=subprocess.DEVNULL, timeout=seconds)
+        done = subprocess.run(
+            [str(program)], input=framed(files), stdout=subprocess.PIPE, stderr=subprocess.DEVNULL, timeout=seconds
+        )
         out = done.stdout
     except subprocess.TimeoutExpired as stopped:
         out = stopped.stdout or b""

@@ -31,7 +31,10 @@ class View:
 
     def place(self, point: Vector) -> Point:
         right, up = (point[side] for side in SIDES[self.along])
-        return (self.centre[0] + self.scale * (right - self.middle[0]), self.centre[1] - self.scale * (up - self.middle[1]))
+        return (
+            self.centre[0] + self.scale * (right - self.middle[0]),
+            self.centre[1] - self.scale * (up - self.middle[1]),
+        )
 
     def step(self, direction: Vector) -> Point:
         """How a direction runs on the paper."""
@@ -48,7 +51,7 @@ def _spread(points: List[Vector], side: int) -> float:
 
 
 def fitted(points: Iterable[Vector], panel: Panel, along: Optional[str], margin: float = 55.0) -> View:
-    """The view that fits all points into a panel; where no axis is told, along the one of least spread, z before others."""
+    """The view that fits all points into a panel; where no axis is told, along that of least spread, z first."""
     all_points = list(points)
     axis = along or min("zyx", key=lambda name: _spread(all_points, "xyz".index(name)))
     right, up = SIDES[axis]

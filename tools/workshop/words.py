@@ -1,4 +1,4 @@
-"""One line of a description as words that are taken from the left, with errors that name file, line and what was expected."""
+"""One line of a description as words taken from the left; errors name the file, the line and what was expected."""
 
 from __future__ import annotations
 
