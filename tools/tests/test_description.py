@@ -116,8 +116,9 @@ class Read(unittest.TestCase):
         self.assertEqual(links[0].inverse_inertia[0], 1e6)
         for one, other in zip(*(link.inverse_inertia for link in links)):
             self.assertAlmostEqual(one, other, delta=1e-9)
-        flat = description.read("plane z\ntolerance 1 mm\nlink a at 0 0 0 mass 1 moments 1 2 4\n").links[0]
-        self.assertEqual(flat.inverse_inertia, (0.0,) * 8 + (250000.0,))
+        for shape in ["moments 1 2 4", "inertia 1 0 0.5 0 2 0 0.5 0 4"]:
+            flat = description.read(f"plane z\ntolerance 1 mm\nlink a at 0 0 0 mass 1 {shape}\n").links[0]
+            self.assertEqual(flat.inverse_inertia, (0.0,) * 8 + (250000.0,))
 
     def test_what_is_foreseen(self):
         def numbers(text):
