@@ -35,6 +35,12 @@ class Commands(Folder):
         for name in ["four_bar.job", "four_bar.job.names"]:
             self.assertEqual((self.folder / name).read_bytes(), (WORKSHOP / name).read_bytes())
 
+    def test_make_takes_a_text_from_any_editor(self):
+        text = (WORKSHOP / "four_bar.scan").read_text(encoding="utf-8")
+        (self.folder / "four_bar.scan").write_bytes(text.replace("\n", "\r\n").encode("utf-8-sig"))
+        self.assertEqual(self.run_it("make", self.folder / "four_bar.scan")[0], 0)
+        self.assertEqual((self.folder / "four_bar.job").read_bytes(), (WORKSHOP / "four_bar.job").read_bytes())
+
     def test_make_tells_what_it_foresees(self):
         status, _, err = self.run_it("make", WORKSHOP / "refused_09_fixed.scan", "-o", self.folder / "a.job")
         self.assertEqual(status, 0)

@@ -3,6 +3,7 @@
 from __future__ import annotations
 
 import argparse
+import os
 import pathlib
 import sys
 from typing import Sequence
@@ -22,6 +23,8 @@ def main(arguments: Sequence[str]) -> int:
         return options.run(options)
     except (words.Problem, refusals.Refused, sheet.CutSheet, programs.ProgramFailed, units.NotANumber) as error:
         print(f"zapekuri: {error}" if not isinstance(error, words.Problem) else str(error), file=sys.stderr)
+    except BrokenPipeError:  # whoever reads has enough, as head does
+        os.dup2(os.open(os.devnull, os.O_WRONLY), sys.stdout.fileno())
     except OSError as error:
         print(f"zapekuri: {error.filename}: {error.strerror}", file=sys.stderr)
     except UnicodeDecodeError:
@@ -32,47 +35,56 @@ def main(arguments: Sequence[str]) -> int:
 def _parser() -> argparse.ArgumentParser:
     parser = argparse.ArgumentParser(prog="zapekuri", description=__doc__, epilog=UNPROVED)
     commands = parser.add_subparsers(metavar="COMMAND", required=True)
+    for name, run, options, about in [
+        ("make", run_make, _make_options, "Makes a job file of a description, and the names beside it."),
+        ("show", run_show, _show_options, "Tells a job's sheet in words and decimals."),
+        ("picture", run_picture, _picture_options, "Draws the mechanism and each joint's gap."),
+        ("set", run_set, _set_options, "Sets a job file's limit, mode or tolerances."),
+        ("batch", run_batch, _batch_options, "Runs every *.job of a folder and tells them in one table."),
+    ]:
+        command = commands.add_parser(name, help=about, description=about, epilog=UNPROVED)
+        command.set_defaults(run=run)
+        options(command)
+    return parser
 
-    def command(name: str, run, about: str) -> argparse.ArgumentParser:
-        sub = commands.add_parser(name, help=about, description=about, epilog=UNPROVED)
-        sub.set_defaults(run=run)
-        return sub
 
-    def sheets(sub: argparse.ArgumentParser) -> None:
-        sub.add_argument("job", type=pathlib.Path, metavar="JOB")
-        sub.add_argument(
-            "sheets",
-            nargs="*",
-            type=pathlib.Path,
-            metavar="SHEET",
-            help="stored texts of job and of gaps, in place of running them",
-        )
-        sub.add_argument("--program", type=pathlib.Path, help="the job program (target/bin/job)")
-
-    make = command("make", run_make, "Makes a job file of a description, and the names beside it.")
+def _make_options(make: argparse.ArgumentParser) -> None:
     make.add_argument("description", type=pathlib.Path, metavar="DESCRIPTION")
-    make.add_argument(
-        "-o", dest="out", type=pathlib.Path, metavar="JOB", help="the description's name with .job, where not given"
-    )
-    show = command("show", run_show, "Tells a job's sheet in words and decimals.")
-    sheets(show)
+    default = "the description's name with .job, where not given"
+    make.add_argument("-o", dest="out", type=pathlib.Path, metavar="JOB", help=default)
+
+
+def _job_and_sheets(command: argparse.ArgumentParser) -> None:
+    command.add_argument("job", type=pathlib.Path, metavar="JOB")
+    stored = "stored texts of job and of gaps, in place of running them"
+    command.add_argument("sheets", nargs="*", type=pathlib.Path, metavar="SHEET", help=stored)
+    command.add_argument("--program", type=pathlib.Path, help="the job program (target/bin/job)")
+
+
+def _show_options(show: argparse.ArgumentParser) -> None:
+    _job_and_sheets(show)
     show.add_argument("--rows", action="store_true", help="each row by itself, in place of each joint")
-    draw = command("picture", run_picture, "Draws the mechanism and each joint's gap.")
-    sheets(draw)
+
+
+def _picture_options(draw: argparse.ArgumentParser) -> None:
+    _job_and_sheets(draw)
     draw.add_argument("-o", dest="out", type=pathlib.Path, required=True, metavar="FILE", help="FILE.svg or FILE.html")
     draw.add_argument("--along", choices="xyz", help="the axis to look along; where not given, the one that shows most")
-    change = command("set", run_set, "Sets a job file's limit, mode or tolerances.")
+
+
+def _set_options(change: argparse.ArgumentParser) -> None:
     change.add_argument("job", type=pathlib.Path, metavar="JOB")
-    change.add_argument("--limit", type=_steps, metavar="N")
+    change.add_argument("--limit", type=_steps, metavar="N", help="steps at most")
     change.add_argument("--mode", type=int, metavar="M", help="0 diagonal, 1 incomplete Cholesky, 2 block Jacobi")
     change.add_argument("--linear", metavar="MM", help="the tolerance of linear rows, in millimetres")
     change.add_argument("--angular", metavar="DEG", help="the tolerance of angular rows, in degrees")
     change.add_argument("-o", dest="out", type=pathlib.Path, metavar="OUT", help="the file itself, where not given")
-    many = command("batch", run_batch, "Runs every *.job of a folder and tells them in one table.")
+
+
+def _batch_options(many: argparse.ArgumentParser) -> None:
     many.add_argument("folder", type=pathlib.Path, metavar="FOLDER")
     many.add_argument("--jobs", type=int, default=2, metavar="N", help="programs at a time (2)")
     many.add_argument("--seconds", type=float, default=600.0, metavar="S", help="how long one file may take (600)")
-    return parser
 
 
 def _steps(word: str) -> int:
@@ -83,7 +95,7 @@ def _steps(word: str) -> int:
 
 
 def run_make(options: argparse.Namespace) -> int:
-    made = making.made(options.description.read_text(encoding="utf-8"), str(options.description))
+    made = making.made(options.description.read_text(encoding="utf-8-sig"), str(options.description))
     out = options.out or options.description.with_suffix(".job")
     if out == options.description:
         raise words.Problem(str(out), 1, "expected another name for the job file: use -o")
