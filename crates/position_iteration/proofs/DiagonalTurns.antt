@@ -20,8 +20,7 @@ use Rattle.recurrence.specs.Answers.{diagonalOut, carriedOut}
 use Rattle.recurrence.specs.declared.ratio.Scale.{Scale}
 use Rattle.recurrence.specs.declared.ratio.Scale.the-variants as scales
 use Rattle.recurrence.specs.declared.step.Advanced.the-variants as steps
-use Rattle.recurrence.proofs.Turns.{renewed}
-use Rattle.recurrence.proofs.Together.{with-refused, with-made}
+use Rattle.recurrence.proofs.Together.{renewed, with-refused, with-made}
 use Rattle.position.specs.Residual.{meetsOf}
 use Rattle.position_iteration.specs.Method.{stepsBy}
 use Rattle.position_iteration.specs.Standing.{TurnIs, stepsIn, diagonalStepsIn}

@@ -2,7 +2,7 @@
 pub mod Tested
 pub mod Sums
 pub mod Ways
+pub mod Together
 pub mod Turns
 pub mod OnePass
 pub mod Residual
-pub mod Together

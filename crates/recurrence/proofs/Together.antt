@@ -1,4 +1,4 @@
--- The parts of a step come to `advanceOf`, once the residual is tested; and what a step with z and s tells of its parts. Assumes nothing.
+-- The parts of a step come to `advanceOf`, once the residual is tested, and to `renewFrom`; and what a step with z and s tells of its parts. Assumes nothing.
 use Prim.Native.Nat.{ℕ}
 use mathlib.Core.Path.{_≡_, refl, sym, ap, _∙_}
 use mathlib.Core.Bool.{Bool, true, false, _&&_}
@@ -13,8 +13,8 @@ use Rattle.mass_operator.specs.Flat.{coefficients, productOf}
 use Rattle.mass_operator.specs.Applied.{allFiniteOf}
 use Rattle.preconditioner.specs.Apply.{diagonalSolveOf}
 use Rattle.recurrence.specs.Vectors.{dotProductOf, plusScaled, lessScaled}
-use Rattle.recurrence.specs.Step.{Iterate, Carried, alphaOf, updatedOf, advanceOf}
-use Rattle.recurrence.specs.Parts.{lengthOf, movedOf, steppedOf, withDiagonal}
+use Rattle.recurrence.specs.Step.{Iterate, Carried, alphaOf, updatedOf, advanceOf, renewFrom}
+use Rattle.recurrence.specs.Parts.{lengthOf, movedOf, steppedOf, withDiagonal, nextFrom}
 
 -- the residual: 16
 abbrev residualFit : Iterate → Run Iterate ℕ
@@ -55,6 +55,11 @@ module _ (s : System) (v : Iterate) (c : Carried) where
     pub stepped-overflow : allFiniteOf (w .residual) ≡ false → advanceOf s v c ≡ ended 16
     unfolding test check
     stepped-overflow f = advance-is s v c ∙ on-going _ _ _ {s = w} h ∙ on-ended _ _ _ {a = 16} (rw f)
+
+-- ---- from z and its s on
+pub renewed : (residual z : List Float) (c : Carried) (s : Float) {o : Run Carried ℕ} → s ≡ dotProductOf residual z → nextFrom z c s ≡ o → renewFrom (going z) residual c ≡ o
+unfolding renewFrom nextFrom
+renewed residual z c s es h = on-going _ _ _ refl ∙ rw (← es) h
 
 -- ---- of a step with z and s
 pub with-refused : (r : Run Iterate ℕ) (diagonal : List Float) (n : ℕ) → next r (withDiagonal diagonal) ≡ ended n → r ≡ ended n

@@ -25,6 +25,7 @@ use Rattle.recurrence.specs.Parts.{lengthOf, movedOf, steppedOf, withDia
 use Rattle.recurrence.specs.Answers.{scaleOut, carriedOut, standing, ProductLeft, AdvanceLeft, DiagonalLeft, CarriedLeft}
 use Rattle.recurrence.specs.declared.ratio.Scale.{Scale}
 use Rattle.recurrence.specs.declared.ratio.Scale.the-variants as scales
+use Rattle.recurrence.proofs.Together.{renewed}
 use Rattle.loops.proofs.Judge.{test-pass, test-fail}
 use Rattle.loops.proofs.Tabulate.{length-tabulate}
 
@@ -121,10 +122,6 @@ module _ (z d₀ : List Float) (old s : Float) (q : Scale) (eq : productFit s �
   next-on new t h = on-going _ _ _ (eq ∙ rw t) ∙ h
 
 -- ---- `first`, `renew`: z, or 16
-pub renewed : (residual z : List Float) (c : Carried) (s : Float) {o : Run Carried ℕ} → s ≡ dotProductOf residual z → nextFrom z c s ≡ o → renewFrom (going z) residual c ≡ o
-unfolding renewFrom nextFrom
-renewed residual z c s es h = on-going _ _ _ refl ∙ rw (← es) h
-
 module _ (run : Run (List Float) (List Float)) (residual : List Float) (z : List Float) (a : Solved) (e : orSixteen run ≡ solvedOut a z) where
   z-done : a ≡ solves.Done → orSixteen run ≡ going z
   z-done t = e ∙ rw t

@@ -1,5 +1,5 @@
 // A step of mode 0. Its z is the residual by the diagonal, so solution, residual, z and s = residual · z are made in one pass over the rows. z takes the place of the product.
-// Of these the solution alone is tested: where a residual or a z is not finite, neither is s (proofs/Residual.antt).
+// Of these the solution alone is tested: where a residual is not finite, neither is s (proofs/Residual.antt).
 ghost use mathlib.Core.Path.{_≡_};
 ghost use Prim.Native.Nat.{_+_, _*_, _<_, _≤_};
 ghost use lib.ListN.{length};
