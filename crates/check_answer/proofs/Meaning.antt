@@ -21,7 +21,7 @@ use Rattle.loops.proofs.Ranges.{among-judge, listed-after}
 use Rattle.loops.proofs.Ranges as Ranges
 use Rattle.kapitsa_math.specs.Vector.{absOf}
 use Rattle.kapitsa_math.specs.declared.vector.Vec3.{Vec3}
-use Rattle.rounding.proofs.Larger.{Number}
+use Rattle.rounding.proofs.Larger.{Number, at-most-itself}
 use Rattle.kapitsa_joint.specs.Row.{jacobianOf}
 use Rattle.kapitsa_joint.specs.Maxima.{maximumOf}
 use Rattle.kapitsa_joint.proofs.Above.{bounds-of}
@@ -159,6 +159,10 @@ module _ (c : Closing) (held : Held c) (few : c .table .rows ≤ 512) (seven : p
   unfolding largestReaches
   bounded-row i h = let b = bounds-of (rowDimension t) (reach c) (t .rows) reach-number in row-within i h (maximumOf (rowDimension t i) (largestReaches c)) (b .number (rowDimension t i)) (b .above i h)
 
+  -- and at most its own
+  measured-row : (i : ℕ) → i < t .rows → pos (gap c i) ≤ℤ scaled (reach c i)
+  measured-row i h = let n = reach-number i h in row-within i h (reach c i) n (at-most-itself binary64 n)
+
   closed-row : (i : ℕ) → i < t .rows → within c i ≡ true → T (finite (c .tolerance i)) → pos (gap c i) ≤ℤ scaled (c .tolerance i)
   closed-row i h e f = row-within i h (c .tolerance i) (record { held = held .tolerance i; isFinite = f }) e
 
@@ -198,7 +202,11 @@ module _ (c : Closing) where
       go true e = let k = rw e at h in let z : _≡_ {A = ℕ} 0 1 = cc in omega arith
       go false e = let k = rw e at h in let z : _≡_ {A = ℕ} 0 1 = cc in omega arith
 
-  closed-closes : numberOf (verdictOf c) ≡ 1 → closes c ≡ true
+  pub closes-closed : closes c ≡ true → numberOf (verdictOf c) ≡ 1
+  unfolding verdictOf check
+  closes-closed h = rw h
+
+  pub closed-closes : numberOf (verdictOf c) ≡ 1 → closes c ≡ true
   unfolding verdictOf check
   closed-closes h = go (closes c) refl
     where
@@ -214,7 +222,7 @@ module _ (c : Closing) where
       go true e = let k : _≡_ {A = ℕ} 1 0 = rw e at h in absurd (omega arith)
       go false e = e
 
-  verdict-gap : gapOf (verdictOf c) ≡ largestReaches c
+  pub verdict-gap : gapOf (verdictOf c) ≡ largestReaches c
   unfolding verdictOf check
   verdict-gap = go (closes c)
     where
@@ -280,6 +288,10 @@ module _ (fits : Bool) (c : Closing) where
         let p = passes-of h in
         let shown : gapOf (checkOf fits c) ≡ largestReaches c = ap gapOf (verdict-of p) ∙ verdict-gap c in
         rw shown (bounded-row c held (few-of p) (seven-of p) (eighteen-of p) i l)
+
+    -- whatever the tolerances
+    pub measured-of : Verdict → (i : ℕ) → i < c .table .rows → pos (gap c i) ≤ℤ scaled (reach c i)
+    measured-of h = let p = passes-of h in measured-row c held (few-of p) (seven-of p) (eighteen-of p)
 
     -- the number of a verdict is no refusal's
     verdict-by : (k : ℕ) → k < 2 → numberOf (checkOf fits c) ≡ k → Verdict
