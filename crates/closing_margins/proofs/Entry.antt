@@ -1,34 +1,30 @@
--- The check that lists its margins: turned back by refusal 3, or judged and, where it closes, its list made of the check's reaches. Assumes nothing.
-use Prim.Native.Nat.{ℕ, _*_, _≤_}
-use mathlib.Core.Path.{_≡_, refl, sym, subst, _∙_}
-use mathlib.Core.Bool.{Bool, true, false, not, _&&_}
+-- The check that lists its margins: turned back by refusal 3, or checked with each row's number and, where it closes, its list made of these. Assumes nothing.
+use Prim.Native.Nat.{ℕ, _*_, _<_, _≤_}
+use mathlib.Core.Path.{_≡_, refl, sym, ap, _∙_}
+use mathlib.Core.Bool.{Bool, true, false, not, _&&_, false≢true}
 use mathlib.Core.List.{List}
 use native.Mathlib.Omega.{arith}
-use lib.Dec.{T, eqb}
-use lib.ListN.{getD}
-use lib.Ieee.{Float, nan, binary64, fits}
-use borrow.Author.Tests.{eqb-true}
+use lib.Dec.{leb, eqb}
+use lib.ListN.{length, getD}
+use lib.Ieee.{Float, nan}
+use borrow.Author.Tests.{eqb-true, eq-eqb, leb-true, not-false}
+use Rattle.loops.specs.Judge.{AllPass}
 use Rattle.loops.proofs.Both.{both}
-use Rattle.kapitsa_joint.specs.Table.{tableOf}
+use Rattle.loops.proofs.Tabulate.{getD-tabulate}
 use Rattle.kapitsa_joint.specs.declared.kind.Kind.{Kind}
 use Rattle.kapitsa_joint.specs.declared.maxima.Maxima.{Maxima}
-use Rattle.mass_operator.specs.Flat.{coefficients}
 use Rattle.rules.specs.Rules.{Rules}
-use Rattle.rules.specs.Rows.{rulesIn}
-use Rattle.check_range.specs.Closing.{Closing, closingFor}
+use Rattle.check_range.specs.Closing.{Closing}
+use Rattle.check_measure.specs.Verdict.{reach}
 use Rattle.check_refusals.specs.Refusals.{givenFits, workFits, passes3}
 use Rattle.check_refusals.specs.declared.fit.TableLengths.{TableLengths}
 use Rattle.check_refusals.specs.declared.fit.WorkLengths.{WorkLengths}
-use Rattle.check_refusals.proofs.Fitting.{given-of, work-of}
-use Rattle.check_answer.specs.Answer.{checkOf}
+use Rattle.check_refusals.proofs.Fitting.{given-of}
 use Rattle.check_answer.specs.declared.CheckAnswer.{CheckAnswer}
 use Rattle.check_answer.specs.declared.CheckAnswer.the-variants.{Closed, Open, Refused}
-use Rattle.check_answer.proofs.Meaning.{means-of}
 use Rattle.check_work.specs.Work.{CheckMemory}
-use Rattle.closing_check.specs.Beside.{placedIn, closingIn}
-use Rattle.closing_check.specs.Checked.{Checked, Reached}
-use Rattle.closing_check.proofs.Held.{held-of}
-use Rattle.closing_check.proofs.Entry.{passed-3}
+use Rattle.closing_check.specs.Beside.{closingIn}
+use Rattle.closing_gaps.specs.Gaps.{gapsLent, gapsBy, GapsHeld}
 use Rattle.closing_margins.specs.Margins.{AllSized, Margins, MarginsOf, dimensionAt, numberAt}
 use Rattle.closing_margins.specs.Held.{marginsLent, MarginsTold, MarginsHeld, ClosedSized, ClosedListed}
 use Rattle.closing_margins.proofs.Alone.{margin}
@@ -43,27 +39,30 @@ closed-not-refused {answer} {g} e n h = let z : Closed g ≡ Refused n = sym e �
 closed-not-open : {answer : CheckAnswer} {g h : Maxima} → answer ≡ Closed g → answer ≡ Open h → ⊥
 closed-not-open {answer} {g} {h} e f = let z : Closed g ≡ Open h = sym e ∙ f in let y : _≡_ {A = ℕ} 0 1 = cc in omega arith
 
--- ---- refusal 3, of the list's slices and of all else
-pub fits-both : {a b p q : Bool} → a ≡ p → b ≡ q → (a && b) ≡ (p && q)
-fits-both e f = rw (e, f)
+-- ---- refusal 3, of the list's slices and of the count of rows
+pub lists-passed : (n rows margins : ℕ) {x : Bool} → x ≡ marginsLent n rows margins → not (x && leb n 512) ≡ false → (n ≤ 512) × (marginsLent n rows margins ≡ true)
+lists-passed n rows margins {x} e h = let (a, b) = both x (leb n 512) (not-false (x && leb n 512) h) in (leb-true n 512 b, sym e ∙ a)
 
-pub others-passed : {l p x y : Bool} → x ≡ l → y ≡ p → not (x && y) ≡ false → p ≡ true
-others-passed {l} {p} e f h = both l p (passed-3 (fits-both e f) h) .1
-
-pub lists-passed : (n rows margins : ℕ) {p x y : Bool} → x ≡ marginsLent n rows margins → y ≡ p → not (x && y) ≡ false → (rows ≡ n) × (margins ≡ n)
+pub places-are : (n rows margins : ℕ) → marginsLent n rows margins ≡ true → (rows ≡ n) × (margins ≡ n)
 unfolding marginsLent
-lists-passed n rows margins {p} e f h =
-    let (a, b) = both (eqb rows n) (eqb margins n) (both (eqb rows n && eqb margins n) p (passed-3 (fits-both e f) h) .0) in
-    (eqb-true rows n a, eqb-true margins n b)
+places-are n rows margins h = let (a, b) = both (eqb rows n) (eqb margins n) h in (eqb-true rows n a, eqb-true margins n b)
 
-module _ (kind : Kind) (n b : ℕ) (t : TableLengths) (w : WorkLengths) (h : passes3 kind n b t w ≡ true) where
-  pub words-3 : 8 * n ≤ t .words
-  unfolding passes3
-  words-3 = omega (arith, given-of kind n b t (both (givenFits kind n b t) (workFits n b w) h .0) .words)
+module _ (kind : Kind) (n b : ℕ) (t : TableLengths) (w : WorkLengths) where
+  many-3 : leb n 512 ≡ false → passes3 kind n b t w ≡ false
+  unfolding passes3 givenFits
+  many-3 e = rw e
 
-  pub values-3 : w .values ≡ n
+  pub turned-3 : {lists x : Bool} → x ≡ lists → not (x && leb n 512) ≡ true → false ≡ (lists && passes3 kind n b t w)
+  turned-3 {lists} e h = go lists (leb n 512) refl (rw e at h)
+    where
+      go : (l few : Bool) → leb n 512 ≡ few → not (l && few) ≡ true → false ≡ (l && passes3 kind n b t w)
+      go false few q h = refl
+      go true false q h = sym (many-3 q)
+      go true true q h = absurd (false≢true h)
+
+  words-3 : passes3 kind n b t w ≡ true → 8 * n ≤ t .words
   unfolding passes3
-  values-3 = work-of n b w (both (givenFits kind n b t) (workFits n b w) h .1) .values
+  words-3 h = omega (arith, given-of kind n b t (both (givenFits kind n b t) (workFits n b w) h .0) .words)
 
 pub told-3 : (pass : Bool) (c : Closing) (n : ℕ) (rows : List ℕ) (margins : List Float) → MarginsTold pass c (Refused n) rows margins rows margins
 told-3 pass c n rows margins = record {
@@ -74,8 +73,11 @@ told-3 pass c n rows margins = record {
 }
 
 -- ---- the ways of `list_closed`
-pub sized-closed : {answer : CheckAnswer} {number : ℕ → Float} {n : ℕ} {g : Maxima} → ClosedSized answer number n → answer ≡ Closed g → AllSized number n
+pub sized-closed : {answer : CheckAnswer} {number : ℕ → Float} {n words : ℕ} {g : Maxima} → ClosedSized answer number n words → answer ≡ Closed g → AllSized number n
 sized-closed {g = g} h e = h .sized g e
+
+pub words-closed : {answer : CheckAnswer} {number : ℕ → Float} {n words : ℕ} {g : Maxima} → ClosedSized answer number n words → answer ≡ Closed g → 8 * n ≤ words
+words-closed {g = g} h e = h .long g e
 
 module _ {answer : CheckAnswer} {dimension : ℕ → ℕ} {number : ℕ → Float} {n : ℕ} where
   pub listed-closed : {g : Maxima} {rows rowsAfter : List ℕ} {margins marginsAfter : List Float} → answer ≡ Closed g → Margins dimension number n rowsAfter marginsAfter → ClosedListed answer dimension number n rows margins rowsAfter marginsAfter
@@ -87,37 +89,43 @@ module _ {answer : CheckAnswer} {dimension : ℕ → ℕ} {number : ℕ → Floa
   pub listed-refused : {k : ℕ} {rows : List ℕ} {margins : List Float} → answer ≡ Refused k → ClosedListed answer dimension number n rows margins rows margins
   listed-refused {k} e = record { listed = λ g h. absurd (closed-not-refused h k e); kept = λ _. (refl, refl) }
 
--- ---- a check that was judged: `found` is what the code found of the centres, `values` has the reaches
-module _ (kind : Kind) (rows bodies : ℕ) (numbers : List Float) (words : List ℕ) (masses beside multipliers : List Float) (ruleWords : List ℕ) (ruleTolerances : List Float) where
-  abbrev s : Rules
-  s = rulesIn ruleWords ruleTolerances
+-- ---- a check that has given each row's number: `numbers` of the rows, `gapsAfter` their measured ones
+module _ {fits : Bool} {s : Rules} (c : Closing) {answer : CheckAnswer} {named namedAfter : List ℕ} {before after : CheckMemory} {gaps gapsAfter : List Float} (h : GapsHeld fits s c answer named namedAfter before after gaps gapsAfter) where
+  closed-numbers : {g : Maxima} → answer ≡ Closed g → (i : ℕ) → i < c .table .rows → numberAt gapsAfter i ≡ reach c i
+  closed-numbers e i l = rw (h .told .given ∙ ap (λ (a : CheckAnswer). gapsBy a c gaps) e) (getD-tabulate (reach c) (c .table .rows) i nan l)
 
-  abbrev by : Bool → Closing
-  by found = closingFor kind (tableOf rows bodies numbers words masses) (coefficients multipliers) s (coefficients beside) found
+  passed : {g : Maxima} → answer ≡ Closed g → fits ≡ true
+  unfolding AllPass
+  passed e = h .checked .means .verdict .0 (closed-not-refused e) .0
 
+pub sized-on : (kind : Kind) (n b : ℕ) (t : TableLengths) (w : WorkLengths) (room : Bool) {s : Rules} (c : Closing) {answer : CheckAnswer} {named namedAfter : List ℕ} {before after : CheckMemory} {gaps gapsAfter : List Float} → c .table .rows ≡ n
+    → GapsHeld (room && passes3 kind n b t w) s c answer named namedAfter before after gaps gapsAfter → ClosedSized answer (numberAt gapsAfter) n (t .words)
+sized-on kind n b t w room c e h = record {
+  sized = λ _ q. rw e at (sized-same (closed-numbers c h q) (all-sized (h .checked .means) (closed-not-refused q)));
+  long = λ _ q. words-3 kind n b t w (both room (passes3 kind n b t w) (passed c h q) .1);
+}
+
+-- a place a row in every slice
+pub same-fits : {n gaps : ℕ} {lists : Bool} (p : Bool) → gaps ≡ n → lists ≡ true → (gapsLent n gaps && p) ≡ (lists && p)
+unfolding gapsLent
+same-fits p e f = rw (eq-eqb _ _ e, f)
+
+module _ (kind : Kind) (rows bodies : ℕ) (numbers : List Float) (words : List ℕ) (masses beside multipliers : List Float) (s : Rules) where
   abbrev c : Closing
   c = closingIn kind rows bodies numbers words masses beside multipliers s
 
-  module _ {found : Bool} (q : found ≡ placedIn kind bodies beside) {answer : CheckAnswer} {values : List Float} (r : Reached answer (by found) values) where
-    reached : Reached answer c values
-    reached = subst (λ (b : Bool). Reached answer (by b) values) q r
-
-    pub sized-on : ((k : ℕ) → T (fits binary64 (getD numbers k nan))) → ((k : ℕ) → T (fits binary64 (getD masses k nan))) → ((k : ℕ) → T (fits binary64 (getD beside k nan))) → ((k : ℕ) → T (fits binary64 (getD multipliers k nan)))
-        → ((k : ℕ) → T (fits binary64 (getD ruleTolerances k nan))) → rows ≤ 512 → answer ≡ checkOf true (by found) → ClosedSized answer (numberAt values) rows
-    sized-on n m g x t few a =
-        let held = held-of kind rows bodies numbers words masses beside multipliers ruleWords ruleTolerances found n m g x t in
-        record { sized = λ _ e. sized-same (r .reached (closed-not-refused e)) (all-sized (means-of true (by found) held (λ _. few) a) (closed-not-refused e)) }
-
-    pub held-on : {pass : Bool} {named namedAfter : List ℕ} {before after : CheckMemory} {marginRows marginRowsAfter : List ℕ} {margins marginsAfter : List Float} → Checked pass s c answer named namedAfter before after
-        → ClosedListed answer (dimensionAt words) (numberAt values) rows marginRows margins marginRowsAfter marginsAfter → MarginsHeld pass s c answer named namedAfter before after marginRows margins marginRowsAfter marginsAfter
-    held-on {pass} h l =
-        let listed : (g : Maxima) → answer ≡ Closed g → MarginsOf c _ _ = λ g e. margins-same (λ i p. words-dimension rows bodies numbers words masses i) (reached .reached (closed-not-refused e)) (l .listed g e) in
-        record {
-          checked = h;
-          told = record {
-            answered = λ g e. margins-are c (listed g e) (all-sized (h .means) (closed-not-refused e));
-            listed = listed;
-            margin = λ g e i p. margin pass c i p (sym (h .answered) ∙ e);
-            kept = l .kept;
-          };
-        }
+  pub held-on : {fits pass : Bool} → fits ≡ pass → {answer : CheckAnswer} {named namedAfter : List ℕ} {before after : CheckMemory} {gaps gapsAfter : List Float} {marginRows marginRowsAfter : List ℕ} {margins marginsAfter : List Float}
+      → GapsHeld fits s c answer named namedAfter before after gaps gapsAfter → ClosedListed answer (dimensionAt words) (numberAt gapsAfter) rows marginRows margins marginRowsAfter marginsAfter
+      → MarginsHeld pass s c answer named namedAfter before after marginRows margins marginRowsAfter marginsAfter
+  held-on {pass = pass} q {answer} h l =
+      let checked = rw q at (h .checked) in
+      let listed : (g : Maxima) → answer ≡ Closed g → MarginsOf c _ _ = λ g e. margins-same (λ i p. words-dimension rows bodies numbers words masses i) (closed-numbers c h e) (l .listed g e) in
+      record {
+        checked = checked;
+        told = record {
+          answered = λ g e. margins-are c (listed g e) (all-sized (checked .means) (closed-not-refused e));
+          listed = listed;
+          margin = λ g e i p. margin pass c i p (sym (checked .answered) ∙ e);
+          kept = l .kept;
+        };
+      }

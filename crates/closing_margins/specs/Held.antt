@@ -1,5 +1,5 @@
 -- What is promised of a check that lists its margins: the check's own promise and, where it closes, the list with what its numbers mean. Document 02, m: "Where the check refuses or says open there is no list, and the memory lent for it stays as it was."
-use Prim.Native.Nat.{ℕ, _<_}
+use Prim.Native.Nat.{ℕ, _*_, _<_, _≤_}
 use mathlib.Core.Path.{_≡_}
 use mathlib.Core.Bool.{Bool, _&&_}
 use mathlib.Core.List.{List}
@@ -38,8 +38,9 @@ pub record MarginsAlone (fits : Bool) (s : Rules) (c : Closing) (answer : CheckA
   pub told : MarginsTold fits c answer rows margins rowsAfter marginsAfter
 
 -- ---- over lent words and reaches, with the answer that these gave
-pub record ClosedSized (answer : CheckAnswer) (number : ℕ → Float) (n : ℕ) : Type 0 where
+pub record ClosedSized (answer : CheckAnswer) (number : ℕ → Float) (n words : ℕ) : Type 0 where
   pub sized : (g : Maxima) → answer ≡ Closed g → AllSized number n
+  pub long : (g : Maxima) → answer ≡ Closed g → 8 * n ≤ words
 
 pub record ClosedListed (answer : CheckAnswer) (dimension : ℕ → ℕ) (number : ℕ → Float) (n : ℕ) (rows : List ℕ) (margins : List Float) (rowsAfter : List ℕ) (marginsAfter : List Float) : Type 0 where
   pub listed : (g : Maxima) → answer ≡ Closed g → Margins dimension number n rowsAfter marginsAfter

@@ -1,6 +1,6 @@
 // The list of a check, and whether there is room for it.
 ghost use mathlib.Core.Path.{_≡_};
-ghost use Prim.Native.Nat.{_*_, _≤_};
+ghost use Prim.Native.Nat.{_≤_};
 ghost use lib.ListN.{length};
 ghost use Rattle.closing_margins.specs.Margins.{dimensionAt, numberAt};
 ghost use Rattle.closing_margins.specs.Held.{marginsLent, ClosedSized, ClosedListed};
@@ -24,8 +24,8 @@ pub fn list_closed(
     margin_rows: &mut [u32],
     margins: &mut [f64],
 )
-    requires { ⌜ (rows ≤ 512) × (8 * rows ≤ length (now words)) × (rows ≤ length (now reaches)) × (length (now «margin_rows») ≡ rows) × (length (now margins) ≡ rows) ⌝ }
-    requires { ⌜ ClosedSized answer (numberAt (now reaches)) rows ⌝ }
+    requires { ⌜ (rows ≤ 512) × (rows ≤ length (now reaches)) × (length (now «margin_rows») ≡ rows) × (length (now margins) ≡ rows) ⌝ }
+    requires { ⌜ ClosedSized answer (numberAt (now reaches)) rows (length (now words)) ⌝ }
     ensures { λ _. ⌜ ClosedListed answer (dimensionAt (now (words .entry))) (numberAt (now (reaches .entry))) rows (now («margin_rows» .entry)) (now (margins .entry)) (now («margin_rows» .exit)) (now (margins .exit)) ⌝ }
 {
     match answer {

@@ -1,4 +1,4 @@
--- How long a listing is: `listing-short`, at most 16,384 bytes at 128 rows and 64 bodies, `margins-short`, as many at 128 rows, and `refused-short`; hence `listing-room`, `margins-room` and `refused-room`. Assumes nothing.
+-- How long a listing is: `listing-short`, at most 16,384 bytes at 128 rows and 64 bodies, `margins-short`, as many at 128 rows, `gaps-short`, as many at 128 rows, and `refused-short`, also with the place; hence `listing-room`, `margins-room`, `gaps-room` and `refused-room`. Assumes nothing.
 use Prim.Native.Nat.{ℕ, zero, suc, _+_, _-_, _*_, _/_, _%_, _^_, _<_, _≤_}
 use mathlib.Core.Path.{_≡_, refl}
 use mathlib.Core.Bool.{Bool, true, false, cond}
@@ -7,13 +7,13 @@ use native.Mathlib.Nat.{pow-succ'}
 use native.Mathlib.Omega.{arith}
 use lib.Dec.{leb, ltb, eqb}
 use lib.ListN.{length, getD, length-append}
-use lib.Ieee.{Float, nan}
+use lib.Ieee.{Float, nan, le}
 use borrow.Author.Tests.{ltb-true, ltb-false, eqb-true}
 use Rattle.kapitsa_joint.specs.declared.maxima.Maxima.{Maxima}
 use Rattle.listing.specs.Written.{Room, pieces}
 use Rattle.listing.specs.Digits.{decimalDigit, decimal, hexadecimal, number, double, doubles}
-use Rattle.listing.specs.Lines.{newline, solveName, gapName, noneName, carriedName, closeName, rowName, bodyName, marginName, solveLine, maximaWords, gapLine, noGapLine, carriedLine, closeLine, rowLine, centreCount, bodyLine, marginLine}
-use Rattle.listing.specs.Listing.{flagOf, measuredLine, headLines, rowLines, bodyLines, listingOf, marginLines, marginListing, refusedListing}
+use Rattle.listing.specs.Lines.{newline, solveName, gapName, noneName, carriedName, closeName, rowName, bodyName, marginName, solveLine, maximaWords, gapLine, noGapLine, carriedLine, closeLine, rowLine, centreCount, bodyLine, marginLine, measuredName, rowGapLine, refusedName, limitName, refusedRowLine, refusedBodyLine, refusedLimitLine}
+use Rattle.listing.specs.Listing.{flagOf, measuredLine, headLines, rowLines, bodyLines, listingOf, marginLines, marginListing, rowGap, gapLines, gapListing, refusedListing}
 use Rattle.listing.proofs.Decimal.{decimal-small, decimal-more}
 use Rattle.listing.proofs.Names.{centre-most}
 
@@ -66,6 +66,21 @@ margin-short i x h =
     let d = length-append marginName (number i) in
     let e = length-append (marginName ++ number i ++ double x) newline in
     omega arith
+
+row-gap-short : (i owner : ℕ) (x tolerance : Float) (within : ℕ) → i < 4294967296 → owner < 4294967296 → within < 4294967296 → length (rowGapLine i owner x tolerance within) ≤ 76
+unfolding rowGapLine measuredName
+row-gap-short i owner x tolerance within h g k =
+    let a = number-short i h in
+    let b = number-short owner g in
+    let c = number-short within k in
+    let d = double-long x in
+    let e = double-long tolerance in
+    let p = measuredName ++ number i in
+    let q = p ++ number owner in
+    let r = q ++ double x in
+    let s = r ++ double tolerance in
+    let t = s ++ number within in
+    omega (arith, length-append measuredName (number i), length-append p (number owner), length-append q (double x), length-append r (double tolerance), length-append s (number within), length-append t newline)
 
 body-short : (b : ℕ) (impulses : List Float) (spare : ℕ) (centres : List Float) → b < 4294967296 → length (bodyLine b impulses spare centres) ≤ 169
 unfolding bodyLine bodyName
@@ -174,6 +189,52 @@ margins-short count flag x y v rows marginRows margins h g r b = go (eqb v 1) (e
         omega (arith, length-append s t)
     go false e = let ls : length s ≤ 136 = head-short count flag x y v h g in omega (arith, length-append s [])
 
+-- where the numbers are printed, each row's owner is a number of 32 bits
+pub gaps-short : (count : ℕ) (flag : Bool) (gap carried : Maxima) (verdict rows : ℕ) (words : List ℕ) (gaps : List Float) (ruleNumbers : List ℕ) (tolerances : List Float) → count < 4294967296 → verdict < 4294967296 → rows ≤ 128
+    → ((k : ℕ) → getD words k 0 < 4294967296) → length (gapListing count flag gap carried verdict rows words gaps ruleNumbers tolerances) ≤ 16384
+unfolding gapListing gapLines
+gaps-short count flag x y v rows words gaps ruleNumbers tolerances h g r b = go (leb v 1)
+  where
+    s : List ℕ
+    s = headLines count flag x y v
+
+    flag-small : (b : Bool) → flagOf b < 4294967296
+    flag-small true = omega arith
+    flag-small false = omega arith
+
+    go : (d : Bool) → length (s ++ cond d (gapLines words gaps ruleNumbers tolerances rows) []) ≤ 16384
+    go true =
+        let t = gapLines words gaps ruleNumbers tolerances rows in
+        let ls : length s ≤ 136 = head-short count flag x y v h g in
+        let lt : length t ≤ rows * 76 = pieces-short (rowGap words gaps ruleNumbers tolerances) 76 rows (λ k l. let n = getD gaps k nan in let limit = getD tolerances (getD ruleNumbers k 0) nan in row-gap-short k (getD words (8 * k + 6) 0) n limit (flagOf (le n limit)) (omega arith) (b (8 * k + 6)) (flag-small (le n limit))) in
+        omega (arith, length-append s t)
+    go false = let ls : length s ≤ 136 = head-short count flag x y v h g in omega (arith, length-append s [])
+
+-- a refusal and its place
+pub refused-row-short : (refusal i owner : ℕ) → refusal < 4294967296 → i < 4294967296 → owner < 4294967296 → length (refusedListing refusal ++ refusedRowLine i owner) ≤ 73
+unfolding refusedRowLine refusedName rowName
+refused-row-short refusal i owner h g k =
+    let a = refused-short refusal h in
+    let b = number-short i g in
+    let c = number-short owner k in
+    let p = refusedName ++ (32 ∷ rowName) in
+    let q = p ++ number i in
+    let r = q ++ number owner in
+    omega (arith, length-append (refusedListing refusal) (refusedRowLine i owner), length-append refusedName (32 ∷ rowName), length-append p (number i), length-append q (number owner), length-append r newline)
+
+pub refused-body-short : (refusal b : ℕ) → refusal < 4294967296 → b < 4294967296 → length (refusedListing refusal ++ refusedBodyLine b) ≤ 63
+unfolding refusedBodyLine refusedName bodyName
+refused-body-short refusal b h g =
+    let a = refused-short refusal h in
+    let c = number-short b g in
+    let p = refusedName ++ (32 ∷ bodyName) in
+    let q = p ++ number b in
+    omega (arith, length-append (refusedListing refusal) (refusedBodyLine b), length-append refusedName (32 ∷ bodyName), length-append p (number b), length-append q newline)
+
+pub refused-limit-short : (refusal : ℕ) → refusal < 4294967296 → length (refusedListing refusal ++ refusedLimitLine) ≤ 53
+unfolding refusedLimitLine refusedName limitName
+refused-limit-short refusal h = let a = refused-short refusal h in omega (arith, length-append (refusedListing refusal) refusedLimitLine)
+
 -- ---- so there is room for it
 
 pub refused-room : (out : List ℕ) (refusal : ℕ) → refusal < 4294967296 → 39 ≤ length out → Room out 0 (refusedListing refusal)
@@ -186,3 +247,10 @@ listing-room out count flag x y v rows bodies numbers impulses spare centres h g
 pub margins-room : (out : List ℕ) (count : ℕ) (flag : Bool) (gap carried : Maxima) (verdict rows : ℕ) (marginRows : List ℕ) (margins : List Float)
     → count < 4294967296 → verdict < 4294967296 → rows ≤ 128 → (verdict ≡ 1 → (k : ℕ) → k < rows → getD marginRows k 0 < 4294967296) → 16384 ≤ length out → Room out 0 (marginListing count flag gap carried verdict rows marginRows margins)
 margins-room out count flag x y v rows marginRows margins h g r b l = let s = margins-short count flag x y v rows marginRows margins h g r b in record { fits = omega arith }
+
+pub gaps-room : (out : List ℕ) (count : ℕ) (flag : Bool) (gap carried : Maxima) (verdict rows : ℕ) (words : List ℕ) (gaps : List Float) (ruleNumbers : List ℕ) (tolerances : List Float)
+    → count < 4294967296 → verdict < 4294967296 → rows ≤ 128 → ((k : ℕ) → getD words k 0 < 4294967296) → 16384 ≤ length out → Room out 0 (gapListing count flag gap carried verdict rows words gaps ruleNumbers tolerances)
+gaps-room out count flag x y v rows words gaps ruleNumbers tolerances h g r b l = let s = gaps-short count flag x y v rows words gaps ruleNumbers tolerances h g r b in record { fits = omega arith }
+
+pub short-room : (out text : List ℕ) {n : ℕ} → length text ≤ n → n ≤ length out → Room out 0 text
+short-room out text h l = record { fits = omega arith }

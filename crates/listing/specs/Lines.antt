@@ -41,6 +41,18 @@ bodyName = 98 ∷ 111 ∷ 100 ∷ 121 ∷ []
 unfoldable pub marginName : List ℕ
 marginName = 109 ∷ 97 ∷ 114 ∷ 103 ∷ 105 ∷ 110 ∷ []
 
+-- "measured"
+unfoldable pub measuredName : List ℕ
+measuredName = 109 ∷ 101 ∷ 97 ∷ 115 ∷ 117 ∷ 114 ∷ 101 ∷ 100 ∷ []
+
+-- "refused"
+unfoldable pub refusedName : List ℕ
+refusedName = 114 ∷ 101 ∷ 102 ∷ 117 ∷ 115 ∷ 101 ∷ 100 ∷ []
+
+-- "limit"
+unfoldable pub limitName : List ℕ
+limitName = 108 ∷ 105 ∷ 109 ∷ 105 ∷ 116 ∷ []
+
 -- ---- the lines
 
 abbrev pub newline : List ℕ
@@ -84,3 +96,17 @@ bodyLine b impulses spare centres = bodyName ++ number b ++ doubles impulses (6 
 -- document 02, m: "List each row with the smallest tolerance at which it still closes": row and number
 unfoldable pub marginLine : ℕ → Float → List ℕ
 marginLine i x = marginName ++ number i ++ double x ++ newline
+
+-- a row's measured number: row, owner, number, tolerance, and 1 where the number is within the tolerance, 0 where it is beyond
+unfoldable pub rowGapLine : ℕ → ℕ → Float → Float → ℕ → List ℕ
+rowGapLine i owner x tolerance within = measuredName ++ number i ++ number owner ++ double x ++ double tolerance ++ number within ++ newline
+
+-- where a job was turned back: at a row, with its owner, at a body, or by the limit alone
+unfoldable pub refusedRowLine : ℕ → ℕ → List ℕ
+refusedRowLine i owner = refusedName ++ (32 ∷ rowName) ++ number i ++ number owner ++ newline
+
+unfoldable pub refusedBodyLine : ℕ → List ℕ
+refusedBodyLine b = refusedName ++ (32 ∷ bodyName) ++ number b ++ newline
+
+unfoldable pub refusedLimitLine : List ℕ
+refusedLimitLine = refusedName ++ (32 ∷ limitName) ++ newline

@@ -1,13 +1,13 @@
 -- Document 01, "Sheets to try": what "the job program ... prints": "refusal, count, flag; residuals; verdict; row and multiplier; body and six impulses", with the measured gap before the residuals (document 02, h) and the new centre after the impulses (d), and of a refused job "its first line only, zeros after the number".
-use Prim.Native.Nat.{ℕ, _+_, _*_}
+use Prim.Native.Nat.{ℕ, _+_, _*_, _<_, _≤_}
 use mathlib.Core.Bool.{Bool, cond}
 use mathlib.Core.List.{List, [], _++_}
 use lib.Dec.{leb, eqb}
 use lib.ListN.{getD}
-use lib.Ieee.{Float, nan}
+use lib.Ieee.{Float, nan, le}
 use Rattle.kapitsa_joint.specs.declared.maxima.Maxima.{Maxima}
 use Rattle.listing.specs.Written.{pieces}
-use Rattle.listing.specs.Lines.{solveLine, gapLine, noGapLine, carriedLine, closeLine, rowLine, bodyLine, marginLine}
+use Rattle.listing.specs.Lines.{solveLine, gapLine, noGapLine, carriedLine, closeLine, rowLine, bodyLine, marginLine, rowGapLine}
 
 -- a line for each row, with its accumulated multiplier, which is number 24 of its 27
 unfoldable pub rowLines : List Float → ℕ → List ℕ
@@ -41,6 +41,24 @@ marginLines marginRows margins n = pieces (λ k. marginLine (getD marginRows k 0
 -- of an accepted job, what the margins program prints: "Where the check refuses or says open there is no list"
 unfoldable pub marginListing : ℕ → Bool → Maxima → Maxima → ℕ → ℕ → List ℕ → List Float → List ℕ
 marginListing count flag gap carried verdict rows marginRows margins = headLines count flag gap carried verdict ++ cond (eqb verdict 1) (marginLines marginRows margins rows) []
+
+-- a line for each row, in row order: its owner, which is word 6 of its eight, its measured number, and the tolerance of its rule
+abbrev pub rowGap : List ℕ → List Float → List ℕ → List Float → ℕ → List ℕ
+rowGap words gaps ruleNumbers tolerances i =
+    let x = getD gaps i nan in
+    let tolerance = getD tolerances (getD ruleNumbers i 0) nan in
+    rowGapLine i (getD words (8 * i + 6) 0) x tolerance (flagOf (le x tolerance))
+
+unfoldable pub gapLines : List ℕ → List Float → List ℕ → List Float → ℕ → List ℕ
+gapLines words gaps ruleNumbers tolerances rows = pieces (rowGap words gaps ruleNumbers tolerances) rows
+
+-- of an accepted job, what the gaps program prints: where the check refuses there are no numbers
+unfoldable pub gapListing : ℕ → Bool → Maxima → Maxima → ℕ → ℕ → List ℕ → List Float → List ℕ → List Float → List ℕ
+gapListing count flag gap carried verdict rows words gaps ruleNumbers tolerances = headLines count flag gap carried verdict ++ cond (leb verdict 1) (gapLines words gaps ruleNumbers tolerances rows) []
+
+-- each of the first rows has the number of a rule
+pub record RulesBelow (ruleNumbers : List ℕ) (rows rules : ℕ) : Type 0 where
+  pub below : (i : ℕ) → i < rows → getD ruleNumbers i 0 < rules
 
 -- of a refused one
 unfoldable pub refusedListing : ℕ → List ℕ

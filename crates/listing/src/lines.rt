@@ -3,14 +3,15 @@ ghost use mathlib.Core.Path.{_≡_};
 ghost use Prim.Native.Nat.{_+_, _*_, _≤_};
 ghost use lib.ListN.{length};
 ghost use Rattle.listing.specs.Written.{Room, Wrote};
-ghost use Rattle.listing.specs.Lines.{solveLine, maximaWords, gapLine, noGapLine, carriedLine, closeLine, rowLine, centreCount, bodyLine, marginLine};
-ghost use Rattle.listing.specs.Listing.{measuredLine, rowLines, bodyLines, marginLines};
+ghost use Rattle.listing.specs.Lines.{solveLine, maximaWords, gapLine, noGapLine, carriedLine, closeLine, rowLine, centreCount, bodyLine, marginLine, rowGapLine, refusedRowLine, refusedBodyLine, refusedLimitLine};
+ghost use Rattle.listing.specs.Listing.{measuredLine, rowLines, bodyLines, marginLines, gapLines, RulesBelow};
 use crate::digits::put_double;
 use crate::digits::put_doubles;
 use crate::digits::put_number;
 use crate::text::put_byte;
 use crate::text::put_text;
 use kapitsa_joint::Maxima;
+use loops::wide;
 
 pub fn solve_line(out: &mut [u8], at: usize, refusal: u32, count: u32, flag: u32) -> usize
     requires { ⌜ Room (now out) at (solveLine refusal count flag) ⌝ }
@@ -177,4 +178,82 @@ pub fn margin_lines(
         k += 1;
     }
     next
+}
+
+pub fn row_gap_line(
+    out: &mut [u8],
+    at: usize,
+    i: u32,
+    owner: u32,
+    x: f64,
+    tolerance: f64,
+    within: u32,
+) -> usize
+    requires { ⌜ Room (now out) at (rowGapLine i owner x tolerance within) ⌝ }
+    ensures { λ r. ⌜ Wrote (now (out .entry)) at (rowGapLine i owner x tolerance within) (now (out .exit)) r ⌝ }
+{
+    let a = put_text(out, at, b"measured");
+    let b = put_number(out, a, i);
+    let c = put_number(out, b, owner);
+    let d = put_double(out, c, x);
+    let e = put_double(out, d, tolerance);
+    let f = put_number(out, e, within);
+    put_byte(out, f, b'\n')
+}
+
+pub fn gap_lines(
+    out: &mut [u8],
+    at: usize,
+    words: &[u32],
+    gaps: &[f64],
+    rule_numbers: &[u32],
+    tolerances: &[f64],
+    rows: u32,
+) -> usize
+    requires { ⌜ (8 * rows ≤ length (now words)) × (rows ≤ length (now gaps)) × (rows ≤ length (now «rule_numbers»)) × RulesBelow (now «rule_numbers») rows (length (now tolerances)) ⌝ }
+    requires { ⌜ Room (now out) at (gapLines (now words) (now gaps) (now «rule_numbers») (now tolerances) rows) ⌝ }
+    ensures { λ r. ⌜ Wrote (now (out .entry)) at (gapLines (now (words .entry)) (now (gaps .entry)) (now («rule_numbers» .entry)) (now (tolerances .entry)) rows) (now (out .exit)) r ⌝ }
+{
+    let mut next = at;
+    let mut i = 0;
+    while i < rows {
+        let place = i as usize;
+        let x = gaps[place];
+        let rule = wide(rule_numbers[place]);
+        let tolerance = tolerances[rule];
+        let within = (x <= tolerance) as u32;
+        next = row_gap_line(out, next, i, words[8 * place + 6], x, tolerance, within);
+        i += 1;
+    }
+    next
+}
+
+pub fn refused_row_line(out: &mut [u8], at: usize, i: u32, owner: u32) -> usize
+    requires { ⌜ Room (now out) at (refusedRowLine i owner) ⌝ }
+    ensures { λ r. ⌜ Wrote (now (out .entry)) at (refusedRowLine i owner) (now (out .exit)) r ⌝ }
+{
+    let a = put_text(out, at, b"refused");
+    let b = put_text(out, a, b" row");
+    let c = put_number(out, b, i);
+    let d = put_number(out, c, owner);
+    put_byte(out, d, b'\n')
+}
+
+pub fn refused_body_line(out: &mut [u8], at: usize, b: u32) -> usize
+    requires { ⌜ Room (now out) at (refusedBodyLine b) ⌝ }
+    ensures { λ r. ⌜ Wrote (now (out .entry)) at (refusedBodyLine b) (now (out .exit)) r ⌝ }
+{
+    let name = put_text(out, at, b"refused");
+    let body = put_text(out, name, b" body");
+    let number = put_number(out, body, b);
+    put_byte(out, number, b'\n')
+}
+
+pub fn refused_limit_line(out: &mut [u8], at: usize) -> usize
+    requires { ⌜ Room (now out) at refusedLimitLine ⌝ }
+    ensures { λ r. ⌜ Wrote (now (out .entry)) at refusedLimitLine (now (out .exit)) r ⌝ }
+{
+    let a = put_text(out, at, b"refused");
+    let b = put_text(out, a, b" limit");
+    put_byte(out, b, b'\n')
 }
