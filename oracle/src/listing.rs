@@ -1,7 +1,8 @@
-//! What the job program prints of a job file, and the program that lists its margins.
+//! What the job program prints of a job file, the program that lists its margins, and the one that
+//! lists its rows' gaps.
 
-use crate::job::{Answer, Job, Solved};
-use crate::model::{self, Checked, Judged};
+use crate::job::{Answer, Job, OWNER, Solved};
+use crate::model::{self, Checked, Judged, Measured};
 use crate::{generator, job_file};
 use std::fmt::Write;
 use std::path::Path;
@@ -18,6 +19,11 @@ pub fn of_read(job: &Job) -> String {
 /// The same lines up to the verdict and, where that is closed, the list.
 pub fn margins_of_file(file: &[u8]) -> String {
     sheet(file, |text, job, _, checked| margins(text, job, checked))
+}
+
+/// The same lines up to the verdict and, where there is one, each row's measured number.
+pub fn gaps_of_file(file: &[u8]) -> String {
+    sheet(file, |text, job, _, checked| gaps(text, job, checked))
 }
 
 /// What follows the verdict: of the job, its solve and its check.
@@ -81,6 +87,20 @@ fn margins(text: &mut String, job: &Job, checked: &Judged<Checked>) {
     let list = checked.as_ref().ok().and_then(|found| model::margins(job, found));
     for (row, number) in list.into_iter().flatten() {
         writeln!(text, "margin {row}{}", hexadecimal(&[number])).unwrap();
+    }
+}
+
+/// A line for each row: its owner, its number, its rule's tolerance, and whether it is within.
+fn gaps(text: &mut String, job: &Job, checked: &Judged<Checked>) {
+    let Ok(found) = checked else { return };
+    let tolerances = job.rules().tolerances;
+    let rows = found.measured.iter().map(Measured::reach).zip(&found.rules);
+    for (row, (number, rule)) in rows.enumerate() {
+        let tolerance = tolerances[*rule as usize];
+        let owner = job.word(row, OWNER);
+        let within = u32::from(number <= tolerance);
+        writeln!(text, "measured {row} {owner}{} {within}", hexadecimal(&[number, tolerance]))
+            .unwrap();
     }
 }
 

@@ -62,6 +62,8 @@ const USAGE: &str = "usage: oracle/run COMMAND
   program PROGRAM [FILES] [SEED]  the job program's own process on generated, damaged and random files
   margined FILE                   what the program that lists margins prints of a job file
   margins PROGRAM [FILES] [SEED]  that program's own process on such files
+  gapped FILE                     what the program that lists gaps prints of a job file
+  gaps PROGRAM [FILES] [SEED]     that program's own process on such files
   grouped FILE                    what the program that solves by groups prints of a job file
   mechanisms PROGRAM [FILES] [SEED]
                                   that program's own process on such files, several mechanisms on a bench
@@ -138,6 +140,12 @@ fn command(words: &[&str]) -> Result<bool, String> {
         ["margins", program, ..] => {
             program::margins(program, number(2, 1000)?, number(3, 1)?, &home())
         }
+        ["gapped", file] => {
+            let bytes = std::fs::read(file).map_err(|error| format!("{file}: {error}"))?;
+            print!("{}", listing::gaps_of_file(&bytes));
+            Ok(true)
+        }
+        ["gaps", program, ..] => program::gaps(program, number(2, 1000)?, number(3, 1)?, &home()),
         ["program", program, ..] => program::run(program, number(2, 1000)?, number(3, 1)?, &home()),
         ["files", folder, ..] => {
             file_jobs::write(folder, number(2, 1000)?, number(3, 1)?, number(4, 0)? as u32)

@@ -15,7 +15,7 @@ mod steps;
 mod table;
 
 pub use algebra::{Side, Vector, cross, scaled};
-pub use closing::{Checked, check_words, closing_check};
+pub use closing::{Checked, Measured, check_words, closing_check};
 pub use groups::{Bench, Groups, only, solve_groups};
 pub use margins::{Margin, margins};
 pub use rules::agreed;

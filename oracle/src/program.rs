@@ -1,4 +1,4 @@
-//! The job program itself, and the one that lists margins, as a process: generated, damaged and
+//! The job program itself, and those that list margins and gaps, as a process: generated, damaged and
 //! random files through its standard input, and what it prints held to what the model prints, whose
 //! solve, the line `carried` with it, is held to the Rust.
 
@@ -28,6 +28,11 @@ pub fn margins(program: &str, files: u64, seed: u64, home: &Path) -> Result<bool
     held(program, files, seed, home, (listing::margins_of_file, verdict))
 }
 
+/// The same of the program that lists gaps.
+pub fn gaps(program: &str, files: u64, seed: u64, home: &Path) -> Result<bool, String> {
+    held(program, files, seed, home, (listing::gaps_of_file, verdict))
+}
+
 /// `solve` and the refusal, as a sheet has it.
 fn refusal(sheet: &str) -> String {
     let number = sheet.split(' ').nth(1).unwrap_or_default();
@@ -36,7 +41,8 @@ fn refusal(sheet: &str) -> String {
 
 /// The same, and of an accepted job its line `close` and whether there is a list.
 fn verdict(sheet: &str) -> String {
-    let listed = if sheet.contains("\nmargin ") { " and a list" } else { "" };
+    let lines = ["\nmargin ", "\nmeasured "];
+    let listed = if lines.iter().any(|line| sheet.contains(line)) { " and a list" } else { "" };
     match sheet.lines().find(|line| line.starts_with("close ")) {
         Some(line) => format!("{}, `{line}`{listed}", refusal(sheet)),
         None => refusal(sheet),

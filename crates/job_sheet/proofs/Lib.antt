@@ -1,2 +1,3 @@
 -- The ways from a file to its sheet.
 pub mod Ways
+pub mod Measured

@@ -51,7 +51,7 @@ use Rattle.job_file.specs.declared.judge.FileJudged.the-variants.{Passed, Refus
 use Rattle.job_file.proofs.Judgement.{passed, rows-inside, masses-inside}
 use Rattle.job_file.proofs.Meaning.{passed-job, refused-job}
 use Rattle.listing.specs.Listing.{headLines, listingOf, marginLines, marginListing, refusedListing}
-use Rattle.job_sheet.specs.Sheet.{answerTo, checkIn, carriedBy, printedOf, marginsPrinted, shownOf, answerSheet, jobSheet, sheetOf}
+use Rattle.job_sheet.specs.Sheet.{answerTo, checkIn, carriedBy, printedOf, marginsPrinted, gapsPrinted, shownOf, answerSheet, jobSheet, sheetOf}
 use Rattle.job_sheet.specs.Room.{JobRoom, CheckRoom}
 use Rattle.job_sheet.specs.declared.which.Sheet.{Sheet}
 use Rattle.job_sheet.specs.declared.which.Sheet.the-variants as sheets
@@ -167,16 +167,16 @@ listing-same count flag gap carried number rows {a} {b} {x} {y} h = go (eqb numb
 -- ---- the check
 
 -- by the two rules
-abbrev closingAt : Trailer → List Float → List ℕ → List Float → List Float → List Float → Closing
+abbrev pub closingAt : Trailer → List Float → List ℕ → List Float → List Float → List Float → Closing
 closingAt t numbers words masses centres solution = closingOf (tableOf (t .rows) (t .bodies) numbers words masses) (coefficients solution) (twoRules (t .tolerance)) (centresFinite (centresIn (t .bodies) centres))
 
-abbrev fitsAt : Trailer → List Float → List ℕ → List Float → List Float → List Float → List ℕ → Bool
+abbrev pub fitsAt : Trailer → List Float → List ℕ → List Float → List Float → List Float → List ℕ → Bool
 fitsAt t numbers words masses centres solution ruleNumbers = let rules = twoRules (t .tolerance) in givenFits Position (t .rows) (t .bodies) (tableLengths numbers words masses centres solution (rules .words) (rules .tolerances) ruleNumbers)
 
 module _ (t : Trailer) (numbers : List Float) (words : List ℕ) (masses centres solution : List Float) (ruleNumbers : List ℕ)
     (room : CheckRoom t (length numbers) (length words) (length masses) (length centres) (length solution)) (l : length ruleNumbers ≡ t .rows) {answer : CheckAnswer} where
   module _ (e : answer ≡ checkOf (fitsAt t numbers words masses centres solution ruleNumbers) (closingAt t numbers words masses centres solution)) where
-    closing-is : answer ≡ checkIn (jobWith t numbers words masses centres) numbers solution
+    pub closing-is : answer ≡ checkIn (jobWith t numbers words masses centres) numbers solution
     unfolding checkIn
     closing-is = rw (e, check-fits room l)
 
@@ -239,9 +239,10 @@ module _ (sheet : Sheet) (j : Job) (solution impulses newCentres : List Float) w
 -- the job's own numbers do not matter to what is printed
 numbers-aside : (sheet : Sheet) (t : Trailer) (own other : List Float) (words : List ℕ) (masses centres : List Float) (r : PositionPcgResult) (numbers solution impulses newCentres : List Float)
     → shownOf sheet (jobWith t own words masses centres) r numbers solution impulses newCentres ≡ shownOf sheet (jobWith t other words masses centres) r numbers solution impulses newCentres
-unfolding shownOf printedOf marginsPrinted checkIn
+unfolding shownOf printedOf marginsPrinted gapsPrinted checkIn
 numbers-aside sheets.Job t own other words masses centres r numbers solution impulses newCentres = refl
 numbers-aside sheets.Margins t own other words masses centres r numbers solution impulses newCentres = refl
+numbers-aside sheets.Gaps t own other words masses centres r numbers solution impulses newCentres = refl
 
 -- 26, which the program judges
 module _ (sheet : Sheet) (t : Trailer) (numbers : List Float) (words : List ℕ) (masses centres : List Float) {fit : Bool} (p : fit ≡ passes26 (t .tolerance)) where
@@ -273,3 +274,7 @@ module _ (j : Job) (r : PositionPcgResult) (numbers solution impulses newCentres
   pub margins-shown : {sheet : Sheet} → sheet ≡ sheets.Margins → marginsPrinted j r numbers solution ≡ shownOf sheet j r numbers solution impulses newCentres
   unfolding shownOf
   margins-shown e = rw e
+
+  pub gaps-shown : {sheet : Sheet} → sheet ≡ sheets.Gaps → gapsPrinted j r numbers solution ≡ shownOf sheet j r numbers solution impulses newCentres
+  unfolding shownOf
+  gaps-shown e = rw e

@@ -1,10 +1,11 @@
--- What the programs print of a file: document 01, "Sheets to try": "the job program, reading standard input, prints", and document 02, m: the margins program.
+-- What the programs print of a file: document 01, "Sheets to try": "the job program, reading standard input, prints", document 02, m: the margins program, and the gaps program.
 use Prim.Native.Nat.{ℕ}
 use mathlib.Core.Bool.{true}
 use mathlib.Core.List.{List}
 use lib.Ieee.{Float}
 use Rattle.loops.specs.Run.{going, ended, on, next}
 use Rattle.loops.specs.Judge.{test}
+use Rattle.loops.specs.Tabulate.{tabulate}
 use Rattle.kapitsa_joint.specs.Table.{tableOf}
 use Rattle.kapitsa_joint.specs.Centre.{centresIn}
 use Rattle.joint_refusals.specs.Refusals.{centresFinite}
@@ -20,11 +21,12 @@ use Rattle.position_iteration.specs.Method.{methodOf}
 use Rattle.position_delivery.specs.Outcome.{Answer, resultOf, withMultipliers}
 use Rattle.position_delivery.specs.declared.answer.PositionPcgResult.{PositionPcgResult}
 use Rattle.check_range.specs.Closing.{Closing, closingOf}
+use Rattle.check_measure.specs.Verdict.{reach}
 use Rattle.check_answer.specs.Answer.{numberOf, gapOf, checkOf}
 use Rattle.check_answer.specs.declared.CheckAnswer.{CheckAnswer}
 use Rattle.closing_margins.specs.Ranked.{marginRows, marginNumbers}
 use Rattle.job_file.specs.Job.{Job, jobOf}
-use Rattle.listing.specs.Listing.{listingOf, marginListing, refusedListing}
+use Rattle.listing.specs.Listing.{listingOf, marginListing, gapListing, refusedListing}
 use Rattle.job_sheet.specs.declared.which.Sheet.{Sheet}
 use Rattle.job_sheet.specs.declared.which.Sheet.the-variants as sheets
 
@@ -58,9 +60,17 @@ marginsPrinted j r numbers solution =
     let c = closingBy j numbers solution in
     marginListing (r .iterations) (r .converged) (gapOf answer) (carriedBy r) (numberOf answer) (j .rows) (marginRows c) (marginNumbers c)
 
+-- the gaps program's: of a check that gives a verdict, closed or open, each row's measured number and the tolerance of its rule
+unfoldable pub gapsPrinted : Job → PositionPcgResult → List Float → List Float → List ℕ
+gapsPrinted j r numbers solution =
+    let answer = checkIn j numbers solution in
+    let c = closingBy j numbers solution in
+    gapListing (r .iterations) (r .converged) (gapOf answer) (carriedBy r) (numberOf answer) (j .rows) (j .words) (tabulate (reach c) (j .rows)) (tabulate (c .rule) (j .rows)) (twoRules (j .tolerance) .tolerances)
+
 unfoldable pub shownOf : Sheet → Job → PositionPcgResult → List Float → List Float → List Float → List Float → List ℕ
 shownOf sheets.Job j r numbers solution impulses newCentres = printedOf j r numbers solution impulses newCentres
 shownOf sheets.Margins j r numbers solution impulses newCentres = marginsPrinted j r numbers solution
+shownOf sheets.Gaps j r numbers solution impulses newCentres = gapsPrinted j r numbers solution
 
 -- ---- what the programs share
 unfoldable pub answerSheet : Sheet → Job → Answer → List ℕ

@@ -22,3 +22,8 @@ pub fn print_job() {
 pub fn print_margins() {
     print_sheet(Sheet::Margins);
 }
+
+// Each row's measured number.
+pub fn print_gaps() {
+    print_sheet(Sheet::Gaps);
+}

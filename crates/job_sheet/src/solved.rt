@@ -6,6 +6,7 @@ ghost use Rattle.listing.specs.Written.{Wrote};
 ghost use Rattle.job_sheet.specs.Sheet.{shownOf};
 ghost use Rattle.job_sheet.specs.Room.{JobRoom};
 use crate::accepted::write_accepted;
+use crate::gaps::write_gaps_accepted;
 use crate::margins::write_margins_accepted;
 use crate::which::Sheet;
 use job_file::Trailer;
@@ -42,6 +43,16 @@ pub fn write_solved(
             out,
         ),
         Sheet::Margins => write_margins_accepted(
+            trailer,
+            result,
+            numbers,
+            words,
+            masses,
+            centres,
+            solution,
+            out,
+        ),
+        Sheet::Gaps => write_gaps_accepted(
             trailer,
             result,
             numbers,

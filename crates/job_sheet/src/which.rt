@@ -2,4 +2,5 @@
 pub enum Sheet {
     Job,
     Margins,
+    Gaps,
 }
