@@ -3,8 +3,9 @@
 // an argument that is neither word, none or a second one is a layout word that is none, so 3. No contract can say what is read.
 use job_converter::layout_named;
 use job_converter::write_converted;
-use libc::STDIN_FILENO;
-use libc::STDOUT_FILENO;
+use program_io::Input;
+use program_io::read_input;
+use program_io::write_output;
 
 // 2, a layout word that is none, unless there is just one argument of three letters or fewer.
 fn layout_asked() -> u32 {
@@ -16,12 +17,15 @@ fn layout_asked() -> u32 {
     layout_named(&word[..length])
 }
 
-// A job file has at most 65,536 bytes. One byte more is read, so that a longer one is refused whatever it begins with.
+// A job file has at most 65,536 bytes. One byte more is read, so that a longer one is refused whatever it begins with. Of a file that can't be read nothing is written.
 fn main() {
     let layout = layout_asked();
     let mut file: [u8; 65537] = [0; 65537];
-    let length = io::read_full(STDIN_FILENO, &mut file);
+    let read = read_input(b"convert", &mut file);
+    let Input::Read(length) = read else {
+        return;
+    };
     let mut text: [u8; 38448] = [0; 38448];
     let end = write_converted(&file[..length], layout, &mut text);
-    io::write_all(STDOUT_FILENO, &text[..end]);
+    write_output(b"convert", &text[..end]);
 }

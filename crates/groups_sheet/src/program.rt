@@ -11,13 +11,15 @@ use groups_solve::Grouping;
 use job_file::FileJudged;
 use job_file::Trailer;
 use job_file::judge_file;
-use libc::STDIN_FILENO;
-use libc::STDOUT_FILENO;
+use program_io::Input;
+use program_io::read_input;
+use program_io::write_output;
 
-fn print_first(refusal: u32, count: u32) {
+// Whether all was written; where not, this is told, and nothing more is printed.
+fn print_first(refusal: u32, count: u32) -> bool {
     let mut text: [u8; 64] = [0; 64];
     let end = groups_line(refusal, count, &mut text);
-    io::write_all(STDOUT_FILENO, &text[..end]);
+    write_output(b"mechanisms", &text[..end])
 }
 
 fn print_group(
@@ -28,7 +30,7 @@ fn print_group(
     words: &[u32],
     masses: &[f64],
     centres: &[f64],
-)
+) -> bool
     requires { ⌜ BenchRoom trailer (length (now numbers)) (length (now words)) (length (now masses)) (length (now centres)) (length (now groups)) ⌝ }
 {
     let mut text: [u8; 17024] = [0; 17024];
@@ -42,9 +44,10 @@ fn print_group(
         centres,
         &mut text,
     );
-    io::write_all(STDOUT_FILENO, &text[..end]);
+    write_output(b"mechanisms", &text[..end])
 }
 
+// The first line, and then group by group.
 fn print_each(
     trailer: Trailer,
     groups: &[u32],
@@ -56,9 +59,14 @@ fn print_each(
 )
     requires { ⌜ BenchRoom trailer (length (now numbers)) (length (now words)) (length (now masses)) (length (now centres)) (length (now groups)) ⌝ }
 {
+    if !print_first(0, count) {
+        return;
+    }
     let mut g = 0;
     while g < count {
-        print_group(trailer, groups, g, numbers, words, masses, centres);
+        if !print_group(trailer, groups, g, numbers, words, masses, centres) {
+            return;
+        }
         g += 1;
     }
 }
@@ -77,9 +85,10 @@ fn print_bench(
     requires { ⌜ BenchRoom trailer (length (now numbers)) (length (now words)) (length (now masses)) (length (now centres)) (length (now groups)) ⌝ }
 {
     match read_bench(file, trailer, numbers, words, masses, centres, groups) {
-        Grouping::Refused(number) => print_first(number, 0),
+        Grouping::Refused(number) => {
+            print_first(number, 0);
+        }
         Grouping::Groups(count) => {
-            print_first(0, count);
             print_each(trailer, groups, count, numbers, words, masses, centres);
         }
     }
@@ -111,12 +120,17 @@ fn print_passed(file: &[u8], trailer: Trailer)
     );
 }
 
-// A file has at most 65,536 bytes. One byte more is read, so that a longer one is refused whatever it begins with.
+// A file has at most 65,536 bytes. One byte more is read, so that a longer one is refused whatever it begins with. Of a file that can't be read nothing is printed.
 pub fn print_groups() {
     let mut file: [u8; 65537] = [0; 65537];
-    let length = io::read_full(STDIN_FILENO, &mut file);
+    let read = read_input(b"mechanisms", &mut file);
+    let Input::Read(length) = read else {
+        return;
+    };
     match judge_file(&file[..length]) {
-        FileJudged::Refused(number) => print_first(number, 0),
+        FileJudged::Refused(number) => {
+            print_first(number, 0);
+        }
         FileJudged::Passed(trailer) => print_passed(&file[..length], trailer),
     }
 }

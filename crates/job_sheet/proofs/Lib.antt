@@ -1,3 +1,4 @@
--- The ways from a file to its sheet.
+-- The ways from a file to its sheet, and a text written behind another.
 pub mod Ways
 pub mod Measured
+pub mod Behind

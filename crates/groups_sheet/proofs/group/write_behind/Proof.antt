@@ -1,7 +1,7 @@
 -- `groups_sheet::group::write_behind` meets its contract. Assumes nothing.
 use native.Mathlib.Omega.{arith}
 use borrow.Author.Needs.{needs}
-use Rattle.groups_sheet.proofs.Behind.{wrote-behind, behind-end}
+use Rattle.job_sheet.proofs.Behind.{wrote-behind, behind-end}
 use Rattle.groups_sheet.proofs.group.write_behind.Statement.{statement}
 use Rattle.groups_sheet.proofs.group.write_behind.Tie as tie
 

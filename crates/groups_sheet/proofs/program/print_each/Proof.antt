@@ -14,9 +14,12 @@ pub print-each-spec : {M : Type 1} → statement M
 print-each-spec =
     tie.close
     (tie.spec Inv-loop μ-loop
+    (λ c κs. search needs)  -- print-first-requires
+    (λ c. search needs)  -- returns
     (λ c. search needs)  -- loop-holds
     (λ c κs. search needs)  -- print-group-requires
+    (λ c. search needs)  -- returns-2
     (λ c. search needs)  -- add-g
     (λ c. search needs)  -- loop-less
     (λ c. search needs)  -- loop-again
-    (λ c. search needs))  -- returns
+    (λ c. search needs))  -- returns-3

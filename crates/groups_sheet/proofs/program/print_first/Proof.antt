@@ -12,7 +12,8 @@ print-first-spec =
     (tie.spec
     (λ c. search needs)  -- slice-aggregate-groups-line
     (λ c κs. groups-room _ _ _ (search needs) (search needs) (search needs))  -- groups-line-requires
+    (λ c. search needs)  -- slice-aggregate-write-output
     (λ c. search needs)  -- array-share-prefix-text
-    (λ c. sym (length-take-le _ _ (search needs)))  -- slice-aggregate-write-all
-    (λ c κs. search needs)  -- write-all-requires
+    (λ c. sym (length-take-le _ _ (search needs)))  -- slice-aggregate-write-output-2
+    (λ c κs. search needs)  -- write-output-requires
     (λ c. search needs))  -- returns

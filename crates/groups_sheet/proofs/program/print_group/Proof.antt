@@ -11,7 +11,8 @@ print-group-spec =
     (tie.spec
     (λ c. search needs)  -- slice-aggregate-write-group
     (λ c κs. search needs)  -- write-group-requires
+    (λ c. search needs)  -- slice-aggregate-write-output
     (λ c. search needs)  -- array-share-prefix-text
-    (λ c. sym (length-take-le _ _ (search needs)))  -- slice-aggregate-write-all
-    (λ c κs. search needs)  -- write-all-requires
+    (λ c. sym (length-take-le _ _ (search needs)))  -- slice-aggregate-write-output-2
+    (λ c κs. search needs)  -- write-output-requires
     (λ c. search needs))  -- returns
