@@ -1,0 +1,3 @@
+pub mod Stream
+pub mod Chunk
+pub mod Left
