@@ -29,6 +29,18 @@ never : (a : Bool) → a && false ≡ false
 never true = refl
 never false = refl
 
+pub goes-some : (n room : ℕ) (bytes : List ℕ) → goesOn n room bytes ≡ true → (n < 4294967295) × (ready bytes ≡ true)
+unfolding goesOn
+goes-some n room bytes h =
+    let (a, r) = both (ltb n 4294967295 && leb 16399 room) (ready bytes) h in
+    let (b, c) = both (ltb n 4294967295) (leb 16399 room) a in
+    (ltb-true n 4294967295 b, r)
+
+-- no job goes on that is not ready
+pub goes-unready : (n room : ℕ) (bytes : List ℕ) → ready bytes ≡ false → goesOn n room bytes ≡ false
+unfolding goesOn
+goes-unready n room bytes h = rw h (never (ltb n 4294967295 && leb 16399 room))
+
 -- what a job that goes on has: a number, room and its length
 pub record Goes (n room at : ℕ) (bytes : List ℕ) : Type 0 where
   pub numbered : n < 4294967295
@@ -45,9 +57,9 @@ goes n room at bytes h =
     record { numbered = ltb-true n 4294967295 b; wide = leb-true 16399 room c; begun = omega arith }
 
 -- beyond the bytes there is no job
-pub goes-beyond : (n room at : ℕ) (bytes : List ℕ) → length bytes < at → false ≡ goesOn n room (drop at bytes)
+pub goes-beyond : (n room at : ℕ) (bytes : List ℕ) → length bytes ≤ at → false ≡ goesOn n room (drop at bytes)
 unfolding goesOn
-goes-beyond n room at bytes h = rw (drop-of-length-le bytes {i = at} (omega arith), ← ready-short [] (omega arith)) (sym (never (ltb n 4294967295 && leb 16399 room)))
+goes-beyond n room at bytes h = rw (drop-of-length-le bytes {i = at} h, ← ready-short [] (omega arith)) (sym (never (ltb n 4294967295 && leb 16399 room)))
 
 -- within them it is the one in the lent rest
 pub goes-here : (n room at : ℕ) (bytes : List ℕ) {r : Bool} → r ≡ ready (restOf at bytes) → (ltb n 4294967295 && leb 16399 room) && r ≡ goesOn n room (drop at bytes)

@@ -43,7 +43,7 @@ unfolding every
 next-fails p k h e = sym (check-true _ _ _ h) ∙ e
 
 module _ (p : ℕ → Bool) where
-  leading-most : (k : ℕ) → leading p k ≤ k
+  pub leading-most : (k : ℕ) → leading p k ≤ k
   unfolding leading
   leading-most zero = omega arith
   leading-most (suc k) = go (every p (suc k)) (leading-most k)

@@ -7,5 +7,6 @@ pub mod Steps
 pub mod Ways
 pub mod Going
 pub mod Progress
+pub mod Printing
 pub mod Moved
 pub mod Kept

@@ -4,7 +4,7 @@ ghost use mathlib.Core.Path.{_≡_};
 ghost use Prim.Native.Nat.{_+_, _-_, _≤_};
 ghost use lib.ListN.{length, drop};
 ghost use lib.Seq.{paste};
-ghost use Rattle.job_stream.specs.Left.{Leaves};
+ghost use Rattle.job_stream.specs.Left.{Leaves, Moves};
 use crate::chunk::write_jobs;
 use crate::front::write_front;
 use libc::STDERR_FILENO;
@@ -32,7 +32,7 @@ fn no_number() {
 // Prints the jobs that these bytes have whole. The last of the bytes are kept.
 fn print_ready(number: u32, bytes: &[u8], text: &mut [u8]) -> Printed
     requires { ⌜ 16399 ≤ length (now text) ⌝ }
-    ensures { λ r. ⌜ Leaves r (length (now (bytes .entry))) ⌝ }
+    ensures { λ r. ⌜ Leaves r number (now (bytes .entry)) ⌝ }
 {
     let mut next = number;
     let mut at = 0;
@@ -87,7 +87,7 @@ fn move_down(space: &mut [u8], from: usize, to: usize)
 // So many bytes more stand behind those that were kept at the front of the space. What is kept then stands there again.
 fn print_more(unread: Unread, more: usize, space: &mut [u8], text: &mut [u8]) -> Printed
     requires { ⌜ (unread .kept + more ≤ length (now space)) × (16399 ≤ length (now text)) ⌝ }
-    ensures { λ r. ⌜ Leaves r (length (now (space .entry))) ⌝ }
+    ensures { λ r. ⌜ Moves unread more (now (space .entry)) (now (space .exit)) r ⌝ }
 {
     let to = unread.kept + more;
     let passed = unread.passed;

@@ -2,7 +2,7 @@
 use Prim.Native.Nat.{_+_}
 use native.Mathlib.Omega.{arith}
 use borrow.Author.Needs.{needs}
-use Rattle.job_stream.proofs.Kept.{leaves-kept, kept-within}
+use Rattle.job_stream.proofs.Kept.{kept-within, passed-over, moves-on}
 use Rattle.job_stream.proofs.program.print_more.Statement.{statement}
 use Rattle.job_stream.proofs.program.print_more.Tie as tie
 
@@ -11,7 +11,7 @@ print-more-spec =
     tie.close
     (tie.spec
     (λ c. search needs)  -- add-to
-    (λ c. search needs)  -- returns
+    (λ c. passed-over (c .before .before .before .before .args .unread) (c .before .before .before .before .args .more) (c .before .before .before .before .args .space .now) (search needs))  -- returns
     (λ c. search needs)  -- sub-print-ready
     (λ c. search needs)  -- part-print-ready-start
     (λ c. search needs)  -- part-print-ready-end
@@ -25,4 +25,4 @@ print-more-spec =
     (λ c κs. search needs)  -- move-down-requires
     (λ c. search needs)  -- same-length-3
     (λ c. search needs)  -- same-length-4
-    (λ c. let k = leaves-kept ((c .before .before .before .before .before .before .before .before .before .before .print-ready) .ensures) ((c .before .before .before .before .before .before .printed) .given .1) in let h = kept-within (c .before .before .before .before .before .before .before .before .before .before .before .before .before .before .before .before .before .before .args .unread .kept + c .before .before .before .before .before .before .before .before .before .before .before .before .before .before .before .before .before .before .args .more) (c .before .before .before .before .before .before .before .before .before .before .before .before .before .before .before .before .before .before .args .unread .passed) (c .before .before .before .before .before .before .before .before .before .before .before .before .before .before .before .before .before .before .args .space .now) ((c .before .before .before .before .before .before .before .before .before .before .print-ready) .ensures) ((c .before .before .before .before .before .before .printed) .given .1) in record { few = (omega (arith, (c .before .before .before .before .before .before .before .before .before .before .before .before .before .before .before .before .before .before) .pre .0), k .1) }))  -- returns-3
+    (λ c. moves-on (c .before .before .before .before .before .before .before .before .before .before .before .before .before .before .before .before .before .before .args .more) (c .before .before .before .before .before .before .before .before .before .before .before .before .before .before .before .before .before .before .args .space .now) ((c .before .before .before .before .before .before .before .before .before .before .print-ready) .ensures) ((c .before .before .before .before .before .before .printed) .given .1) (search needs) (omega (arith, (c .before .before .before .before .before .before .before .before .before .before .before .before .before .before .before .before .before .before) .pre .0)) ((c .before .before .move-down) .ensures)))  -- returns-3

@@ -5,7 +5,7 @@ use lib.ListN.{length}
 use lib.Seq.{length-take-le}
 use borrow.Author.Needs.{needs}
 use Rattle.program_io.proofs.Filled.{filled-within}
-use Rattle.job_stream.proofs.Kept.{leaves-kept}
+use Rattle.job_stream.proofs.Kept.{moves-few}
 use Rattle.job_stream.proofs.program.print_stream.Statement.{statement}
 use Rattle.job_stream.proofs.program.print_stream.Tie as tie
 
@@ -44,7 +44,7 @@ print-stream-spec =
     (λ c. search needs)  -- returns-3
     (λ c. search needs)  -- sub-left
     (λ c. search needs)  -- loop-less
-    (λ c. (leaves-kept ((c .before .before .before .before .before .before .before .print-more) .ensures) ((c .before .printed) .given .1) .1, search needs, search needs))  -- loop-again
+    (λ c. (moves-few ((c .before .before .before .before .before .before .before .print-more) .ensures) ((c .before .printed) .given .1), search needs, search needs))  -- loop-again
     (λ c. search needs)  -- same-length-7
     (λ c. search needs)  -- same-length-8
     (λ c. search needs))  -- returns-4
