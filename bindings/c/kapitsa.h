@@ -1,71 +1,93 @@
-/* Zapekuri for C and C++: the position solve, at once or proposed and then committed, the velocity
-   solve, both by groups too, the closing check of each, alone and with its list of margins, and the
-   inverse of a local inertia of `rt staticlib kapitsa_c`, an archive for x86-64.
+/* Zapekuri for C and C++: the joints of a scanned mechanism solved, and measured whether they close.
 
-   A slice is a pointer, then its length; where the length is 0 the pointer may be NULL. For n rows
-   and b bodies numbers has 27 n doubles, words 8 n, masses 10 b, centres and new_centres 3 b each;
-   residuals, solution, multipliers, rule_numbers, margin_rows and margins have n, impulses 6 b. Row i
-   has its doubles from numbers[27 * i]: linear_a (3), angular_a (3), position_angular_a (3), linear_b
-   (3), angular_b (3), error, target_velocity, force_bias, compliance, damping, min_multiplier,
-   max_multiplier, min_impulse, max_impulse, accumulated_multiplier, accumulated_impulse,
-   cached_velocity_effective_mass; its words from words[8 * i]: key, dimension (0 linear, 1
-   angular), body_a, body_b, force_driven, position_enabled, owner, spare (0). Body j has its
-   inverse mass and its inverse inertia by columns from masses[10 * j], and its centre from
-   centres[3 * j]: where no centre is known, lend zeros, and what new_centres gets is by how much
-   each body moves.
+   Call the functions at the end of this file, whose names end in _in:
 
-   Velocities take the same rows and masses, no centres, and residuals, which are only read: for
-   each row the speed that it should have less the one that it has, in m/s or rad/s. Nothing but
-   refusals 4 and 7 then reads error, position_enabled and the bounds of the multiplier. Instead of
-   those the bounds of the impulse must be -infinity and +infinity.
+     kapitsa_solve_in        finds the multipliers that close the joints of a table of rows
+     kapitsa_check_in        measures every joint's gap from the multipliers: closed or open
+     kapitsa_margins_in      the check, and where it says closed each row's smallest tolerance
+     kapitsa_propose_in, kapitsa_commit_in    the solve in two steps, with a look between
+     kapitsa_solve_groups_in                  several mechanisms on one bench, each by itself
+     kapitsa_solve_velocity_in, kapitsa_check_velocity_in, kapitsa_margins_velocity_in,
+     kapitsa_solve_velocity_groups_in         the same of speeds: a linkage in motion
+     kapitsa_inverse_in      the inverse of a link's 3 by 3 inertia
 
-   Tolerances are given by rules, at most KAPITSA_MAX_RULES: for r rules rule_words has 3 r,
-   rule_tolerances r. Rule i has dimension, first key and last key from rule_words[3 * i] and its
-   tolerance at rule_tolerances[i], in metres or radians, for velocities in m/s or rad/s. It applies
-   to the rows of its dimension whose key is from the first to the last. Each row must be under one
-   rule and no second; keys that no row bears need none, and there rules may overlap. rule_numbers
-   gets the number of each row's rule, from 0. One tolerance for each dimension is
-   KAPITSA_TWO_RULES.
+   Each returns 0 or the number of a refusal, which kapitsa_refusal_text puts into words
+   (kapitsa_refusals.h); what it finds it writes into lent memory, and only where it returns 0.
+   first.c is a whole program: cc first.c $(pkg-config --cflags --libs kapitsa)
 
-   A proposal is a position solve up to the rows, which it only reads: proposal has
+   What is asked of a caller, of every function: x86-64, gcc or clang. A slice is a pointer, then its
+   length in numbers, and that many numbers are there, aligned as their type is; where the length is 0
+   the pointer may be NULL. What is written overlaps nothing else that is lent; what is only read may
+   overlap. There is no state: threads may call at once, each with memory that no other writes to. A
+   call needs a few KiB of stack, one by groups some 600 KB. All else is tested, and refused where it
+   does not fit. The functions in _in may be called in any floating-point mode and leave it as it was;
+   the raw ones, which they are made of, take each work slice by itself and need the control word MXCSR
+   to be KAPITSA_CONTROL, as it is when a program starts, unless it was linked with -ffast-math: in
+   another mode their answers, "closed" too, mean nothing.
+
+   ROWS AND BODIES. For n rows and b bodies numbers has 27 n doubles, words 8 n, masses 10 b, centres
+   and new_centres 3 b each; residuals, solution, multipliers, rule_numbers, margin_rows and margins
+   have n, impulses 6 b. Row i has its doubles from numbers[27 * i]:
+
+      0  linear_a (3)              15  error                20  min_multiplier
+      3  angular_a (3)             16  target_velocity      21  max_multiplier
+      6  position_angular_a (3)    17  force_bias           22  min_impulse
+      9  linear_b (3)              18  compliance           23  max_impulse
+     12  angular_b (3)             19  damping              24  accumulated_multiplier
+                                                            25  accumulated_impulse
+                                                            26  cached_velocity_effective_mass
+
+   and its words from words[8 * i]: key, dimension (0 linear, 1 angular), body_a, body_b, force_driven,
+   position_enabled, owner (the number of its joint), spare (0). Body j has its inverse mass and its
+   inverse inertia by columns from masses[10 * j], and its centre from centres[3 * j]: where no centre
+   is known, lend zeros, and what new_centres gets is by how much each body moves. A rigid row has
+   min_multiplier -infinity and max_multiplier +infinity, position_enabled 1, and 0 where nothing else
+   is said; error is by how much the joint gapes along the row.
+
+   VELOCITIES take the same rows and masses, no centres, and residuals, which are only read: for each
+   row the speed that it should have less the one that it has, in m/s or rad/s. Nothing but refusals 4
+   and 7 then reads error, position_enabled and the bounds of the multiplier. Instead of those the
+   bounds of the impulse must be -infinity and +infinity.
+
+   RULES are the tolerances, at most KAPITSA_MAX_RULES: for r rules rule_words has 3 r, rule_tolerances
+   r. Rule i has dimension, first key and last key from rule_words[3 * i] and its tolerance at
+   rule_tolerances[i], in metres or radians, for velocities in m/s or rad/s. It applies to the rows of
+   its dimension whose key is from the first to the last. Each row must be under one rule and no second;
+   keys that no row bears need none, and there rules may overlap. rule_numbers gets the number of each
+   row's rule, from 0. One tolerance for each dimension is KAPITSA_TWO_RULES.
+
+   A PROPOSAL is a position solve up to the rows, which it only reads: proposal has
    KAPITSA_PROPOSAL_WORDS, rows, flag, count and mark, and with solution and started, n doubles each,
    the multipliers it started from, it is what a commit takes. One that is not committed has changed
    nothing; one that is leaves what the solve would have left. Write nothing to these three between
    the two calls.
 
-   By groups, several mechanisms are solved on one bench. Rows that share a body, directly or through
+   BY GROUPS, several mechanisms are solved on one bench. Rows that share a body, directly or through
    further rows, are one group, and no others are; but a body whose ten mass numbers are all zero, of
    either sign, such as a frame that stands, joins nothing. Groups are numbered from 0, by their lowest
    row, and each is answered or refused as a table of its rows alone, in their order, with all bodies:
    what happens in one does not touch another. group_numbers has n words, group_answers 3 n and
    group_maxima 2 n, as there are at most n groups.
 
-   Every call returns 0 or the number of a refusal; what it finds it writes into lent memory, and
-   only where it returns 0. The work memory is 0 after every call but one refused by 3, which
-   writes nothing at all.
-
-   kapitsa_solve_in, kapitsa_propose_in, kapitsa_check_in and kapitsa_margins_in, and of velocities
-   kapitsa_solve_velocity_in, kapitsa_check_velocity_in and kapitsa_margins_velocity_in, at the end,
-   work in one piece of doubles and one of words and, as kapitsa_commit_in, kapitsa_inverse_in and,
-   by groups, kapitsa_solve_groups_in and kapitsa_solve_velocity_groups_in, in whatever floating-point
-   mode the caller is. They ask of a caller that a pointer and its length belong together and that no
-   two slices overlap; all else is tested, and refused where it does not fit. The raw functions,
-   kapitsa_solve_position, kapitsa_propose_position, kapitsa_commit_proposal, kapitsa_closing_check,
-   kapitsa_closing_margins, kapitsa_solve_velocity, kapitsa_velocity_closing_check,
-   kapitsa_velocity_closing_margins, kapitsa_solve_groups, kapitsa_solve_velocity_groups and
-   kapitsa_inverse_spd, take each work slice by itself and assume besides that the control word MXCSR
-   is KAPITSA_CONTROL: in another mode their answers, "closed" too, mean nothing. A program starts in
-   that mode, unless it was linked with -ffast-math. */
+   WORK MEMORY is lent as one piece of doubles and one of words; kapitsa_solve_doubles and its like
+   say how much. It is 0 after every call but one refused by 3, which writes nothing at all. */
 #ifndef KAPITSA_H
 #define KAPITSA_H
 
 #if !defined(__x86_64__) || !defined(__GNUC__)
-#error "the archive of rt staticlib kapitsa_c is for x86-64; this header takes gcc or clang"
+#error "libkapitsa.a is for x86-64; this header takes gcc or clang"
 #endif
 
 #include <stddef.h>
 #include <stdint.h>
 #include <xmmintrin.h> /* _mm_getcsr, _mm_setcsr */
+
+#include "kapitsa_refusals.h"
+
+#define KAPITSA_VERSION_MAJOR 0
+#define KAPITSA_VERSION_MINOR 2
+#define KAPITSA_VERSION_PATCH 0
+#define KAPITSA_VERSION "0.2.0"
 
 #define KAPITSA_MUST_USE __attribute__((warn_unused_result))
 
@@ -122,41 +144,6 @@ enum kapitsa_mode {
 enum kapitsa_verdict {
     KAPITSA_OPEN = 0,  /* some row's exact gap plus twice its radius exceeds its tolerance */
     KAPITSA_CLOSED = 1 /* every row's exact gap is within its tolerance */
-};
-
-/* MIN is 2^-1022. */
-enum kapitsa_refusal {
-    KAPITSA_ACCEPTED = 0,
-    KAPITSA_REFUSED_LENGTH = 3,     /* a count, the mode or a slice's length does not fit; 65 rules */
-    KAPITSA_REFUSED_WORD = 4,       /* a row has a key, dimension, flag or spare that there is not */
-    KAPITSA_REFUSED_OPENING = 5,    /* rows and limit 0, or a row off (positions alone), soft, driven
-                                       or bounded */
-    KAPITSA_REFUSED_MASS = 6,       /* a mass number, or one of a centre, is not finite */
-    KAPITSA_REFUSED_ROW = 7,        /* a row is not valid, or names a body that there is not */
-    KAPITSA_REFUSED_DIAGONAL = 8,   /* a row's diagonal overflows */
-    KAPITSA_REFUSED_IMMOVABLE = 9,  /* a row's diagonal is at most MIN, its error or residual above
-                                       tolerance */
-    KAPITSA_REFUSED_PAIRS = 10,     /* mode 1: more than 16,384 pairs of rows share a body */
-    KAPITSA_REFUSED_BLOCK = 11,     /* mode 2: a joint has over six rows, or differing bodies */
-    KAPITSA_REFUSED_VALUE = 12,     /* a pair's, a block's or an inverse's value is not finite */
-    KAPITSA_REFUSED_PIVOT = 13,     /* modes 1, 2: a pivot at most MIN, or it or a factor not finite */
-    KAPITSA_REFUSED_RESIDUAL = 14,  /* residual times preconditioned residual is at most MIN */
-    KAPITSA_REFUSED_DIRECTION = 15, /* direction times product is at most MIN */
-    KAPITSA_REFUSED_STEP = 16,      /* a number in the steps is not finite */
-    KAPITSA_REFUSED_RESULT = 17,    /* a final impulse, multiplier or centre is not finite */
-    KAPITSA_REFUSED_RANGE = 18,     /* check: a number neither 0 nor from 2^-150 to 2^150 in size */
-    KAPITSA_REFUSED_SPEED = 20,     /* velocities: a lent residual is not finite; right after 6 */
-    KAPITSA_REFUSED_NUMBER = 21,    /* inverse: a number is not finite */
-    KAPITSA_REFUSED_SYMMETRY = 22,  /* inverse: two numbers are farther apart than 2^-47 allows */
-    KAPITSA_REFUSED_DEFINITE = 23,  /* inverse: not positive definite */
-    KAPITSA_REFUSED_SHIFT = 25,     /* the shift is not finite, below 0 or above 1; right after 3 */
-    /* Right after 4, in this order. 26 is the job program's alone. */
-    KAPITSA_REFUSED_RULE = 27,        /* a rule has first above last, a dimension over 1, a last key
-                                         over 255, or a tolerance negative, NaN or infinite */
-    KAPITSA_REFUSED_RULES_OF_ROW = 28, /* a row is under no rule, or under several */
-    /* Of a commit, after 3, in this order. */
-    KAPITSA_REFUSED_COMMITTED = 29, /* the proposal bears the mark */
-    KAPITSA_REFUSED_MOVED = 30      /* a multiplier or the row count is not what it started from */
 };
 
 /* MXCSR as a program starts: round to nearest, subnormal numbers kept, exceptions masked. */
@@ -370,6 +357,18 @@ KAPITSA_MUST_USE uint32_t kapitsa_velocity_closing_margins(
    columns, as a mass has its inverse inertia; inverse is written where 0 is returned. */
 KAPITSA_MUST_USE uint32_t kapitsa_inverse_spd(
     const double *inertia, size_t inertia_len, double *inverse, size_t inverse_len);
+
+/* ---- work memory for every call in every mode, as constants for arrays; counts within the limits */
+
+#define KAPITSA_WORK_PAIRS(rows)                                                     \
+    ((size_t)(rows) * ((size_t)(rows) - 1) / 2 < (size_t)KAPITSA_MAX_PAIRS           \
+         ? (size_t)(rows) * ((size_t)(rows) - 1) / 2                                 \
+         : (size_t)KAPITSA_MAX_PAIRS)
+#define KAPITSA_WORK_DOUBLES(rows, bodies)                                           \
+    (18 * (size_t)(rows) + 16 * (size_t)(bodies)                                     \
+     + (36 * (size_t)(rows) > KAPITSA_WORK_PAIRS(rows) ? 36 * (size_t)(rows)         \
+                                                       : KAPITSA_WORK_PAIRS(rows)))
+#define KAPITSA_WORK_WORDS(rows) (4 * (size_t)(rows) + 1 + 3 * KAPITSA_WORK_PAIRS(rows))
 
 /* ---- how much work memory a call needs, exactly, the same for positions and for velocities, for a
    proposal as for a solve, and for a check with its list of margins as for a check: more may be
