@@ -17,11 +17,11 @@ fn main() {
         Some(folder) => PathBuf::from(folder),
         None => built(),
     };
-    let archive = folder.join(ARCHIVE);
-    if !archive.is_file() {
-        fail(&format!("there is no '{}'", archive.display()));
-    }
+    let Ok(archive) = folder.join(ARCHIVE).canonicalize() else {
+        fail(&format!("there is no '{}'", folder.join(ARCHIVE).display()))
+    };
     println!("cargo:rerun-if-changed={}", archive.display());
+    let folder = archive.parent().expect("it lies in a folder");
     println!("cargo:rustc-link-search=native={}", folder.display());
     println!("cargo:rustc-link-lib=static=kapitsa");
 }
@@ -34,6 +34,8 @@ fn built() -> PathBuf {
     if !build.is_file() {
         fail("set KAPITSA_LIB_DIR to the folder of libkapitsa.a, such as PREFIX/lib of bindings/install");
     }
+    println!("cargo:rerun-if-changed={}", build.display());
+    println!("cargo:rerun-if-changed={}", package.join("../../crates").display());
     run(&build, &to);
     to
 }
