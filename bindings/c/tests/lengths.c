@@ -103,8 +103,8 @@ static void work_memory(void)
     }
 }
 
-/* Nothing but the answer and work memory is lent, no rule either. True where the answer is refusal, and is written
-   exactly where that is 0: count 0, flag 1, maxima +0.0; closed, gap +0.0. */
+/* Nothing but the answer and work memory is lent, no rule either. True where the answer is refusal, and
+   is written exactly where that is 0: count 0, flag 1, maxima +0.0; closed, gap +0.0. */
 static int solve_of_nothing(uint32_t rows, uint32_t bodies, uint32_t mode, double *work,
                             size_t work_len, uint32_t *more, size_t more_len, uint32_t refusal)
 {

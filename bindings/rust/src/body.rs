@@ -33,7 +33,7 @@ impl BodyId {
 impl Body {
     /// A body of this mass, in kilograms, and this inertia about its centre, in kg m², by columns. Its
     /// axes are the bench's; of a turned link the caller turns the inertia. It is refused as
-    /// [`inverse_spd`] refuses it.
+    /// [`inverse_spd`] refuses it; a mass of 0 is refused by the solve ([`Refusal::Mass`]).
     pub fn new(kilograms: f64, inertia: &[f64; 9]) -> Result<Self, Refusal> {
         Ok(Self::from_inverse(1.0 / kilograms, &inverse_spd(inertia)?))
     }

@@ -71,6 +71,18 @@ fn eight_at_once() {
     });
 }
 
+/// What is made on one thread may be used on another.
+#[test]
+fn sent_and_shared() {
+    fn of<T: Send + Sync>() {}
+    of::<(Table, Solver, Proposal, Rules, slices::Work)>();
+    let mut solver = Solver::new(Rules::two(1e-9, 1e-9));
+    let mut table = chain(2);
+    let wanted = solver.clone().solve(&mut table.clone()).expect("solved");
+    let found = thread::spawn(move || solver.solve(&mut table)).join().expect("ended");
+    assert_eq!(found, Ok(wanted));
+}
+
 /// A megabyte of stack is enough.
 #[test]
 fn stack_of_a_thread() {
