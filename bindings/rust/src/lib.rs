@@ -4,8 +4,8 @@
 //! direction in which two bodies must not part. A [`Solver`] finds the multipliers that close the joints,
 //! and its closing check measures each joint's gap from them. That closed means the exact gap of every row
 //! is within its tolerance is a theorem: the archive behind these calls is Zapekuri's, written in Rattle,
-//! where every function is proved to meet its contract. The answers are bit for bit the same on every
-//! machine, in every floating-point mode and on every thread.
+//! where every function is proved to meet its contract. The answers have the same bits in every
+//! floating-point mode and on every thread.
 //!
 //! ```
 //! use kapitsa::{Body, Joint, Refusal, Row, Rules, Solver, Table};
