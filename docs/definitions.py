@@ -16,7 +16,7 @@ ENTRIES = [
 ]
 SIGNATURE = re.compile(r"^(\s*)(?:unfoldable |abbrev )?(?:pub )?([^\s:(){}]+) : ")
 TYPE = re.compile(r"^(\s*)(?:pub )?(?:record|data) ([^\s:(){}]+)")
-USE = re.compile(r"^(?:ghost )?use Rattle·(\w+)(?:·specs)?\.specs\.([\w.\-]+?)(?:\.\{([^}]*)\}| as (\S+));?$")
+USE = re.compile(r"^(?:ghost |unfoldable |pub )*use Rattle·(\w+)(?:·specs)?\.specs\.([\w.\-]+?)(?:\.\{([^}]*)\}| as (\S+));?$")
 NAME = re.compile(r"[^\s(){}\[\],;«».λ]+")
 
 
@@ -82,7 +82,11 @@ def followed(found, waiting):
     while waiting:
         at = waiting.pop()
         here = found.get(at[:2])
-        if at in met or here is None or at[2] not in here.lines:
+        if at in met or here is None:
+            continue
+        if at[2] not in here.lines:
+            if at[2] in here.imports:  # handed on by `pub use`
+                waiting.append(here.imports[at[2]])
             continue
         met.add(at)
         for word in NAME.findall(re.sub(r"--.*", "", "\n".join(here.lines[at[2]]))):
