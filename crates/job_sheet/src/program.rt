@@ -29,5 +29,5 @@ pub fn print_margins() {
 
 // Each row's measured number.
 pub fn print_gaps() {
-    print_sheet(Sheet::Gaps);
+    print_sheet(b"gaps", Sheet::Gaps);
 }
