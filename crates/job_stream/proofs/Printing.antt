@@ -48,7 +48,7 @@ pub upto-none : (n : ℕ) (bytes : List ℕ) → Upto n bytes n 0
 unfolding place
 upto-none n bytes = let e : n - n ≡ 0 = omega arith in record { above = omega arith; placed = rw e; passed = λ i l. absurd (omega arith); few = omega arith; short = omega arith }
 
--- a call on what is lent from `at` on, and the first of its jobs that is number i of all
+-- job i of a call on what is left after j jobs is job j + i of all
 call-passed : (n room : ℕ) (bytes : List ℕ) (j i : ℕ) → i < jobsIn (n + j) room (rest bytes j) → printable n bytes (j + i) ≡ true
 unfolding jobsIn goesAt printable
 call-passed n room bytes j i l =
