@@ -1,26 +1,32 @@
-// Numbers replaced by their sizes, in place and into other memory.
+// The size of a row's numbers and of a mass's: what the value on sizes is made from.
 ghost use mathlib.Core.Path.{_≡_};
-ghost use mathlib.Core.List.{map};
-ghost use lib.ListN.{length};
-ghost use Rattle.binary64.specs.Order.{absolute};
+ghost use Rattle.check_measure.specs.Verdict.{sizeOfRow, sizeOfMass};
+use kapitsa_joint::RowJacobian;
+use kapitsa_joint::SolverMass;
 
-pub fn take_sizes(numbers: &mut [f64])
-    ensures { λ _. ⌜ now (numbers .exit) ≡ map absolute (now (numbers .entry)) ⌝ }
+pub fn row_size(j: RowJacobian) -> RowJacobian
+    ensures { λ r. ⌜ r ≡ sizeOfRow j ⌝ }
 {
-    let mut i = 0;
-    while i < numbers.len() {
-        numbers[i] = binary64::abs(numbers[i]);
-        i += 1;
+    let linear_a = j.linear_a;
+    let angular_a = j.angular_a;
+    let linear_b = j.linear_b;
+    let angular_b = j.angular_b;
+    RowJacobian {
+        linear_a: linear_a.abs(),
+        angular_a: angular_a.abs(),
+        linear_b: linear_b.abs(),
+        angular_b: angular_b.abs(),
+        body_a: j.body_a,
+        body_b: j.body_b,
     }
 }
 
-pub fn copy_sizes(out: &mut [f64], from: &[f64])
-    requires { ⌜ length (now out) ≡ length (now from) ⌝ }
-    ensures { λ _. ⌜ now (out .exit) ≡ map absolute (now (from .entry)) ⌝ }
+pub fn mass_size(m: SolverMass) -> SolverMass
+    ensures { λ r. ⌜ r ≡ sizeOfMass m ⌝ }
 {
-    let mut i = 0;
-    while i < out.len() {
-        out[i] = binary64::abs(from[i]);
-        i += 1;
+    let inertia = m.inverse_inertia;
+    SolverMass {
+        inverse_mass: binary64::abs(m.inverse_mass),
+        inverse_inertia: inertia.abs(),
     }
 }

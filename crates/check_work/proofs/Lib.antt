@@ -1,2 +1,3 @@
--- What the operator leaves in the work memory.
-pub mod Lent
+-- Where the bodies of a lent row stand, and what the operator leaves.
+pub mod Bodies
+pub mod Product

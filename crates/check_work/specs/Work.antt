@@ -1,20 +1,15 @@
--- The work memory of the closing check: what is known of it as a whole and between the check's functions.
-use Prim.Native.Nat.{ℕ, _*_, _<_}
+-- The work memory of the closing check: what is known of it as a whole.
+use Prim.Native.Nat.{ℕ, _*_}
 use mathlib.Core.Path.{_≡_}
 use mathlib.Core.Bool.{Bool, true, false}
-use mathlib.Core.List.{List, map}
-use lib.Dec.{eqb}
+use mathlib.Core.List.{List}
 use lib.ListN.{length}
 use lib.Ieee.{Float}
-use Rattle.loops.specs.Cleared.{cleared, clearedWords, Free}
-use Rattle.binary64.specs.Order.{absolute}
-use Rattle.kapitsa_joint.specs.Row.{rowOf}
-use Rattle.kapitsa_joint.specs.Table.{tableOf}
-use Rattle.mass_operator.specs.System.{systemOf}
-use Rattle.mass_operator.specs.Flat.{coefficients, productOf}
+use Rattle.loops.specs.Cleared.{cleared, clearedWords}
 use Rattle.check_refusals.specs.declared.fit.WorkLengths.{WorkLengths}
-use Rattle.check_measure.specs.Verdict.{sizesOf}
 
+-- The impulses stand in `impulses` and those of the sizes in `massSizes`, in the first six of its ten numbers a body.
+-- Nothing is made in jacobians, links and multiplierSizes: the rows and the list are read where they are lent.
 pub record CheckMemory : Type 0 where
   pub jacobians : List Float
   pub links : List ℕ
@@ -52,22 +47,6 @@ pub record Room (n b : ℕ) (rowNumbers : List Float) (rowWords : List ℕ) (mas
   pub impulses : length (m .impulses) ≡ 6 * b
   pub values : length (m .values) ≡ n
   pub sizes : length (m .sizes) ≡ n
-
--- every row's bodies are below the body count and differ: what refusal 7 has passed
-pub record Valid (rows bodies : ℕ) (numbers : List Float) (words : List ℕ) : Type 0 where
-  pub a : (i : ℕ) → i < rows → rowOf numbers words i .words .«body_a» < bodies
-  pub b : (i : ℕ) → i < rows → rowOf numbers words i .words .«body_b» < bodies
-  pub apart : (i : ℕ) → i < rows → eqb (rowOf numbers words i .words .«body_a») (rowOf numbers words i .words .«body_b») ≡ false
-
--- every row's value and its value on sizes, with the sizes that these are made from; the rest is free
-pub record Measured (b : ℕ) (numbers : List Float) (words : List ℕ) (masses multipliers : List Float) (before after : CheckMemory) : Type 0 where
-  pub values : after .values ≡ productOf (systemOf (tableOf (length multipliers) b numbers words masses)) (coefficients multipliers)
-  pub sizes : after .sizes ≡ productOf (sizesOf (systemOf (tableOf (length multipliers) b numbers words masses))) (λ i. absolute (coefficients multipliers i))
-  pub massSizes : after .massSizes ≡ map absolute masses
-  pub multiplierSizes : after .multiplierSizes ≡ map absolute multipliers
-  pub jacobians : Free (before .jacobians) (after .jacobians)
-  pub links : Free (before .links) (after .links)
-  pub impulses : Free (before .impulses) (after .impulses)
 
 -- cleared, as long as it is
 abbrev pub clearedMemory : CheckMemory → CheckMemory

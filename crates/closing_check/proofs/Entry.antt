@@ -104,10 +104,6 @@ room-3 kind n b numbers words masses multipliers z u v w m h =
 pub passed-3 : {p r : Bool} → r ≡ p → not r ≡ false → p ≡ true
 passed-3 {p} {r} e h = sym e ∙ not-false r h
 
--- measure_rows counts the rows by the list
-pub room-same : {n m b : ℕ} {numbers : List Float} {words : List ℕ} {masses multipliers : List Float} {w : CheckMemory} → m ≡ n → Room n b numbers words masses multipliers w → Room m b numbers words masses multipliers w
-room-same e r = rw e r
-
 -- memory of these lengths, cleared: as long as the memory that was lent
 abbrev clearedTo : ℕ → ℕ → ℕ → ℕ → ℕ → ℕ → ℕ → CheckMemory
 clearedTo j l m x i v s = memoryOf (zeros j) (replicate l 0) (zeros m) (zeros x) (zeros i) (zeros v) (zeros s)

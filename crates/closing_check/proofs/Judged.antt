@@ -24,7 +24,7 @@ use Rattle.check_answer.specs.Answer.{verdictOf, checkOf}
 use Rattle.check_answer.specs.declared.CheckAnswer.the-variants.{Refused}
 use Rattle.joint_refusals.proofs.Valid.{valid-bodies}
 use Rattle.check_answer.proofs.Meaning.{verdict-of}
-use Rattle.check_work.specs.Work.{Valid}
+use Rattle.check_work.specs.Rows.{Valid}
 
 module _ (c : Closing) {j : TableJudged} (e : judge (tableTests c) ≡ judgedOut j) where
   pub refused-judged : (n : ℕ) → j ≡ judged.Refused n → Refused n ≡ checkOf true c
@@ -44,7 +44,6 @@ unfolding passes7
 valid-of rows bodies numbers words masses h = record {
   a = λ i l. valid-bodies bodies (rowOf numbers words i) (every-iff (λ i. isValidOf bodies (rowOf numbers words i)) rows .0 h i l) .a;
   b = λ i l. valid-bodies bodies (rowOf numbers words i) (every-iff (λ i. isValidOf bodies (rowOf numbers words i)) rows .0 h i l) .b;
-  apart = λ i l. valid-bodies bodies (rowOf numbers words i) (every-iff (λ i. isValidOf bodies (rowOf numbers words i)) rows .0 h i l) .apart;
 }
 
 -- what a table that passed them has
@@ -59,6 +58,3 @@ module _ (kind : Kind) (rows bodies : ℕ) (numbers : List Float) (words : List 
     pub ruled-judged : j ≡ judged.Passed → rowsRuled s words rows ≡ true
     unfolding AllPass
     ruled-judged h = lent-28 s rows bodies numbers words masses ∙ passed-tolerances c (all-judged c e h) .1 .0
-
-pub valid-same : {n m b : ℕ} {numbers : List Float} {words : List ℕ} → m ≡ n → Valid n b numbers words → Valid m b numbers words
-valid-same e v = rw e v

@@ -26,29 +26,29 @@ use Rattle.mass_operator.specs.Flat.{coefficients, productOf}
 use Rattle.check_range.specs.Closing.{Closing, closingFor, errorIn}
 use Rattle.check_measure.specs.Verdict.{sizesOf, valueOf, sizeOf, reach, within, closes, largestReaches}
 use Rattle.check_measure.specs.Rows.{reachIn, withinIn}
-use Rattle.check_work.specs.Work.{CheckMemory, Measured}
+use Rattle.check_work.specs.Rows.{Measured}
 use Rattle.check_answer.specs.Answer.{verdictOf, checkOf, namedBy}
 use Rattle.check_answer.specs.declared.CheckAnswer.{CheckAnswer}
 use Rattle.check_answer.specs.declared.CheckAnswer.the-variants.{Closed, Open, Refused}
 use Rattle.closing_check.specs.Checked.{verdictIn, Reached}
 
-module _ (kind : Kind) (s : Rules) (given : List Float) (placed : Bool) {rows bodies : ℕ} {numbers : List Float} {words : List ℕ} {masses multipliers : List Float} {before after : CheckMemory}
-    (m : Measured bodies numbers words masses multipliers before after) (e : length multipliers ≡ rows) where
+module _ (kind : Kind) (s : Rules) (given : List Float) (placed : Bool) {rows bodies : ℕ} {numbers : List Float} {words : List ℕ} {masses multipliers values sizes : List Float}
+    (m : Measured bodies numbers words masses multipliers values sizes) (e : length multipliers ≡ rows) where
   abbrev c : Closing
   c = closingFor kind (tableOf rows bodies numbers words masses) (coefficients multipliers) s (coefficients given) placed
 
-  values-is : after .values ≡ tabulate (valueOf c) rows
+  values-is : values ≡ tabulate (valueOf c) rows
   unfolding productOf valueOf
   values-is = m .values ∙ ap (λ (k : ℕ). tabulate (valueAt (systemOf (tableOf k bodies numbers words masses)) (coefficients multipliers)) k) e
 
-  sizes-is : after .sizes ≡ tabulate (sizeOf c) rows
+  sizes-is : sizes ≡ tabulate (sizeOf c) rows
   unfolding productOf sizeOf
   sizes-is = m .sizes ∙ ap (λ (k : ℕ). tabulate (valueAt (sizesOf (systemOf (tableOf k bodies numbers words masses))) (λ i. absolute (coefficients multipliers i))) k) e
 
-  module _ {reaches : List Float} (made : reaches ≡ tabulate (reachIn (errorIn kind numbers given) (after .values) (after .sizes) rows) rows) where
+  module _ {reaches : List Float} (made : reaches ≡ tabulate (reachIn (errorIn kind numbers given) values sizes rows) rows) where
     reach-is : (i : ℕ) → i < rows → getD reaches i nan ≡ reach c i
     unfolding reachIn reach rowOf scalarsOf
-    reach-is i h = rw (made, getD-tabulate (reachIn (errorIn kind numbers given) (after .values) (after .sizes) rows) rows i nan h, values-is, sizes-is, getD-tabulate (valueOf c) rows i nan h, getD-tabulate (sizeOf c) rows i nan h)
+    reach-is i h = rw (made, getD-tabulate (reachIn (errorIn kind numbers given) values sizes rows) rows i nan h, values-is, sizes-is, getD-tabulate (valueOf c) rows i nan h, getD-tabulate (sizeOf c) rows i nan h)
 
     pub reached-is : {answer : CheckAnswer} → Reached answer c reaches
     reached-is = record { reached = λ _. reach-is }

@@ -87,17 +87,16 @@ pub fn judged_check(
         }
         TableJudged::Passed => {}
     }
+    let b = bodies as usize;
+    let size_impulses = 6 * b;
     measure_rows(
-        bodies as usize,
+        b,
         numbers,
         words,
         masses,
         multipliers,
-        jacobians,
-        links,
-        mass_sizes,
-        multiplier_sizes,
         impulses,
+        &mut mass_sizes[..size_impulses],
         values,
         sizes,
     );
