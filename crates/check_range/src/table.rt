@@ -27,7 +27,7 @@ pub fn error_at(kind: Kind, numbers: &[f64], given: &[f64], i: usize) -> f64
     }
 }
 
-fn row_in_range_at(
+pub fn row_in_range_at(
     kind: Kind,
     numbers: &[f64],
     words: &[u32],
@@ -71,7 +71,7 @@ fn mass_in_range_at(masses: &[f64], b: usize) -> bool
     mass_in_range(mass_at(masses, b))
 }
 
-fn masses_in_range(masses: &[f64], bodies: usize) -> bool
+pub fn masses_in_range(masses: &[f64], bodies: usize) -> bool
     requires { ⌜ 10 * bodies ≤ length (now masses) ⌝ }
     ensures { λ r. ⌜ r ≡ every (λ b. massInRange (massOf (now (masses .entry)) b)) bodies ⌝ }
 {

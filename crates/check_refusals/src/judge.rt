@@ -8,6 +8,8 @@ ghost use Rattle.mass_operator.specs.Flat.{coefficients};
 ghost use Rattle.rules.specs.Rows.{rulesIn};
 ghost use Rattle.check_range.specs.Closing.{closingFor, givenFinite, GivenFrom};
 ghost use Rattle.check_refusals.specs.Judged.{tableTests, judgedOut};
+use crate::sound::rows_sound;
+use check_range::masses_in_range;
 use check_range::table_in_range;
 use joint_refusals::masses_finite;
 use joint_refusals::residuals_finite;
@@ -33,8 +35,8 @@ fn given_finite(kind: Kind, given: &[f64], rows: usize) -> bool
     }
 }
 
-// The residual is looked at for velocities alone; `placed` tells whether the centres are finite.
-pub fn judge_table(
+// One after the other, for the number of the first that fails.
+fn judge_in_order(
     kind: Kind,
     rows: u32,
     bodies: u32,
@@ -74,4 +76,46 @@ pub fn judge_table(
         return TableJudged::Refused(18);
     }
     TableJudged::Passed
+}
+
+// The residual is looked at for velocities alone; `placed` tells whether the centres are finite.
+// First all at once: the order matters only where one fails.
+pub fn judge_table(
+    kind: Kind,
+    rows: u32,
+    bodies: u32,
+    numbers: &[f64],
+    words: &[u32],
+    masses: &[f64],
+    given: &[f64],
+    multipliers: &[f64],
+    rule_words: &[u32],
+    rule_tolerances: &[f64],
+    placed: bool,
+) -> TableJudged
+    requires { ⌜ (27 * rows ≤ length (now numbers)) × (8 * rows ≤ length (now words)) × (10 * bodies ≤ length (now masses)) × (rows ≤ length (now multipliers)) × (3 * length (now «rule_tolerances») ≤ length (now «rule_words»)) × GivenFrom kind (length (now given)) rows ⌝ }
+    ensures { λ r. ⌜ judge (tableTests (closingFor kind (tableOf rows bodies (now (numbers .entry)) (now (words .entry)) (now (masses .entry))) (coefficients (now (multipliers .entry))) (rulesIn (now («rule_words» .entry)) (now («rule_tolerances» .entry))) (coefficients (now (given .entry))) placed)) ≡ judgedOut r ⌝ }
+{
+    let n = rows as usize;
+    let b = bodies as usize;
+    let ruled = rules_fit(rule_words, rule_tolerances)
+        & rows_ruled(words, rule_words, rule_tolerances, n);
+    let sound = masses_in_range(masses, b)
+        & rows_sound(kind, numbers, words, given, multipliers, n, bodies);
+    if ruled & placed & given_finite(kind, given, n) & sound {
+        return TableJudged::Passed;
+    }
+    judge_in_order(
+        kind,
+        rows,
+        bodies,
+        numbers,
+        words,
+        masses,
+        given,
+        multipliers,
+        rule_words,
+        rule_tolerances,
+        placed,
+    )
 }

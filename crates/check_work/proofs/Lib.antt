@@ -1,4 +1,4 @@
--- Where the bodies of a lent row stand, and what the operator leaves.
-pub mod OneMore
+-- Where the bodies of a lent row stand, their sums, and what the operator leaves.
 pub mod Bodies
+pub mod Added
 pub mod Product

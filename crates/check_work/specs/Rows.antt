@@ -5,10 +5,13 @@ use mathlib.Core.List.{List}
 use lib.ListN.{length}
 use lib.Ieee.{Float}
 use Rattle.binary64.specs.Order.{absolute}
+use Rattle.kapitsa_math.specs.declared.vector.Vec3.{Vec3}
+use Rattle.kapitsa_joint.specs.Impulse.{impulseOf, putImpulseOf}
 use Rattle.kapitsa_joint.specs.Row.{rowOf, jacobianOf}
 use Rattle.kapitsa_joint.specs.Table.{tableOf}
 use Rattle.kapitsa_joint.specs.declared.row.RowJacobian.{RowJacobian}
 use Rattle.mass_operator.specs.System.{systemOf}
+use Rattle.mass_operator.specs.Operator.{addImpulseOf}
 use Rattle.mass_operator.specs.Flat.{coefficients, productOf}
 use Rattle.check_measure.specs.Verdict.{sizeOfRow, sizesOf}
 
@@ -26,6 +29,13 @@ sizesIn list i = absolute (coefficients list i)
 pub record Valid (rows bodies : ℕ) (numbers : List Float) (words : List ℕ) : Type 0 where
   pub a : (i : ℕ) → i < rows → rowOf numbers words i .words .«body_a» < bodies
   pub b : (i : ℕ) → i < rows → rowOf numbers words i .words .«body_b» < bodies
+
+-- ---- one body's impulse with one more term, and those of a row's two bodies
+unfoldable pub addedAt : List Float → ℕ → Vec3 → Vec3 → Float → List Float
+addedAt l b linear angular c = putImpulseOf l b (addImpulseOf (impulseOf l b) linear angular c)
+
+unfoldable pub addedRow : List Float → RowJacobian → Float → List Float
+addedRow l j c = addedAt (addedAt l (j .«body_a») (j .«linear_a») (j .«angular_a») c) (j .«body_b») (j .«linear_b») (j .«angular_b») c
 
 -- v is every row's value, and w its value on sizes
 pub record Measured (bodies : ℕ) (numbers : List Float) (words : List ℕ) (masses multipliers v w : List Float) : Type 0 where

@@ -39,7 +39,7 @@ fn verdict(
     CheckAnswer::Open(gap)
 }
 
-// Once refusal 3 has passed: the other refusals, and the verdict.
+// Once refusal 3 has passed: the other refusals, and the verdict. Nothing is made in jacobians, links and multiplier_sizes.
 pub fn judged_check(
     kind: Kind,
     rows: u32,

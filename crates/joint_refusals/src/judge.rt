@@ -186,7 +186,7 @@ pub fn residuals_finite(residuals: &[f64], rows: usize) -> bool
 }
 
 // Refusal 7: ConstraintRow::is_valid of row.rs, in four groups.
-fn bodies_below(w: RowWords, bodies: u32) -> bool
+pub fn bodies_below(w: RowWords, bodies: u32) -> bool
     ensures { λ r. ⌜ r ≡ bodiesBelowOf bodies w ⌝ }
 {
     (w.body_a != w.body_b) & (w.body_a < bodies) & (w.body_b < bodies)
@@ -205,7 +205,7 @@ fn jacobians_finite_at(numbers: &[f64], i: usize) -> bool
         & vec_finite_at(numbers, at + 12)
 }
 
-fn scalars_finite(s: RowScalars) -> bool
+pub fn scalars_finite(s: RowScalars) -> bool
     ensures { λ r. ⌜ r ≡ scalarsFiniteOf s ⌝ }
 {
     binary64::is_finite(s.error)
@@ -218,7 +218,7 @@ fn scalars_finite(s: RowScalars) -> bool
         & binary64::is_finite(s.cached_velocity_effective_mass)
 }
 
-fn scalars_in_range(s: RowScalars) -> bool
+pub fn scalars_in_range(s: RowScalars) -> bool
     ensures { λ r. ⌜ r ≡ scalarsInRangeOf s ⌝ }
 {
     (0.0 <= s.compliance)

@@ -1,6 +1,6 @@
 -- `check_work::impulse::add_at` meets its contract. Assumes nothing.
 use borrow.Author.Needs.{needs}
-use Rattle.check_work.specs.Added.{addedAt}
+use Rattle.check_work.specs.Rows.{addedAt}
 use Rattle.check_work.proofs.impulse.add_at.Statement.{statement}
 use Rattle.check_work.proofs.impulse.add_at.Tie as tie
 

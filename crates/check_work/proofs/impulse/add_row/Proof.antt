@@ -1,7 +1,7 @@
 -- `check_work::impulse::add_row` meets its contract. Assumes nothing.
 use native.Mathlib.Omega.{arith}
 use borrow.Author.Needs.{needs}
-use Rattle.check_work.specs.Added.{addedRow}
+use Rattle.check_work.specs.Rows.{addedRow}
 use Rattle.check_work.proofs.impulse.add_row.Statement.{statement}
 use Rattle.check_work.proofs.impulse.add_row.Tie as tie
 

@@ -5,8 +5,8 @@ use Rattle.loops.proofs.Loop.{loops}
 use Rattle.mass_operator.specs.Flat.{coefficients}
 use Rattle.mass_operator.specs.Lent.{Summing}
 use Rattle.mass_operator.proofs.Sums.{all-rows, none-yet}
-use Rattle.check_work.proofs.OneMore.{one-more}
 use Rattle.check_work.specs.Rows.{rowsIn, rowSizesIn, sizesIn}
+use Rattle.check_work.proofs.Added.{one-more}
 use Rattle.check_work.proofs.Bodies.{below-a, below-b, size-below-a, size-below-b, room}
 use Rattle.check_work.proofs.impulse.sum_impulses.Statement.{statement}
 use Rattle.check_work.proofs.impulse.sum_impulses.Tie as tie

@@ -1,4 +1,4 @@
--- Impulses in a slice while they are summed, row by row: one more row. Assumes nothing.
+-- Impulses in a slice while they are summed, row by row. Assumes nothing.
 use Prim.Native.Nat.{ℕ, _+_, _*_, _<_, _≤_}
 use mathlib.Core.Path.{_≡_, refl, ap, _∙_}
 use mathlib.Core.Bool.{Bool, true, false, cond}
@@ -17,7 +17,7 @@ use Rattle.kapitsa_joint.proofs.Stored.{put-impulse-length}
 use Rattle.mass_operator.specs.Operator.{addImpulseOf, addRowOf, impulseAt}
 use Rattle.mass_operator.specs.Lent.{Summing}
 use Rattle.mass_operator.proofs.Sums.{put-at}
-use Rattle.check_work.specs.Added.{addedAt, addedRow}
+use Rattle.check_work.specs.Rows.{addedAt, addedRow}
 
 added-length : (l : List Float) (b : ℕ) (u v : Vec3) (c : Float) → length (addedAt l b u v c) ≡ length l
 unfolding addedAt
