@@ -31,6 +31,7 @@ HERE = pathlib.Path(__file__).resolve().parent
 CRATE = HERE.parent / "crates" / "job_sheets"
 GAPS = HERE.parent / "crates" / "gap_sheets"
 LONGEST = 8192
+SAMPLES = ("clock_train", "clock_train_centres", "four_bar", "four_bar_centres", "p1")
 LEAST = math.nextafter(0.0, 1.0)
 
 
@@ -302,7 +303,7 @@ def main():
     subprocess.run([run, "examples"], check=True, stdout=subprocess.DEVNULL)
     with tempfile.TemporaryDirectory() as folder:
         paths = sorted((run.parent / "target" / "examples").glob("P*.job"))
-        paths += sorted((HERE.parent / "samples").glob("*.job"))
+        paths += [HERE.parent / "samples" / f"{name}.job" for name in SAMPLES]
         files = [path.read_bytes() for path in paths]
         files += [*generated(run, folder, "7", "0"), *edges(make), *tolerances(make)]
         files += [*generated(run, folder, "8", "1"), *centred_edges(make), *centres(make), *from_the_origin(make)]
