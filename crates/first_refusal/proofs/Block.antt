@@ -20,6 +20,7 @@ use Rattle.loops.proofs.Ranges.{Among, among-going, among-ended, among-next, am
 use Rattle.kapitsa_joint.specs.declared.row.RowJacobian.{RowJacobian}
 use Rattle.mass_operator.specs.System.{System}
 use Rattle.pairs.specs.Pairs.{patternOf, pairCount, pairLimit}
+use Rattle.pairs.specs.Answers.{judgedPairs, pairsRun}
 use Rattle.incomplete_cholesky.specs.Build.{choleskyRun}
 use Rattle.block_factor.specs.Blocks.{onePair, blockPivot, blockFactor, cellOf}
 use Rattle.block_factor.specs.Answers.{cellRun, blockColumnTurn, blockRowTurn, rowsRun, blockOf}
@@ -33,10 +34,13 @@ use Rattle.preconditioner.specs.declared.mode.Mode.the-variants as modes
 abbrev pub Other : ℕ → Type 0
 Other n = n ≡ 11 → ⊥
 
+pairs-other : (s : System) → Among Other (pairsRun s)
+unfolding pairsRun judgedPairs
+pairs-other s = among-cond Other (ltb pairLimit (pairCount (patternOf s) (s .rows))) _ _ (among-ended Other 10 (λ z. omega arith)) (among-check Other _ _ _ (among-going Other _) (among-ended Other 12 (λ z. omega arith)))
+
 cholesky-other : (s : System) (diagonal : List Float) → Among Other (choleskyRun s diagonal)
 unfolding choleskyRun
-cholesky-other s diagonal =
-    among-cond Other (ltb pairLimit (pairCount (patternOf s) (s .rows))) _ _ (among-ended Other 10 (λ z. omega arith)) (among-check Other _ _ _ (among-answered Other 13 _ (λ z. omega arith)) (among-ended Other 12 (λ z. omega arith)))
+cholesky-other s diagonal = among-next Other (pairsRun s) _ (pairs-other s) (λ _ _. among-answered Other 13 _ (λ z. omega arith))
 
 cell-other : (l : List Float) (row column : ℕ) (v : Float) → Among Other (cellOf l row column v)
 unfolding cellOf blockPivot blockFactor
