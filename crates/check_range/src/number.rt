@@ -1,31 +1,18 @@
 // One number, vector, matrix, row or mass against refusal 18: zero, or from 2^-150 to 2^150 in size.
 ghost use mathlib.Core.Path.{_≡_};
-ghost use lib.Ieee.{binary64, eq, ofBits};
 ghost use Rattle.check_range.specs.Range.{inRange, vecInRange, matInRange, jacobianInRange, massInRange};
 use kapitsa_joint::RowJacobian;
 use kapitsa_joint::SolverMass;
 use kapitsa_math::Mat3;
 use kapitsa_math::Vec3;
 
-// By its bits too: a processor told to take subnormal numbers for zero would find them equal to it.
-fn is_zero(x: f64) -> bool
-    ensures { λ r. ⌜ r ≡ eq x (ofBits binary64 0) ⌝ }
-{
-    if x == 0.0 {
-        f64::to_bits(x) % 0x8000_0000_0000_0000 == 0 // without the sign
-    } else {
-        false
-    }
-}
-
-// Such a processor, too, finds a subnormal number below 2^-150 in size.
+// By whole numbers on the bits: a processor told to take subnormal numbers for zero would change a comparison of doubles.
 pub fn in_range(x: f64) -> bool
     ensures { λ r. ⌜ r ≡ inRange x ⌝ }
 {
-    let least = f64::from_bits(0x3690_0000_0000_0000); // 2^-150
-    let most = f64::from_bits(0x4950_0000_0000_0000); // 2^150
-    let size = binary64::max(x, -x);
-    is_zero(x) | ((least <= size) & (size <= most))
+    let size = binary64::to_bits(x) % 0x8000_0000_0000_0000; // without the sign
+    let sized = (0x3690_0000_0000_0000 <= size) & (size <= 0x4950_0000_0000_0000); // 2^-150, 2^150
+    (size == 0) | sized
 }
 
 fn vec_in_range(v: Vec3) -> bool
