@@ -1,2 +1,3 @@
--- What is told of a place.
+-- What is told of a place, and of each row's number.
 pub mod Told
+pub mod Measured
