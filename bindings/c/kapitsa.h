@@ -4,11 +4,13 @@
 
      kapitsa_solve_in        finds the multipliers that close the joints of a table of rows
      kapitsa_check_in        measures every joint's gap from the multipliers: closed or open
+     kapitsa_gaps_in         the check, with each row's measured gap, closed or open
      kapitsa_margins_in      the check, and where it says closed each row's smallest tolerance
      kapitsa_propose_in, kapitsa_commit_in    the solve in two steps, with a look between
      kapitsa_solve_groups_in                  several mechanisms on one bench, each by itself
-     kapitsa_solve_velocity_in, kapitsa_check_velocity_in, kapitsa_margins_velocity_in,
-     kapitsa_solve_velocity_groups_in         the same of speeds: a linkage in motion
+     kapitsa_solve_velocity_in, kapitsa_check_velocity_in, kapitsa_gaps_velocity_in,
+     kapitsa_margins_velocity_in, kapitsa_solve_velocity_groups_in    the same of speeds
+     kapitsa_first_refused_in                 the row, body or rule that a refusal is about
      kapitsa_inverse_in      the inverse of a link's 3 by 3 inertia
 
    Each returns 0 or the number of a refusal, which kapitsa_refusal_text puts into words
@@ -26,8 +28,8 @@
    another mode their answers, "closed" too, mean nothing.
 
    ROWS AND BODIES. For n rows and b bodies numbers has 27 n doubles, words 8 n, masses 10 b, centres
-   and new_centres 3 b each; residuals, solution, multipliers, rule_numbers, margin_rows and margins
-   have n, impulses 6 b. Row i has its doubles from numbers[27 * i]:
+   and new_centres 3 b each; residuals, solution, multipliers, rule_numbers, gaps, margin_rows and
+   margins have n, impulses 6 b. Row i has its doubles from numbers[27 * i]:
 
       0  linear_a (3)              15  error                20  min_multiplier
       3  angular_a (3)             16  target_velocity      21  max_multiplier
@@ -144,6 +146,16 @@ enum kapitsa_mode {
 enum kapitsa_verdict {
     KAPITSA_OPEN = 0,  /* some row's exact gap plus twice its radius exceeds its tolerance */
     KAPITSA_CLOSED = 1 /* every row's exact gap is within its tolerance */
+};
+
+/* What a refusal is about, the first word of a place; the second is which row, body or rule, else 0. */
+enum kapitsa_place {
+    KAPITSA_PLACE_NONE = 0, /* nothing one by one */
+    KAPITSA_PLACE_ROW = 1,
+    KAPITSA_PLACE_BODY = 2,
+    KAPITSA_PLACE_RULE = 3,
+    KAPITSA_PLACE_LIMIT = 4, /* rows, and limit 0 */
+    KAPITSA_PLACE_WORDS = 2
 };
 
 /* MXCSR as a program starts: round to nearest, subnormal numbers kept, exceptions masked. */
@@ -352,6 +364,44 @@ KAPITSA_MUST_USE uint32_t kapitsa_velocity_closing_margins(
     uint32_t *margin_rows, size_t margin_rows_len, double *margins, size_t margins_len,
     uint32_t *verdict, size_t verdict_len, double *gap, size_t gap_len
     KAPITSA_CHECK_WORK(KAPITSA_TAKES_DOUBLES, KAPITSA_TAKES_WORDS));
+
+/* kapitsa_closing_check, which answers and is refused as ever, and each row's measured gap, closed or
+   open: gaps has for each row the smallest tolerance at which it closes, from +0.0, so that its exact gap
+   is no larger. After a refusal gaps stays as it was. 3 judges its length too. */
+KAPITSA_MUST_USE uint32_t kapitsa_closing_gaps(
+    const double *numbers, size_t numbers_len, const uint32_t *words, size_t words_len,
+    const double *masses, size_t masses_len, const double *centres, size_t centres_len,
+    const uint32_t *rule_words, size_t rule_words_len,
+    const double *rule_tolerances, size_t rule_tolerances_len,
+    uint32_t rows, uint32_t bodies, const double *multipliers, size_t multipliers_len,
+    uint32_t *rule_numbers, size_t rule_numbers_len, double *gaps, size_t gaps_len,
+    uint32_t *verdict, size_t verdict_len, double *gap, size_t gap_len
+    KAPITSA_CHECK_WORK(KAPITSA_TAKES_DOUBLES, KAPITSA_TAKES_WORDS));
+
+/* The same of kapitsa_velocity_closing_check; the numbers are in m/s and rad/s. */
+KAPITSA_MUST_USE uint32_t kapitsa_velocity_closing_gaps(
+    const double *numbers, size_t numbers_len, const uint32_t *words, size_t words_len,
+    const double *masses, size_t masses_len, const double *residuals, size_t residuals_len,
+    const uint32_t *rule_words, size_t rule_words_len,
+    const double *rule_tolerances, size_t rule_tolerances_len,
+    uint32_t rows, uint32_t bodies, const double *multipliers, size_t multipliers_len,
+    uint32_t *rule_numbers, size_t rule_numbers_len, double *gaps, size_t gaps_len,
+    uint32_t *verdict, size_t verdict_len, double *gap, size_t gap_len
+    KAPITSA_CHECK_WORK(KAPITSA_TAKES_DOUBLES, KAPITSA_TAKES_WORDS));
+
+/* Of a solve that this number turned back, given what the solve was given: place (2) gets what the refusal
+   is about and which, the first row for 4, 5, 7, 8, 9, 11 and 28, the first body for 6, the first rule for
+   27, the limit for a 5 by limit 0. KAPITSA_PLACE_NONE where the number judges nothing one by one, where
+   nothing fails its test and where a length does not fit the counts. velocities is 1 for a solve of
+   velocities, whose residuals are lent beside, else 0, with the centres. 3 where velocities is above 1 or
+   place is not 2 long. */
+KAPITSA_MUST_USE uint32_t kapitsa_first_refused(
+    uint32_t velocities, uint32_t number,
+    const double *numbers, size_t numbers_len, const uint32_t *words, size_t words_len,
+    const double *masses, size_t masses_len, const double *beside, size_t beside_len,
+    const uint32_t *rule_words, size_t rule_words_len,
+    const double *rule_tolerances, size_t rule_tolerances_len,
+    uint32_t rows, uint32_t bodies, uint32_t limit, uint32_t *place, size_t place_len);
 
 /* Refusals 3, 21, 22, 23 and 12, judged in this order. inertia and inverse have 9 doubles each, by
    columns, as a mass has its inverse inertia; inverse is written where 0 is returned. */
@@ -658,6 +708,53 @@ KAPITSA_APART uint32_t kapitsa_margins_velocity_in(
         KAPITSA_CHECK_GIVEN(residuals), margin_rows, margin_rows_len, margins, margins_len,
         verdict, 1, gap, 2
         KAPITSA_CHECK_WORK(KAPITSA_LEND, KAPITSA_LEND)))
+}
+
+/* Read gaps only where 0 was returned. */
+KAPITSA_APART uint32_t kapitsa_gaps_in(
+    const double *numbers, size_t numbers_len, const uint32_t *words, size_t words_len,
+    const double *masses, size_t masses_len, const double *centres, size_t centres_len,
+    const uint32_t *rule_words, size_t rule_words_len,
+    const double *rule_tolerances, size_t rule_tolerances_len,
+    uint32_t rows, uint32_t bodies, const double *multipliers, size_t multipliers_len,
+    uint32_t *rule_numbers, size_t rule_numbers_len, double *gaps, size_t gaps_len,
+    uint32_t *verdict, double gap[2],
+    double *work_doubles, size_t work_doubles_len, uint32_t *work_words, size_t work_words_len)
+{
+    KAPITSA_CHECK_ROOM
+    KAPITSA_RETURN_CONTROLLED(kapitsa_closing_gaps(
+        KAPITSA_CHECK_GIVEN(centres), gaps, gaps_len, verdict, 1, gap, 2
+        KAPITSA_CHECK_WORK(KAPITSA_LEND, KAPITSA_LEND)))
+}
+
+KAPITSA_APART uint32_t kapitsa_gaps_velocity_in(
+    const double *numbers, size_t numbers_len, const uint32_t *words, size_t words_len,
+    const double *masses, size_t masses_len, const double *residuals, size_t residuals_len,
+    const uint32_t *rule_words, size_t rule_words_len,
+    const double *rule_tolerances, size_t rule_tolerances_len,
+    uint32_t rows, uint32_t bodies, const double *multipliers, size_t multipliers_len,
+    uint32_t *rule_numbers, size_t rule_numbers_len, double *gaps, size_t gaps_len,
+    uint32_t *verdict, double gap[2],
+    double *work_doubles, size_t work_doubles_len, uint32_t *work_words, size_t work_words_len)
+{
+    KAPITSA_CHECK_ROOM
+    KAPITSA_RETURN_CONTROLLED(kapitsa_velocity_closing_gaps(
+        KAPITSA_CHECK_GIVEN(residuals), gaps, gaps_len, verdict, 1, gap, 2
+        KAPITSA_CHECK_WORK(KAPITSA_LEND, KAPITSA_LEND)))
+}
+
+KAPITSA_APART uint32_t kapitsa_first_refused_in(
+    uint32_t velocities, uint32_t number,
+    const double *numbers, size_t numbers_len, const uint32_t *words, size_t words_len,
+    const double *masses, size_t masses_len, const double *beside, size_t beside_len,
+    const uint32_t *rule_words, size_t rule_words_len,
+    const double *rule_tolerances, size_t rule_tolerances_len,
+    uint32_t rows, uint32_t bodies, uint32_t limit, uint32_t place[KAPITSA_PLACE_WORDS])
+{
+    KAPITSA_RETURN_CONTROLLED(kapitsa_first_refused(
+        velocities, number, numbers, numbers_len, words, words_len, masses, masses_len,
+        beside, beside_len, rule_words, rule_words_len, rule_tolerances, rule_tolerances_len,
+        rows, bodies, limit, place, KAPITSA_PLACE_WORDS))
 }
 
 KAPITSA_APART uint32_t kapitsa_inverse_in(const double inertia[9], double inverse[9])

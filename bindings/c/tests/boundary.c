@@ -20,6 +20,7 @@ int main(int count, char **arguments)
         lengths();
         margins();
         groups();
+        reports();
     }
     speeds = 0;
     centres();

@@ -137,7 +137,8 @@ static void counts_beyond(const struct function *f, const struct table *t)
         other.bodies = odd[k][1] ? odd[k][1] : t->bodies;
         other.mode = odd[k][2] ? odd[k][2] : t->mode;
         const int reads_mode = strstr(f->name, "solve") || strstr(f->name, "propose_");
-        const int reads_bodies = reads_mode || strstr(f->name, "check") || strstr(f->name, "margins");
+        const int reads_bodies = reads_mode || strstr(f->name, "check") || strstr(f->name, "margins")
+            || strstr(f->name, "gaps");
         if (strstr(f->name, "inverse") || (odd[k][1] && !reads_bodies) || (odd[k][2] && !reads_mode))
             continue;
         expect(called(f, &at, &other) == KAPITSA_REFUSED_LENGTH, "beyond the limits", f->name);

@@ -30,6 +30,7 @@
     X(S_GAP, double, 2, NULL)                                                                  \
     X(S_MARGIN_ROWS, uint32_t, n, NULL)                                                        \
     X(S_MARGINS, double, n, NULL)                                                              \
+    X(S_GAPS, double, n, NULL)                                                                 \
     X(S_GROUP_NUMBERS, uint32_t, n, NULL)                                                      \
     X(S_GROUP_ANSWERS, uint32_t, KAPITSA_GROUP_WORDS * n, NULL)                                \
     X(S_GROUP_MAXIMA, double, 2 * n, NULL)                                                     \
@@ -140,6 +141,10 @@ CALLS(kapitsa_closing_margins, GIVEN, D(6), W(7), W(8), D(9), W(10), D(11), D(12
       D(16), D(17), D(18))
 CALLS(kapitsa_velocity_closing_margins, GIVEN, D(6), W(7), W(8), D(9), W(10), D(11), D(12), W(13), D(14),
       D(15), D(16), D(17), D(18))
+CALLS(kapitsa_closing_gaps, GIVEN, D(6), W(7), D(8), W(9), D(10), D(11), W(12), D(13), D(14), D(15),
+      D(16), D(17))
+CALLS(kapitsa_velocity_closing_gaps, GIVEN, D(6), W(7), D(8), W(9), D(10), D(11), W(12), D(13), D(14),
+      D(15), D(16), D(17))
 CALLS(kapitsa_inverse_spd, D(0), D(1))
 CALLS(kapitsa_solve_in, SOLVES, D(6), D(7), D(8), W(9), W_AT(10), D_AT(11), D(12), W(13))
 CALLS(kapitsa_propose_in, SOLVES, D(6), D(7), D(8), W(9), W_AT(10), D(11), D_AT(12), D(13), W(14))
@@ -151,6 +156,8 @@ CALLS(kapitsa_check_in, GIVEN, D(6), W(7), W_AT(8), D_AT(9), D(10), W(11))
 CALLS(kapitsa_check_velocity_in, GIVEN, D(6), W(7), W_AT(8), D_AT(9), D(10), W(11))
 CALLS(kapitsa_margins_in, GIVEN, D(6), W(7), W(8), D(9), W_AT(10), D_AT(11), D(12), W(13))
 CALLS(kapitsa_margins_velocity_in, GIVEN, D(6), W(7), W(8), D(9), W_AT(10), D_AT(11), D(12), W(13))
+CALLS(kapitsa_gaps_in, GIVEN, D(6), W(7), D(8), W_AT(9), D_AT(10), D(11), W(12))
+CALLS(kapitsa_gaps_velocity_in, GIVEN, D(6), W(7), D(8), W_AT(9), D_AT(10), D(11), W(12))
 CALLS(kapitsa_inverse_in, D_AT(0), D_AT(1))
 
 #define PLACES S_NUMBERS, S_WORDS, S_MASSES, S_CENTRES, S_RULE_WORDS, S_TOLERANCES
@@ -182,6 +189,8 @@ const struct function functions[FUNCTIONS] = {
     RAW(kapitsa_velocity_closing_check, 1, SPEEDS, JUDGED, S_VERDICT, S_GAP, CHECK_WORK),
     RAW(kapitsa_closing_margins, 0, PLACES, JUDGED, LISTED, S_VERDICT, S_GAP, CHECK_WORK),
     RAW(kapitsa_velocity_closing_margins, 1, SPEEDS, JUDGED, LISTED, S_VERDICT, S_GAP, CHECK_WORK),
+    RAW(kapitsa_closing_gaps, 0, PLACES, JUDGED, S_GAPS, S_VERDICT, S_GAP, CHECK_WORK),
+    RAW(kapitsa_velocity_closing_gaps, 1, SPEEDS, JUDGED, S_GAPS, S_VERDICT, S_GAP, CHECK_WORK),
     RAW(kapitsa_inverse_spd, 2, S_INERTIA, S_INVERSE),
     IN(kapitsa_solve_in, 0, PLACES, PLACED, S_COUNTS_IN, S_MAXIMA_IN, SOLVE_ROOM),
     IN(kapitsa_propose_in, 0, PLACES, PLACED, S_PROPOSAL_IN, S_STARTED, S_MAXIMA_IN, SOLVE_ROOM),
@@ -193,6 +202,8 @@ const struct function functions[FUNCTIONS] = {
     IN(kapitsa_check_velocity_in, 1, SPEEDS, JUDGED, S_VERDICT_IN, S_GAP_IN, CHECK_ROOM),
     IN(kapitsa_margins_in, 0, PLACES, JUDGED, LISTED, S_VERDICT_IN, S_GAP_IN, CHECK_ROOM),
     IN(kapitsa_margins_velocity_in, 1, SPEEDS, JUDGED, LISTED, S_VERDICT_IN, S_GAP_IN, CHECK_ROOM),
+    IN(kapitsa_gaps_in, 0, PLACES, JUDGED, S_GAPS, S_VERDICT_IN, S_GAP_IN, CHECK_ROOM),
+    IN(kapitsa_gaps_velocity_in, 1, SPEEDS, JUDGED, S_GAPS, S_VERDICT_IN, S_GAP_IN, CHECK_ROOM),
     IN(kapitsa_inverse_in, 2, S_INERTIA_IN, S_INVERSE_IN),
 };
 

@@ -32,7 +32,7 @@ struct function {
     uint32_t (*call)(const struct lending *, const struct table *);
 };
 
-enum { FUNCTIONS = 22 };
+enum { FUNCTIONS = 26 };
 
 extern const struct function functions[FUNCTIONS];
 

@@ -181,9 +181,10 @@ void check_refused_by(uint32_t refusal, const char *what, const struct job *job)
 /* Solve, in every mode, and check. */
 void refused_by(uint32_t refusal, const char *what, const struct job *job);
 
-/* ---- the themes, each in its file; those of the first line for positions and for velocities */
+/* ---- the themes, each in its file; those of the first two lines for positions and for velocities */
 
 void modes(void), verdicts(void), shifts(void), rules(void), lengths(void), margins(void), groups(void);
+void reports(void);
 void centres(void), proposals(void), velocities(void), refusals(const char *table);
 
 #endif

@@ -158,4 +158,43 @@ unsafe extern "C" {
         impulses: *mut f64, impulses_len: usize,
         values: *mut f64, values_len: usize, sizes: *mut f64, sizes_len: usize,
     ) -> u32;
+
+    pub(crate) fn kapitsa_closing_gaps(
+        numbers: *const f64, numbers_len: usize, words: *const u32, words_len: usize,
+        masses: *const f64, masses_len: usize, centres: *const f64, centres_len: usize,
+        rule_words: *const u32, rule_words_len: usize,
+        rule_tolerances: *const f64, rule_tolerances_len: usize, rows: u32, bodies: u32,
+        multipliers: *const f64, multipliers_len: usize,
+        rule_numbers: *mut u32, rule_numbers_len: usize, gaps: *mut f64, gaps_len: usize,
+        verdict: *mut u32, verdict_len: usize, gap: *mut f64, gap_len: usize,
+        jacobians: *mut f64, jacobians_len: usize, links: *mut u32, links_len: usize,
+        mass_sizes: *mut f64, mass_sizes_len: usize,
+        multiplier_sizes: *mut f64, multiplier_sizes_len: usize,
+        impulses: *mut f64, impulses_len: usize,
+        values: *mut f64, values_len: usize, sizes: *mut f64, sizes_len: usize,
+    ) -> u32;
+
+    pub(crate) fn kapitsa_velocity_closing_gaps(
+        numbers: *const f64, numbers_len: usize, words: *const u32, words_len: usize,
+        masses: *const f64, masses_len: usize, residuals: *const f64, residuals_len: usize,
+        rule_words: *const u32, rule_words_len: usize,
+        rule_tolerances: *const f64, rule_tolerances_len: usize, rows: u32, bodies: u32,
+        multipliers: *const f64, multipliers_len: usize,
+        rule_numbers: *mut u32, rule_numbers_len: usize, gaps: *mut f64, gaps_len: usize,
+        verdict: *mut u32, verdict_len: usize, gap: *mut f64, gap_len: usize,
+        jacobians: *mut f64, jacobians_len: usize, links: *mut u32, links_len: usize,
+        mass_sizes: *mut f64, mass_sizes_len: usize,
+        multiplier_sizes: *mut f64, multiplier_sizes_len: usize,
+        impulses: *mut f64, impulses_len: usize,
+        values: *mut f64, values_len: usize, sizes: *mut f64, sizes_len: usize,
+    ) -> u32;
+
+    pub(crate) fn kapitsa_first_refused(
+        velocities: u32, number: u32,
+        numbers: *const f64, numbers_len: usize, words: *const u32, words_len: usize,
+        masses: *const f64, masses_len: usize, beside: *const f64, beside_len: usize,
+        rule_words: *const u32, rule_words_len: usize,
+        rule_tolerances: *const f64, rule_tolerances_len: usize,
+        rows: u32, bodies: u32, limit: u32, place: *mut u32, place_len: usize,
+    ) -> u32;
 }

@@ -1,6 +1,9 @@
 //! The closing check of a table.
 
-use crate::slices::{closing_margins, velocity_closing_margins, Judged};
+use crate::slices::{
+    closing_gaps, closing_margins, velocity_closing_gaps, velocity_closing_margins, Judged,
+    Measured,
+};
 use crate::{ByDimension, Refusal, Solver, Table, Verdict};
 
 /// A row, and the smallest tolerance at which it still closes: its measured gap, in metres or radians,
@@ -26,6 +29,8 @@ pub struct Checked {
     pub gap: ByDimension,
     /// The number of each row's rule.
     pub rule_numbers: Vec<u32>,
+    /// Each row's measured gap, closed or open: the smallest tolerance at which it closes.
+    pub gaps: Vec<f64>,
     /// Where the verdict is closed, each row with its gap: linear rows before angular ones, the largest
     /// first within each dimension, the lower row first among equals.
     pub margins: Option<Vec<Margin>>,
@@ -37,13 +42,23 @@ impl Checked {
         self.verdict == Verdict::Closed
     }
 
-    /// The measured gap of one row, where the verdict is closed and there is such a row.
+    /// The measured gap of one row, where there is such a row.
     pub fn row_gap(&self, row: usize) -> Option<f64> {
-        self.margins.as_ref()?.iter().find(|margin| margin.row == row).map(|margin| margin.gap)
+        self.gaps.get(row).copied()
     }
 
+    /// With the gaps that the list has, where there is one.
     fn of((judged, margins): (Judged, Option<Vec<Margin>>), rule_numbers: Vec<u32>) -> Self {
-        Self { verdict: judged.verdict, gap: judged.gap, rule_numbers, margins }
+        let mut gaps = vec![0.0; rule_numbers.len()];
+        for margin in margins.iter().flatten() {
+            gaps[margin.row] = margin.gap;
+        }
+        Self { verdict: judged.verdict, gap: judged.gap, rule_numbers, gaps, margins }
+    }
+
+    /// Where an open check writes each row's gap.
+    fn measured(&mut self) -> Measured<'_> {
+        Measured { rule_numbers: &mut self.rule_numbers, gaps: &mut self.gaps }
     }
 }
 
@@ -59,7 +74,8 @@ impl Solver {
     /// let [a, b] = [0; 2].map(|_| table.add_body(Body::point(2.0)));
     /// table.add_joint(Joint::between(a, b).row(Row::linear([1.0, 0.0, 0.0]).error(-0.25)));
     /// let mut solver = Solver::new(Rules::two(1e-6, 1e-6));
-    /// assert!(!solver.check(&table, &[0.0])?.is_closed()); // as scanned
+    /// let scanned = solver.check(&table, &[0.0])?;
+    /// assert!(!scanned.is_closed() && scanned.row_gap(0) >= Some(0.25));
     /// let solved = solver.solve(&mut table)?;
     /// let checked = solver.check(&table, &solved.solution)?;
     /// assert!(checked.is_closed());
@@ -70,15 +86,13 @@ impl Solver {
     pub fn check(&mut self, table: &Table, solution: &[f64]) -> Result<Checked, Refusal> {
         let mut rules = vec![0; table.rows()];
         let (numbers, tables) = (table.numbers(), table.tables());
-        let found = closing_margins(
-            numbers,
-            &tables,
-            &self.settings.rules,
-            solution,
-            &mut rules,
-            &mut self.work,
-        )?;
-        Ok(Checked::of(found, rules))
+        let (settings, work) = (&self.settings, &mut self.work);
+        let found = closing_margins(numbers, &tables, &settings.rules, solution, &mut rules, work)?;
+        let mut checked = Checked::of(found, rules);
+        if !checked.is_closed() {
+            closing_gaps(numbers, &tables, &settings.rules, solution, checked.measured(), work)?;
+        }
+        Ok(checked)
     }
 
     /// The same of speeds: by how much each row, with what its accumulated impulse gained since the
@@ -91,14 +105,20 @@ impl Solver {
     ) -> Result<Checked, Refusal> {
         let mut rules = vec![0; table.rows()];
         let (numbers, tables) = (table.numbers(), table.velocity_tables(residuals));
+        let (settings, work) = (&self.settings, &mut self.work);
         let found = velocity_closing_margins(
             numbers,
             &tables,
-            &self.settings.rules,
+            &settings.rules,
             solution,
             &mut rules,
-            &mut self.work,
+            work,
         )?;
-        Ok(Checked::of(found, rules))
+        let mut checked = Checked::of(found, rules);
+        if !checked.is_closed() {
+            let to = checked.measured();
+            velocity_closing_gaps(numbers, &tables, &settings.rules, solution, to, work)?;
+        }
+        Ok(checked)
     }
 }

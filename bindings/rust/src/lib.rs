@@ -33,6 +33,7 @@
 //! | solve for speeds, and check | [`Solver::solve_velocity`], [`Solver::check_velocity`] |
 //! | solve, look, then write | [`Solver::propose`], [`Proposal::commit`] |
 //! | solve several mechanisms, each by itself | [`Solver::solve_groups`], [`Solver::solve_velocity_groups`] |
+//! | find the row, body or rule that a refusal is about | [`Solver::first_refused`] |
 //! | make a body of a scanned inertia | [`Body::new`], [`inverse_spd`] |
 //! | set tolerances by kind of joint | [`Rules`] |
 //! | lend memory that is there already | [`slices`] |
@@ -54,6 +55,7 @@ mod inertia;
 mod joint;
 mod kinds;
 mod limits;
+mod place;
 mod proposal;
 mod refusal;
 mod row;
@@ -75,6 +77,7 @@ pub use kinds::{ByDimension, Dimension, Mode, Verdict};
 pub use limits::{
     MASS_NUMBERS, MAX_BODIES, MAX_KEY, MAX_PAIRS, MAX_ROWS, MAX_RULES, ROW_NUMBERS, ROW_WORDS,
 };
+pub use place::Place;
 pub use proposal::Proposal;
 pub use refusal::Refusal;
 pub use row::{Jacobian, Row};

@@ -36,6 +36,7 @@
 //! ```
 
 mod check;
+mod first;
 mod groups;
 mod propose;
 mod solve;
@@ -43,8 +44,10 @@ mod tables;
 mod work;
 
 pub use check::{
-    closing_check, closing_margins, velocity_closing_check, velocity_closing_margins, Judged,
+    closing_check, closing_gaps, closing_margins, velocity_closing_check, velocity_closing_gaps,
+    velocity_closing_margins, Judged, Measured,
 };
+pub use first::{first_refused, first_refused_velocity};
 pub use groups::{solve_groups, solve_velocity_groups};
 pub use propose::propose_position;
 pub use solve::{solve_position, solve_velocity, Delivered, VelocityDelivered};

@@ -117,7 +117,8 @@ fn what_a_check_tells() -> Result<(), Refusal> {
     assert_eq!(closed.rule_numbers, [0]);
     solver.settings_mut().rules.tolerances[0] = gap.next_down();
     let open = solver.check(&table, &solved.solution)?;
-    assert_eq!((open.verdict, open.gap, open.margins), (Verdict::Open, closed.gap, None));
+    assert_eq!((open.verdict, open.gap, &open.margins), (Verdict::Open, closed.gap, &None));
+    assert_eq!((open.gaps, open.rule_numbers), (closed.gaps, closed.rule_numbers));
     Ok(())
 }
 
@@ -175,4 +176,25 @@ fn speeds_of_rows() {
     let speeds = [[0.5, 9.0, 9.0, 0.0, 0.0, 0.25], [0.125, 0.0, 0.0, 0.0, 0.0, 1.0]];
     assert_eq!(table.row_speed(0, &speeds), 0.5 - 2.0 * 0.25 - 0.125);
     assert_eq!(table.row_speed(1, &speeds), 1.0 - 0.25);
+}
+
+#[test]
+fn where_it_was_refused() {
+    let mut table = p1();
+    let frame = table.add_body(Body::fixed());
+    table.add_joint(Joint::between(frame, frame).row(Row::linear(X)));
+    let mut solver = Solver::new(Rules::two(1e-6, 1e-6));
+    let refusal = solver.solve(&mut table).expect_err("a body and itself");
+    assert_eq!(refusal, Refusal::Row);
+    assert_eq!(solver.first_refused(&table, refusal), Some(Place::Row(1)));
+    let refusal = solver.solve_velocity(&mut table, &[0.0, 0.0]).expect_err("of speeds too");
+    assert_eq!(solver.first_refused_velocity(&table, &[0.0; 2], refusal), Some(Place::Row(1)));
+    let light = table.add_body(Body::point(0.0));
+    assert_eq!(solver.solve(&mut table).err(), Some(Refusal::Mass));
+    assert_eq!(solver.first_refused(&table, Refusal::Mass), Some(Place::Body(light)));
+    assert_eq!(solver.first_refused(&table, Refusal::Pivot), None);
+    solver.settings_mut().limit = 0;
+    assert_eq!(solver.first_refused(&table, Refusal::Opening), Some(Place::Limit));
+    solver.settings_mut().rules.tolerances[1] = -1.0;
+    assert_eq!(solver.first_refused(&table, Refusal::Rule), Some(Place::Rule(1)));
 }

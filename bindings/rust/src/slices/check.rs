@@ -1,4 +1,4 @@
-//! The closing checks, alone and with their lists of margins.
+//! The closing checks, alone, with each row's gap and with their lists of margins.
 
 use super::tables::counts;
 use super::{Tables, VelocityTables, Work};
@@ -12,6 +12,15 @@ pub struct Judged {
     pub verdict: Verdict,
     /// The measured gap of the linear rows and of the angular ones: no row's exact gap is larger.
     pub gap: ByDimension,
+}
+
+/// What a check with each row's gap writes, one a row.
+#[derive(Debug)]
+pub struct Measured<'a> {
+    /// The number of its rule.
+    pub rule_numbers: &'a mut [u32],
+    /// Its measured gap.
+    pub gaps: &'a mut [f64],
 }
 
 /// A closing check of the archive, in the default mode: what it judges. `$beside` is what it reads beside
@@ -142,4 +151,42 @@ pub fn velocity_closing_margins(
         [rows, gaps], work
     );
     Ok((judged, listed(judged, &rows, &gaps)))
+}
+
+/// [`closing_check`], and each row's measured gap, closed or open: `gaps`, one a row, has the smallest
+/// tolerance at which the row closes, and is written only where the answer is `Ok`.
+#[inline(never)]
+pub fn closing_gaps(
+    numbers: &[f64],
+    tables: &Tables,
+    rules: &Rules,
+    multipliers: &[f64],
+    to: Measured,
+    work: &mut Work,
+) -> Result<Judged, Refusal> {
+    let Measured { rule_numbers, gaps } = to;
+    #[rustfmt::skip]
+    let judged = check!(
+        kapitsa_closing_gaps, numbers, tables, centres, rules, multipliers, rule_numbers, [gaps], work
+    );
+    Ok(judged)
+}
+
+/// The same of speeds: [`velocity_closing_check`] with each row's gap, in m/s and rad/s.
+#[inline(never)]
+pub fn velocity_closing_gaps(
+    numbers: &[f64],
+    tables: &VelocityTables,
+    rules: &Rules,
+    multipliers: &[f64],
+    to: Measured,
+    work: &mut Work,
+) -> Result<Judged, Refusal> {
+    let Measured { rule_numbers, gaps } = to;
+    #[rustfmt::skip]
+    let judged = check!(
+        kapitsa_velocity_closing_gaps, numbers, tables, residuals, rules, multipliers, rule_numbers,
+        [gaps], work
+    );
+    Ok(judged)
 }
