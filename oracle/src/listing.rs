@@ -2,37 +2,41 @@
 //! lists its rows' gaps.
 
 use crate::job::{Answer, Job, OWNER, Solved};
-use crate::model::{self, Checked, Judged, Measured};
+use crate::model::{self, Checked, Judged, Measured, Place};
 use crate::{generator, job_file};
 use std::fmt::Write;
 use std::path::Path;
 
 pub fn of_file(file: &[u8]) -> String {
-    sheet(file, rows_and_bodies)
+    sheet(file, rows_and_bodies, nowhere)
 }
 
 /// The same of a job that has been read.
 pub fn of_read(job: &Job) -> String {
-    of_job(job, rows_and_bodies)
+    of_job(job, rows_and_bodies, nowhere)
 }
 
 /// The same lines up to the verdict and, where that is closed, the list.
 pub fn margins_of_file(file: &[u8]) -> String {
-    sheet(file, |text, job, _, checked| margins(text, job, checked))
+    sheet(file, |text, job, _, checked| margins(text, job, checked), nowhere)
 }
 
-/// The same lines up to the verdict and, where there is one, each row's measured number.
+/// The same lines up to the verdict and, where there is one, each row's measured number; of a refused
+/// job where it was turned back.
 pub fn gaps_of_file(file: &[u8]) -> String {
-    sheet(file, |text, job, _, checked| gaps(text, job, checked))
+    sheet(file, |text, job, _, checked| gaps(text, job, checked), refused_at)
 }
 
 /// What follows the verdict: of the job, its solve and its check.
 type Rest = fn(&mut String, &Job, &Solved, &Judged<Checked>);
 
-fn sheet(file: &[u8], rest: Rest) -> String {
+/// What follows the refusal of a job that was read.
+type Turned = fn(&Job, u32) -> String;
+
+fn sheet(file: &[u8], rest: Rest, turned: Turned) -> String {
     match job_file::read(file) {
         Err(refusal) => refused(refusal),
-        Ok(job) => of_job(&job, rest),
+        Ok(job) => of_job(&job, rest, turned),
     }
 }
 
@@ -40,10 +44,24 @@ fn refused(number: u32) -> String {
     format!("solve {number} 0 0\n")
 }
 
-fn of_job(job: &Job, rest: Rest) -> String {
+fn nowhere(_: &Job, _: u32) -> String {
+    String::new()
+}
+
+/// The first row, with its owner, the first body, or the limit.
+fn refused_at(job: &Job, number: u32) -> String {
+    match model::place(job, number) {
+        None => String::new(),
+        Some(Place::Row(row)) => format!("refused row {row} {}\n", job.word(row, OWNER)),
+        Some(Place::Body(body)) => format!("refused body {body}\n"),
+        Some(Place::Limit) => "refused limit\n".to_string(),
+    }
+}
+
+fn of_job(job: &Job, rest: Rest, turned: Turned) -> String {
     let solved = model::solve_file(job);
     match solved.answer {
-        Answer::Refused(number) => refused(number),
+        Answer::Refused(number) => refused(number) + &turned(job, number),
         Answer::Accepted { flag, count, linear, angular } => {
             let checked = model::closing_check(job, &solved.solution);
             let mut text = format!("solve 0 {count} {}\n", u32::from(flag));

@@ -30,7 +30,18 @@ pub fn margins(program: &str, files: u64, seed: u64, home: &Path) -> Result<bool
 
 /// The same of the program that lists gaps.
 pub fn gaps(program: &str, files: u64, seed: u64, home: &Path) -> Result<bool, String> {
-    held(program, files, seed, home, (listing::gaps_of_file, verdict))
+    held(program, files, seed, home, (listing::gaps_of_file, gapped))
+}
+
+/// The verdict, or the refusal and what kind of place it has.
+fn gapped(sheet: &str) -> String {
+    match sheet.lines().nth(1) {
+        Some(line) if line.starts_with("refused ") => {
+            let place = line.split(' ').nth(1).unwrap_or_default();
+            format!("{} at a `{place}`", refusal(sheet))
+        }
+        _ => verdict(sheet),
+    }
 }
 
 /// `solve` and the refusal, as a sheet has it.

@@ -2,3 +2,4 @@
 pub mod Ways
 pub mod Measured
 pub mod Behind
+pub mod Places

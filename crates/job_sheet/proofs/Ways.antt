@@ -7,7 +7,7 @@ use native.Mathlib.Omega.{arith}
 use lib.Dec.{leb, eqb}
 use lib.ListN.{length, getD}
 use lib.Ieee.{Float}
-use borrow.Author.Tests.{leb-true, le-leb, eq-eqb, eqb-true, not-true, not-false}
+use borrow.Author.Tests.{leb-true, le-leb, eq-eqb, ne-eqb, eqb-true, not-true, not-false}
 use Rattle.loops.proofs.Both.{both}
 use Rattle.loops.specs.Run.{going, ended, on, check, next}
 use Rattle.loops.specs.Judge.{judge, test}
@@ -44,40 +44,38 @@ use Rattle.closing_margins.specs.Held.{marginsLent, MarginsAlone}
 use Rattle.job_file.specs.Refusals as refusals
 use Rattle.job_file.specs.Layout.{massesEnd}
 use Rattle.job_file.specs.File.{trailerOf, sectionNumbers, sectionWords, sectionMasses, sectionCentres}
-use Rattle.job_file.specs.Job.{Job, jobWith, answerOf, openedOf, judgedOf}
+use Rattle.job_file.specs.Job.{Job, jobWith, fileNumbers, fileWords, fileMasses, fileCentres, answerOf, openedOf}
 use Rattle.job_file.specs.declared.trailer.Trailer.{Trailer}
 use Rattle.job_file.specs.declared.judge.FileJudged.{FileJudged}
 use Rattle.job_file.specs.declared.judge.FileJudged.the-variants.{Passed, Refused}
-use Rattle.job_file.proofs.Judgement.{passed, rows-inside, masses-inside}
+use Rattle.job_file.proofs.Judgement.{passed, rows-inside, masses-inside, judged-early, judged-4, judged-passed}
 use Rattle.job_file.proofs.Meaning.{passed-job, refused-job}
 use Rattle.listing.specs.Listing.{headLines, listingOf, marginLines, marginListing, refusedListing}
-use Rattle.job_sheet.specs.Sheet.{answerTo, checkIn, carriedBy, printedOf, marginsPrinted, gapsPrinted, shownOf, answerSheet, jobSheet, sheetOf}
+use Rattle.job_sheet.specs.Sheet.{answerTo, checkIn, carriedBy, printedOf, marginsPrinted, gapsPrinted, shownOf, turnedOf, answerSheet, jobSheet, fileTurned, sheetOf}
 use Rattle.job_sheet.specs.Room.{JobRoom, CheckRoom}
 use Rattle.job_sheet.specs.declared.which.Sheet.{Sheet}
 use Rattle.job_sheet.specs.declared.which.Sheet.the-variants as sheets
 
 -- ---- the file
 
-module _ (sheet : Sheet) (file : List ℕ) {judged : FileJudged} (e : judged ≡ judgedOf file) where
-  -- refused by 1 to 4
-  pub sheet-refused : {n : ℕ} → judged ≡ Refused n → refusedListing n ≡ sheetOf sheet file
-  unfolding sheetOf
-  sheet-refused {n} r = sym (on-ended _ _ _ (refused-job file n .0 (sym e ∙ r)))
-
--- what 1 to 4 have passed, 1 to 3 have
-opened-too : (t u : Trailer) (a b c d : Bool) → answerOf t ((1, a) ∷ (2, b) ∷ (3, c) ∷ (4, d) ∷ []) ≡ Passed u → answerOf t ((1, a) ∷ (2, b) ∷ (3, c) ∷ []) ≡ Passed u
+-- refused by 1 to 3, none of which is 4
+refused-3 : (t : Trailer) (a b c : Bool) {n : ℕ} → answerOf t ((1, a) ∷ (2, b) ∷ (3, c) ∷ []) ≡ Refused n → n ≤ 3
 unfolding answerOf judge test check on
-opened-too t u false b c d h = h
-opened-too t u true false c d h = h
-opened-too t u true true false d h = h
-opened-too t u true true true true h = h
-opened-too t u true true true false h = absurd (let z : _≡_ {A = ℕ} 0 1 = cc in omega arith)
+refused-3 t false b c {n} h = let z : _≡_ {A = ℕ} 1 n = cc in omega arith
+refused-3 t true false c {n} h = let z : _≡_ {A = ℕ} 2 n = cc in omega arith
+refused-3 t true true false {n} h = let z : _≡_ {A = ℕ} 3 n = cc in omega arith
+refused-3 t true true true h = absurd (let z : _≡_ {A = ℕ} 0 1 = cc in omega arith)
 
-module _ (file : List ℕ) (t : Trailer) (h : judgedOf file ≡ Passed t) where
-  opened : openedOf file ≡ Passed t
-  unfolding judgedOf openedOf
-  opened = opened-too _ _ _ _ _ _ h
+module _ (sheet : Sheet) (file : List ℕ) {opened : FileJudged} (e : opened ≡ openedOf file) where
+  few : {n : ℕ} → opened ≡ Refused n → n ≤ 3
+  unfolding openedOf
+  few r = refused-3 _ _ _ _ (sym e ∙ r)
 
+  pub sheet-refused : {n : ℕ} → opened ≡ Refused n → refusedListing n ≡ sheetOf sheet file
+  unfolding sheetOf fileTurned
+  sheet-refused {n} r = let l = few r in sym (on-ended _ _ _ (refused-job file n .0 (sym (judged-early file e r))) ∙ rw (ne-eqb n 4 (λ q. omega arith)))
+
+module _ (file : List ℕ) (t : Trailer) (opened : openedOf file ≡ Passed t) where
   same : t ≡ trailerOf file
   same = passed file refl opened .same
 
@@ -105,13 +103,23 @@ module _ (file : List ℕ) (t : Trailer) (h : judgedOf file ≡ Passed t) where
   pub masses-held : massesEnd (t .«mass_offset») (t .spare) (t .bodies) ≤ length file
   masses-held = masses-inside file refl opened
 
-  -- what is read is the job
-  pub sheet-read : (sheet : Sheet) {numbers : List Float} {words : List ℕ} {masses centres : List Float} → numbers ≡ sectionNumbers file (t .«row_offset») (t .rows) → words ≡ sectionWords file (t .«row_offset») (t .rows)
-      → masses ≡ sectionMasses file (t .«mass_offset») (t .spare) (t .bodies) → centres ≡ sectionCentres file (t .«mass_offset») (t .spare) (t .bodies) → jobSheet sheet (jobWith t numbers words masses centres) ≡ sheetOf sheet file
-  unfolding sheetOf
-  sheet-read sheet p q r c =
-      rw (p ∙ ap (λ (t : Trailer). sectionNumbers file (t .«row_offset») (t .rows)) same, q ∙ ap (λ (t : Trailer). sectionWords file (t .«row_offset») (t .rows)) same, r ∙ ap (λ (t : Trailer). sectionMasses file (t .«mass_offset») (t .spare) (t .bodies)) same, c ∙ ap (λ (t : Trailer). sectionCentres file (t .«mass_offset») (t .spare) (t .bodies)) same)
-      (sym (on-going _ _ _ (passed-job file h)))
+  module _ (sheet : Sheet) {fit : Bool} (four : fit ≡ refusals.keysFit file (t .«row_offset») (t .rows)) {numbers : List Float} {words : List ℕ} {masses centres : List Float}
+      (p : numbers ≡ sectionNumbers file (t .«row_offset») (t .rows)) (q : words ≡ sectionWords file (t .«row_offset») (t .rows))
+      (r : masses ≡ sectionMasses file (t .«mass_offset») (t .spare) (t .bodies)) (c : centres ≡ sectionCentres file (t .«mass_offset») (t .spare) (t .bodies)) where
+    read-is : jobWith t numbers words masses centres ≡ jobWith (trailerOf file) (fileNumbers file) (fileWords file) (fileMasses file) (fileCentres file)
+    read-is =
+        rw (p ∙ ap (λ (t : Trailer). sectionNumbers file (t .«row_offset») (t .rows)) same, q ∙ ap (λ (t : Trailer). sectionWords file (t .«row_offset») (t .rows)) same, r ∙ ap (λ (t : Trailer). sectionMasses file (t .«mass_offset») (t .spare) (t .bodies)) same, c ∙ ap (λ (t : Trailer). sectionCentres file (t .«mass_offset») (t .spare) (t .bodies)) same)
+        (ap (λ (t : Trailer). jobWith t (fileNumbers file) (fileWords file) (fileMasses file) (fileCentres file)) same)
+
+    -- what is read is the job, where 4 passes it
+    pub sheet-read : not fit ≡ false → jobSheet sheet (jobWith t numbers words masses centres) ≡ sheetOf sheet file
+    unfolding sheetOf
+    sheet-read n = ap (jobSheet sheet) (read-is ∙ ap (λ (t : Trailer). jobWith t (fileNumbers file) (fileWords file) (fileMasses file) (fileCentres file)) (sym same)) ∙ sym (on-going _ _ _ (passed-job file (sym (judged-passed file refl opened four n))))
+
+    -- and where it does not, the row is one of those read
+    pub sheet-turned : not fit ≡ true → turnedOf sheet (jobWith t numbers words masses centres) 4 ≡ sheetOf sheet file
+    unfolding sheetOf fileTurned
+    sheet-turned n = ap (λ (j : Job). turnedOf sheet j 4) read-is ∙ sym (on-ended _ _ _ (refused-job file 4 .0 (sym (judged-4 file refl opened four n))))
 
 -- ---- the memory
 
@@ -231,10 +239,16 @@ module _ (sheet : Sheet) (j : Job) (solution impulses newCentres : List Float) w
   accepted-in (going ((flag, count, v), f)) e = let p = accepted-same (ap (λ (o : Outcome). o .answer) e) in let q = ap (λ (o : Outcome). o .lent) e in rw (p, ← q)
   accepted-in (ended n) e = never (sym (ap (λ (o : Outcome). o .answer) e))
 
-  refused-in : (a : Answer) {n : ℕ} {after : Lent} → outcomeOf (j .rows) before a ≡ record { answer = answers.Refused n; lent = after } → refusedListing n ≡ answerSheet sheet j a
+  refused-in : (a : Answer) {n : ℕ} {after : Lent} → outcomeOf (j .rows) before a ≡ record { answer = answers.Refused n; lent = after } → turnedOf sheet j n ≡ answerSheet sheet j a
   unfolding proposalOf committedOf answerSheet
   refused-in (going ((flag, count, v), f)) e = never (ap (λ (o : Outcome). o .answer) e)
-  refused-in (ended n) e = ap refusedListing (refused-same (ap (λ (o : Outcome). o .answer) e))
+  refused-in (ended n) e = ap (turnedOf sheet j) (refused-same (ap (λ (o : Outcome). o .answer) e))
+
+  -- whose rows are as they were
+  rows-kept : (a : Answer) {n : ℕ} {after : Lent} → outcomeOf (j .rows) before a ≡ record { answer = answers.Refused n; lent = after } → after .numbers ≡ j .numbers
+  unfolding proposalOf committedOf
+  rows-kept (going ((flag, count, v), f)) e = never (ap (λ (o : Outcome). o .answer) e)
+  rows-kept (ended n) e = sym (ap (λ (o : Outcome). o .lent .numbers) e)
 
 -- the job's own numbers do not matter to what is printed
 numbers-aside : (sheet : Sheet) (t : Trailer) (own other : List Float) (words : List ℕ) (masses centres : List Float) (r : PositionPcgResult) (numbers solution impulses newCentres : List Float)
@@ -246,7 +260,7 @@ numbers-aside sheets.Gaps t own other words masses centres r numbers solution im
 
 -- 26, which the program judges
 module _ (sheet : Sheet) (t : Trailer) (numbers : List Float) (words : List ℕ) (masses centres : List Float) {fit : Bool} (p : fit ≡ passes26 (t .tolerance)) where
-  pub job-odd : not fit ≡ true → refusedListing 26 ≡ jobSheet sheet (jobWith t numbers words masses centres)
+  pub job-odd : not fit ≡ true → turnedOf sheet (jobWith t numbers words masses centres) 26 ≡ jobSheet sheet (jobWith t numbers words masses centres)
   unfolding jobSheet answerTo answerSheet test check on
   job-odd n = rw (← p, not-true fit n)
 
@@ -256,9 +270,12 @@ module _ (sheet : Sheet) (t : Trailer) (numbers : List Float) (words : List ℕ)
     unfolding answerTo test check on
     solved = rw (← p, not-false fit n, ← f) (s .answered)
 
-    pub job-refused : {n : ℕ} → answer ≡ answers.Refused n → refusedListing n ≡ jobSheet sheet (jobWith t numbers words masses centres)
+    pub job-refused : {n : ℕ} → answer ≡ answers.Refused n → turnedOf sheet (jobWith t (after .numbers) words masses centres) n ≡ jobSheet sheet (jobWith t numbers words masses centres)
     unfolding jobSheet
-    job-refused {n} e = refused-in sheet (jobWith t numbers words masses centres) solution impulses newCentres (answerTo (jobWith t numbers words masses centres)) (solved ∙ ap (λ a. record { answer = a; lent = after }) e)
+    job-refused {n} e =
+        let o = solved ∙ ap (λ a. record { answer = a; lent = after }) e in
+        let j = jobWith t numbers words masses centres in
+        ap (λ (l : List Float). turnedOf sheet (jobWith t l words masses centres) n) (rows-kept sheet j solution impulses newCentres (answerTo j) o) ∙ refused-in sheet j solution impulses newCentres (answerTo j) o
 
     pub job-accepted : {r : PositionPcgResult} (rows : List Float) → answer ≡ answers.Accepted r → shownOf sheet (jobWith t rows words masses centres) r (after .numbers) (after .solution) (after .impulses) (after .centres) ≡ jobSheet sheet (jobWith t numbers words masses centres)
     unfolding jobSheet

@@ -1,7 +1,9 @@
 -- What the programs print of a file: document 01, "Sheets to try": "the job program, reading standard input, prints", document 02, m: the margins program, and the gaps program.
-use Prim.Native.Nat.{ℕ}
-use mathlib.Core.Bool.{true}
-use mathlib.Core.List.{List}
+use Prim.Native.Nat.{ℕ, _+_, _*_}
+use mathlib.Core.Bool.{true, cond}
+use mathlib.Core.List.{List, _++_}
+use lib.Dec.{eqb}
+use lib.ListN.{getD}
 use lib.Ieee.{Float}
 use Rattle.loops.specs.Run.{going, ended, on, next}
 use Rattle.loops.specs.Judge.{test}
@@ -10,6 +12,7 @@ use Rattle.kapitsa_joint.specs.Table.{tableOf}
 use Rattle.kapitsa_joint.specs.Centre.{centresIn}
 use Rattle.joint_refusals.specs.Refusals.{centresFinite}
 use Rattle.kapitsa_joint.specs.declared.maxima.Maxima.{Maxima}
+use Rattle.kapitsa_joint.specs.declared.kind.Kind.the-variants.{Position}
 use Rattle.joint_refusals.specs.Tolerances.{passes26}
 use Rattle.rules.specs.Rules.{twoRules}
 use Rattle.mass_operator.specs.Flat.{coefficients}
@@ -25,7 +28,12 @@ use Rattle.check_measure.specs.Verdict.{reach}
 use Rattle.check_answer.specs.Answer.{numberOf, gapOf, checkOf}
 use Rattle.check_answer.specs.declared.CheckAnswer.{CheckAnswer}
 use Rattle.closing_margins.specs.Ranked.{marginRows, marginNumbers}
-use Rattle.job_file.specs.Job.{Job, jobOf}
+use Rattle.first_refusal.specs.Room.{placeIn}
+use Rattle.first_refusal.specs.declared.place.Place.{Place}
+use Rattle.first_refusal.specs.declared.place.Place.the-variants as places
+use Rattle.job_file.specs.File.{trailerOf}
+use Rattle.job_file.specs.Job.{Job, jobWith, jobOf, fileNumbers, fileWords, fileMasses, fileCentres}
+use Rattle.listing.specs.Lines.{refusedRowLine, refusedBodyLine, refusedLimitLine}
 use Rattle.listing.specs.Listing.{listingOf, marginListing, gapListing, refusedListing}
 use Rattle.job_sheet.specs.declared.which.Sheet.{Sheet}
 use Rattle.job_sheet.specs.declared.which.Sheet.the-variants as sheets
@@ -72,14 +80,38 @@ shownOf sheets.Job j r numbers solution impulses newCentres = printedOf j r numb
 shownOf sheets.Margins j r numbers solution impulses newCentres = marginsPrinted j r numbers solution
 shownOf sheets.Gaps j r numbers solution impulses newCentres = gapsPrinted j r numbers solution
 
+-- ---- of a refused job
+
+-- the first row with its owner, the first body, or the limit; the two rules are no part of the file, so that none is named
+unfoldable pub placeListing : ℕ → List ℕ → Place → List ℕ
+placeListing number words (places.Row i) = refusedListing number ++ refusedRowLine i (getD words (8 * i + 6) 0)
+placeListing number words (places.Body b) = refusedListing number ++ refusedBodyLine b
+placeListing number words (places.Rule r) = refusedListing number
+placeListing number words places.Limit = refusedListing number ++ refusedLimitLine
+placeListing number words places.None = refusedListing number
+
+-- the gaps program's: where the number was met in what the solve was given
+unfoldable pub gapsTurned : Job → ℕ → List ℕ
+gapsTurned j number = placeListing number (j .words) (placeIn Position (j .rows) (j .bodies) (j .numbers) (j .words) (j .masses) (j .centres) (twoRules (j .tolerance)) number (j .limit))
+
+-- "its first line only, zeros after the number", by the other two
+unfoldable pub turnedOf : Sheet → Job → ℕ → List ℕ
+turnedOf sheets.Job j number = refusedListing number
+turnedOf sheets.Margins j number = refusedListing number
+turnedOf sheets.Gaps j number = gapsTurned j number
+
 -- ---- what the programs share
 unfoldable pub answerSheet : Sheet → Job → Answer → List ℕ
 answerSheet sheet j (going ((flag, count, v), f)) = shownOf sheet j (resultOf flag count f) (withMultipliers (j .numbers) (f .accumulated) (j .rows)) (v .solution) (f .impulses) (f .centres)
-answerSheet sheet j (ended number) = refusedListing number
+answerSheet sheet j (ended number) = turnedOf sheet j number
 
 unfoldable pub jobSheet : Sheet → Job → List ℕ
 jobSheet sheet j = answerSheet sheet j (answerTo j)
 
+-- a file that is no job: 4 is met in rows that can be read, 1 to 3 before there is any
+unfoldable pub fileTurned : Sheet → List ℕ → ℕ → List ℕ
+fileTurned sheet file number = cond (eqb number 4) (turnedOf sheet (jobWith (trailerOf file) (fileNumbers file) (fileWords file) (fileMasses file) (fileCentres file)) 4) (refusedListing number)
+
 -- of every file
 unfoldable pub sheetOf : Sheet → List ℕ → List ℕ
-sheetOf sheet file = on (jobOf file) (jobSheet sheet) refusedListing
+sheetOf sheet file = on (jobOf file) (jobSheet sheet) (fileTurned sheet file)

@@ -5,6 +5,7 @@ pub mod margins; // margins.rt: an accepted job, checked, and the margins of its
 pub mod program; // program.rt: standard input to lines
 pub mod sheet; // sheet.rt: the file judged and read, and its job solved
 pub mod solved; // solved.rt: an accepted job, by the program that prints it
+pub mod turned; // turned.rt: a refused job, by the program that prints it
 pub mod which; // which.rt: the three programs
 
 pub use program::print_gaps;

@@ -2,16 +2,18 @@
 ghost use mathlib.Core.Path.{_≡_};
 ghost use Prim.Native.Nat.{_≤_};
 ghost use lib.ListN.{length};
-ghost use Rattle.job_file.specs.Job.{jobWith, judgedOf};
+ghost use Rattle.job_file.specs.Job.{jobWith, openedOf};
 ghost use Rattle.job_file.specs.declared.judge.FileJudged.the-variants.{Passed};
 ghost use Rattle.listing.specs.Written.{Wrote};
 ghost use Rattle.job_sheet.specs.Sheet.{jobSheet, sheetOf};
 ghost use Rattle.job_sheet.specs.Room.{JobRoom};
 use crate::solved::write_solved;
+use crate::turned::write_turned;
 use crate::which::Sheet;
 use job_file::FileJudged;
 use job_file::Trailer;
-use job_file::judge_file;
+use job_file::judge::judge_trailer;
+use job_file::keys_fit;
 use job_file::read_centres;
 use job_file::read_masses;
 use job_file::read_rows;
@@ -38,7 +40,7 @@ pub fn write_job(
     ensures { λ r. ⌜ Wrote (now (out .entry)) 0 (jobSheet sheet (jobWith trailer (now (numbers .entry)) (now (words .entry)) (now (masses .entry)) (now (centres .entry)))) (now (out .exit)) r ⌝ }
 {
     if !tolerances_fit(trailer.tolerance) {
-        return write_refusal(26, out);
+        return write_turned(sheet, 26, trailer, numbers, words, masses, centres, out);
     }
     let mut rule_numbers: [u32; 128] = [0; 128];
     let rows = trailer.rows as usize;
@@ -60,7 +62,9 @@ pub fn write_job(
         &mut rule_numbers[..rows],
     );
     match answer {
-        PositionPcg::Refused(number) => write_refusal(number, out),
+        PositionPcg::Refused(number) => {
+            write_turned(sheet, number, trailer, numbers, words, masses, centres, out)
+        }
         PositionPcg::Accepted(result) => write_solved(
             sheet,
             trailer,
@@ -77,7 +81,7 @@ pub fn write_job(
     }
 }
 
-// A file that has passed 1 to 4, with memory as long as its counts call for.
+// A file that has passed 1 to 3, with memory as long as its counts call for. It is read before 4 is judged, which may name a row.
 fn write_file(
     sheet: Sheet,
     file: &[u8],
@@ -91,7 +95,7 @@ fn write_file(
     new_centres: &mut [f64],
     out: &mut [u8],
 ) -> usize
-    requires { ⌜ judgedOf (now file) ≡ Passed trailer ⌝ }
+    requires { ⌜ openedOf (now file) ≡ Passed trailer ⌝ }
     requires { ⌜ JobRoom trailer (length (now numbers)) (length (now words)) (length (now masses)) (length (now centres)) (length (now solution)) (length (now impulses)) (length (now «new_centres»)) ⌝ }
     requires { ⌜ 16384 ≤ length (now out) ⌝ }
     ensures { λ r. ⌜ Wrote (now (out .entry)) 0 (sheetOf sheet (now (file .entry))) (now (out .exit)) r ⌝ }
@@ -103,6 +107,9 @@ fn write_file(
     read_rows(file, row_offset, rows, numbers, words);
     read_masses(file, mass_offset, trailer.spare, bodies, masses);
     read_centres(file, mass_offset, trailer.spare, bodies, centres);
+    if !keys_fit(file, row_offset, rows) {
+        return write_turned(sheet, 4, trailer, numbers, words, masses, centres, out);
+    }
     write_job(
         sheet,
         trailer,
@@ -119,7 +126,7 @@ fn write_file(
 
 // Memory for what the program takes: 128 rows and 64 bodies.
 fn write_passed(sheet: Sheet, file: &[u8], trailer: Trailer, out: &mut [u8]) -> usize
-    requires { ⌜ judgedOf (now file) ≡ Passed trailer ⌝ }
+    requires { ⌜ openedOf (now file) ≡ Passed trailer ⌝ }
     requires { ⌜ 16384 ≤ length (now out) ⌝ }
     ensures { λ r. ⌜ Wrote (now (out .entry)) 0 (sheetOf sheet (now (file .entry))) (now (out .exit)) r ⌝ }
 {
@@ -157,8 +164,8 @@ pub fn write_sheet(sheet: Sheet, file: &[u8], out: &mut [u8]) -> usize
     requires { ⌜ 16384 ≤ length (now out) ⌝ }
     ensures { λ r. ⌜ Wrote (now (out .entry)) 0 (sheetOf sheet (now (file .entry))) (now (out .exit)) r ⌝ }
 {
-    let judged = judge_file(file);
-    match judged {
+    let opened = judge_trailer(file);
+    match opened {
         FileJudged::Refused(number) => write_refusal(number, out),
         FileJudged::Passed(trailer) => write_passed(sheet, file, trailer, out),
     }

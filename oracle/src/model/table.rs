@@ -168,7 +168,7 @@ pub fn tolerances_fit(job: &Job) -> bool {
 }
 
 /// The Rust's opening test over all rows (refusal 5).
-fn opens(job: &Job) -> bool {
+pub fn opens(job: &Job) -> bool {
     let mut rows = job.numbers.chunks_exact(ROW_NUMBERS).zip(job.words.chunks_exact(ROW_WORDS));
     let [lower, upper] = job.kind.bounds();
     rows.all(|(numbers, words)| {
