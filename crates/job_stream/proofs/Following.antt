@@ -16,7 +16,7 @@ use Rattle.listing.specs.Listing.{refusedListing}
 use Rattle.job_file.specs.Refusals.{sizeFits, passes1}
 use Rattle.job_file.specs.Job.{jobOf}
 use Rattle.job_sheet.specs.declared.which.Sheet.{Sheet}
-use Rattle.job_sheet.specs.Sheet.{sheetOf}
+use Rattle.job_sheet.specs.Sheet.{fileTurned, sheetOf}
 use Rattle.job_sheet.specs.declared.which.Sheet.the-variants as sheets
 use Rattle.job_stream.specs.Stream.{jobLine, frameLength, frontFile, frontSheet, frontText}
 use Rattle.job_stream.specs.Chunk.{ready, place, rest, chunkText}
@@ -31,7 +31,7 @@ long-not-1 file h = rw (lt-leb (length file) 65536 h) (go (leb 48 (length file))
     go false = refl
 
 pub long-refused : (sheet : Sheet) (file : List ℕ) → 65536 < length file → sheetOf sheet file ≡ refusedListing 1
-unfolding sheetOf jobOf judge test check on
+unfolding sheetOf fileTurned jobOf judge test check on
 long-refused sheet file h = rw (long-not-1 file h)
 
 -- ---- the job at the front
