@@ -2,6 +2,7 @@
 use mathlib.Core.Path.{refl}
 use borrow.Author.Needs.{needs}
 use Rattle.job_sheet.proofs.Ways.{rows-held, masses-held}
+use Rattle.groups_sheet.proofs.Opened.{opened-first}
 use Rattle.groups_sheet.proofs.Whole.{read-is}
 use Rattle.groups_sheet.proofs.Alone.{bench-after}
 use Rattle.groups_sheet.proofs.bench.read_bench.Statement.{statement}
@@ -15,9 +16,9 @@ read-bench-spec =
     (λ c. search needs)  -- cast-bodies
     (λ c. search needs)  -- cast-row-offset
     (λ c. search needs)  -- cast-mass-offset
-    (λ c κs. (rows-held ((c .before .before .before .before .before .before .before .before .before .before .before .before) .args .file .now) ((c .before .before .before .before .before .before .before .before .before .before .before .before) .args .trailer) ((c .before .before .before .before .before .before .before .before .before .before .before .before) .pre .0), (c .before .before .before .before .before .before .before .before .before .before .before .before) .pre .1 .numbers-long, (c .before .before .before .before .before .before .before .before .before .before .before .before) .pre .1 .words-long))  -- read-rows-requires
-    (λ c κs. (masses-held ((c .before .before .before .before .before .before .before .before .before .before .before .before .before .before .before .before .before .before) .args .file .now) ((c .before .before .before .before .before .before .before .before .before .before .before .before .before .before .before .before .before .before) .args .trailer) ((c .before .before .before .before .before .before .before .before .before .before .before .before .before .before .before .before .before .before) .pre .0), (c .before .before .before .before .before .before .before .before .before .before .before .before .before .before .before .before .before .before) .pre .1 .masses-long))  -- read-masses-requires
-    (λ c κs. (masses-held ((c .before .before .before .before .before .before .before .before .before .before .before .before .before .before .before .before .before .before .before .before .before .before) .args .file .now) ((c .before .before .before .before .before .before .before .before .before .before .before .before .before .before .before .before .before .before .before .before .before .before) .args .trailer) ((c .before .before .before .before .before .before .before .before .before .before .before .before .before .before .before .before .before .before .before .before .before .before) .pre .0), (c .before .before .before .before .before .before .before .before .before .before .before .before .before .before .before .before .before .before .before .before .before .before) .pre .1 .centres-long))  -- read-centres-requires
+    (λ c κs. (rows-held ((c .before .before .before .before .before .before .before .before .before .before .before .before) .args .file .now) ((c .before .before .before .before .before .before .before .before .before .before .before .before) .args .trailer) (opened-first ((c .before .before .before .before .before .before .before .before .before .before .before .before) .args .file .now) ((c .before .before .before .before .before .before .before .before .before .before .before .before) .args .trailer) ((c .before .before .before .before .before .before .before .before .before .before .before .before) .pre .0)), (c .before .before .before .before .before .before .before .before .before .before .before .before) .pre .1 .numbers-long, (c .before .before .before .before .before .before .before .before .before .before .before .before) .pre .1 .words-long))  -- read-rows-requires
+    (λ c κs. (masses-held ((c .before .before .before .before .before .before .before .before .before .before .before .before .before .before .before .before .before .before) .args .file .now) ((c .before .before .before .before .before .before .before .before .before .before .before .before .before .before .before .before .before .before) .args .trailer) (opened-first ((c .before .before .before .before .before .before .before .before .before .before .before .before .before .before .before .before .before .before) .args .file .now) ((c .before .before .before .before .before .before .before .before .before .before .before .before .before .before .before .before .before .before) .args .trailer) ((c .before .before .before .before .before .before .before .before .before .before .before .before .before .before .before .before .before .before) .pre .0)), (c .before .before .before .before .before .before .before .before .before .before .before .before .before .before .before .before .before .before) .pre .1 .masses-long))  -- read-masses-requires
+    (λ c κs. (masses-held ((c .before .before .before .before .before .before .before .before .before .before .before .before .before .before .before .before .before .before .before .before .before .before) .args .file .now) ((c .before .before .before .before .before .before .before .before .before .before .before .before .before .before .before .before .before .before .before .before .before .before) .args .trailer) (opened-first ((c .before .before .before .before .before .before .before .before .before .before .before .before .before .before .before .before .before .before .before .before .before .before) .args .file .now) ((c .before .before .before .before .before .before .before .before .before .before .before .before .before .before .before .before .before .before .before .before .before .before) .args .trailer) ((c .before .before .before .before .before .before .before .before .before .before .before .before .before .before .before .before .before .before .before .before .before .before) .pre .0)), (c .before .before .before .before .before .before .before .before .before .before .before .before .before .before .before .before .before .before .before .before .before .before) .pre .1 .centres-long))  -- read-centres-requires
     (λ c κs. bench-after ((c .before .before .before .before .before .before .before .before .before .before .before .before .before .before .before .before .before .before .before .before .before .before .before .before .before .before .before .before .before .before) .pre .1) ((c .before .before .before .before .before .before .before .before .before .before .before .before .before .before .before .before .numbers) .given) ((c .before .before .before .before .before .before .before .before .before .before .before .before .before .before .words) .given) ((c .before .before .before .before .before .before .before .before .before .before .masses) .given) ((c .before .before .before .before .before .before .centres) .given) refl)  -- group-job-requires
     (λ c. search needs)  -- same-length
     (λ c. search needs)  -- same-length-2
