@@ -10,10 +10,8 @@ files at the edges of refusals 1 and 2, and P1 at tolerances on both sides of 26
 masses have their centres: as many generated ones, the edges of 1 and 2 where a mass has 104 bytes, and P1 at places
 of every kind; and one of spare 0 that 17 turns back by a new centre.
 
-Of the same files, the first two for each refusal, flag and verdict go to crates/gap_sheets, with what the
-program that lists gaps prints.
-
-A length of 2^32 - 1 ends the list. A second list follows, of jobs with 8 rows and 4 bodies that go through
+A length of 2^32 - 1 ends a list. A second list has of the same files the first two for each refusal, flag and
+verdict, with what the program that lists gaps prints; a third has jobs with 8 rows and 4 bodies that go through
 the functions for C in memory for mode 1, with centres and without. Behind it are two files as the job program finds
 them, with no length: it reads 65,537 bytes, which are refused by 1 though they begin with a whole file, and then
 what is left, the longest sheet there is.
@@ -29,7 +27,6 @@ import tempfile
 
 HERE = pathlib.Path(__file__).resolve().parent
 CRATE = HERE.parent / "crates" / "job_sheets"
-GAPS = HERE.parent / "crates" / "gap_sheets"
 LONGEST = 8192
 SAMPLES = ("clock_train", "clock_train_centres", "four_bar", "four_bar_centres", "p1")
 LEAST = math.nextafter(0.0, 1.0)
@@ -284,17 +281,14 @@ def sheet_of(run, file, folder, command="job"):
     return subprocess.run([run, command, path], check=True, capture_output=True).stdout
 
 
-def write_gaps(run, files, sheets, folder):
-    """The first two files of each kind of sheet, and what the program that lists gaps prints of them."""
-    seen, chosen = {}, []
+def first_two(files, sheets):
+    """The first two files of each kind of sheet."""
+    seen = {}
     for file, sheet in zip(files, sheets):
         alike = kind(sheet)
         seen[alike] = seen.get(alike, 0) + 1
         if seen[alike] <= 2 and len(file) <= LONGEST:
-            chosen.append(file)
-    (GAPS / "stdin").write_bytes(listed(chosen))
-    (GAPS / "stdout").write_bytes(b"".join(sheet_of(run, file, folder, "gapped") for file in chosen))
-    print(f"{len(chosen)} job files for the gaps")
+            yield file
 
 
 def main():
@@ -309,13 +303,14 @@ def main():
         files += [*generated(run, folder, "8", "1"), *centred_edges(make), *centres(make), *from_the_origin(make)]
         through_c, found = list(lent(make)), list(as_found(make))
         sheets = [sheet_of(run, file, folder) for file in files]
-        write_gaps(run, files, sheets, folder)
+        gaping = list(first_two(files, sheets))
+        sheets += [sheet_of(run, file, folder, "gapped") for file in gaping]
         sheets += [told or sheet_of(run, file, folder) for file, told in through_c]
         sheets += [sheet_of(run, file, folder) for file in found]
-    lists = listed(files) + listed([file for file, _ in through_c])
+    lists = listed(files) + listed(gaping) + listed([file for file, _ in through_c])
     (CRATE / "stdin").write_bytes(lists + b"".join(found))
     (CRATE / "stdout").write_bytes(b"".join(sheets))
-    print(f"{len(files)} job files, {len(through_c)} for C, {len(found)} as the job program finds them")
+    print(f"{len(files)} job files, {len(gaping)} for the gaps, {len(through_c)} for C, {len(found)} as the job program finds them")
 
 
 main()

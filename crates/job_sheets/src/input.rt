@@ -24,15 +24,15 @@ fn next_file(space: &mut [u8]) -> usize
     4 + io::read_full(STDIN_FILENO, &mut space[4..end])
 }
 
-fn print_sheet(file: &[u8], text: &mut [u8])
+fn print_sheet(sheet: Sheet, file: &[u8], text: &mut [u8])
     requires { ⌜ 16384 ≤ length (now text) ⌝ }
 {
-    let end = write_sheet(Sheet::Job, file, text);
+    let end = write_sheet(sheet, file, text);
     io::write_all(STDOUT_FILENO, &text[..end]);
 }
 
 // A list has far fewer files than are read at most.
-pub fn print_sheets(space: &mut [u8], text: &mut [u8])
+pub fn print_sheets(sheet: Sheet, space: &mut [u8], text: &mut [u8])
     requires { ⌜ 4 ≤ length (now space) ⌝ }
     requires { ⌜ 16384 ≤ length (now text) ⌝ }
 {
@@ -42,7 +42,7 @@ pub fn print_sheets(space: &mut [u8], text: &mut [u8])
         if end < 4 {
             return;
         }
-        print_sheet(&space[4..end], text);
+        print_sheet(sheet, &space[4..end], text);
         left -= 1;
     }
 }
