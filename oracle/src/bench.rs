@@ -163,6 +163,7 @@ fn implemented<'a>(implementation: &'a Implementation, job: &Job) -> Solve<'a> {
         centres: vec![0.0; CENTRE_NUMBERS * job.bodies as usize],
         rule_numbers: vec![0; job.rows as usize],
     };
+    implementation.lend(&job);
     Box::new(move || {
         black_box(implementation.solve(&mut job, &rules, &mut to));
     })
@@ -197,7 +198,7 @@ pub fn tables(library: Option<&str>) -> Result<bool, String> {
 
 /// One table: minimum and median in µs for each, and ratios of minima.
 fn table(library: Option<&str>, kind: Kind, modes: &[u32]) -> Result<(), String> {
-    let implementation = library.map(|path| Implementation::open(path, kind)).transpose()?;
+    let implementation = library.map(|path| Implementation::open_timed(path, kind)).transpose()?;
     if implementation.as_ref().is_some_and(|own| !own.solves()) {
         return Err("the library has no function that solves".to_string());
     }

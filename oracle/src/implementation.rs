@@ -53,6 +53,9 @@ type GroupVelocities = unsafe extern "C" fn(
 
 type Cleared = unsafe extern "C" fn() -> c_int;
 
+/// Carves the work memory for these rows, bodies and mode.
+type Lend = unsafe extern "C" fn(u32, u32, u32);
+
 #[derive(Clone, Copy)]
 enum Solve {
     Position(SolvePosition),
@@ -105,6 +108,7 @@ pub struct Implementation {
     close: Close,
     margins: Margins,
     cleared: Option<Cleared>,
+    lend: Option<Lend>,
 }
 
 /// The functions that solve, solve by groups, check, and check with a list.
@@ -148,7 +152,29 @@ impl Implementation {
                 .function("oracle_work_cleared")
                 .ok()
                 .map(|found| unsafe { std::mem::transmute::<*mut c_void, Cleared>(found) }),
+            lend: None,
         })
+    }
+
+    /// The same, solving over work memory that `lend` carves once, where the library can.
+    pub fn open_timed(path: &str, kind: Kind) -> Result<Self, String> {
+        let (library, own) = (Library::open(path)?, Self::open(path, kind)?);
+        let name = match kind {
+            Kind::Position => "oracle_time_position",
+            Kind::Velocity => "oracle_time_velocity",
+        };
+        let (Ok(solve), Ok(lend)) = (library.function(name), library.function("oracle_lend")) else {
+            return Ok(own);
+        };
+        let lend = unsafe { std::mem::transmute::<*mut c_void, Lend>(lend) };
+        Ok(Self { solve: Some(Solve::of(kind, solve)), lend: Some(lend), ..own })
+    }
+
+    /// Before the first solve of a job's size and mode.
+    pub fn lend(&self, job: &Job) {
+        if let Some(lend) = self.lend {
+            unsafe { lend(job.rows, job.bodies, job.mode) }
+        }
     }
 
     pub fn solves(&self) -> bool {

@@ -240,3 +240,65 @@ int oracle_work_cleared(void)
 {
     return all_zero(work_doubles, sizeof work_doubles) && all_zero(work_words, sizeof work_words);
 }
+
+/* For times: the raw solves over work memory that is carved once, as the Rust's scratch is made once.
+   kapitsa_solve_in carves in each call and keeps the control word around it. Of the answer the
+   refusal alone is told. */
+#define FIELD_DOUBLES(name, length) double *name; size_t name##_len;
+#define FIELD_WORDS(name, length) uint32_t *name; size_t name##_len;
+#define CARVE_DOUBLES(name, length) \
+    lent.name = kapitsa_carve_doubles(&doubles, length); \
+    lent.name##_len = length;
+#define CARVE_WORDS(name, length) \
+    lent.name = kapitsa_carve_words(&carved, length); \
+    lent.name##_len = length;
+#define LEND_FIELD(name, length) , lent.name, lent.name##_len
+
+static struct {
+    KAPITSA_SOLVE_WORK(FIELD_DOUBLES, FIELD_WORDS)
+} lent;
+
+void oracle_lend(uint32_t rows, uint32_t bodies, uint32_t mode)
+{
+    size_t n = rows, b = bodies, p = kapitsa_pairs(rows);
+    double *doubles = work_doubles;
+    uint32_t *carved = work_words;
+    KAPITSA_SOLVE_WORK(CARVE_DOUBLES, CARVE_WORDS)
+}
+
+void oracle_time_position(
+    double *numbers, size_t numbers_len, const uint32_t *words, size_t words_len,
+    const double *masses, size_t masses_len, const double *centres, size_t centres_len,
+    const uint32_t *rule_words, size_t rule_words_len,
+    const double *rule_tolerances, size_t rule_tolerances_len,
+    uint32_t rows, uint32_t bodies, uint32_t limit, uint32_t mode, double shift,
+    double *solution, size_t solution_len, double *impulses, size_t impulses_len,
+    double *new_centres, size_t new_centres_len,
+    uint32_t *rule_numbers, size_t rule_numbers_len, uint64_t *answer, size_t answer_len)
+{
+    struct solved to;
+    (void)answer_len;
+    answer[0] = kapitsa_solve_position(
+        numbers, numbers_len, words, words_len, masses, masses_len, centres, centres_len, rule_words,
+        rule_words_len, rule_tolerances, rule_tolerances_len, rows, bodies, limit, mode, shift,
+        solution, solution_len, impulses, impulses_len, new_centres, new_centres_len, rule_numbers,
+        rule_numbers_len, to.counts, 2, to.maxima, 2 KAPITSA_SOLVE_WORK(LEND_FIELD, LEND_FIELD));
+}
+
+void oracle_time_velocity(
+    double *numbers, size_t numbers_len, const uint32_t *words, size_t words_len,
+    const double *masses, size_t masses_len, const double *residuals, size_t residuals_len,
+    const uint32_t *rule_words, size_t rule_words_len,
+    const double *rule_tolerances, size_t rule_tolerances_len,
+    uint32_t rows, uint32_t bodies, uint32_t limit, uint32_t mode, double shift,
+    double *solution, size_t solution_len, double *impulses, size_t impulses_len,
+    uint32_t *rule_numbers, size_t rule_numbers_len, uint64_t *answer, size_t answer_len)
+{
+    struct solved to;
+    (void)answer_len;
+    answer[0] = kapitsa_solve_velocity(
+        numbers, numbers_len, words, words_len, masses, masses_len, residuals, residuals_len,
+        rule_words, rule_words_len, rule_tolerances, rule_tolerances_len, rows, bodies, limit, mode,
+        shift, solution, solution_len, impulses, impulses_len, rule_numbers, rule_numbers_len,
+        to.counts, 2, to.maxima, 2 KAPITSA_SOLVE_WORK(LEND_FIELD, LEND_FIELD));
+}
