@@ -1,4 +1,4 @@
-/* The adapter of the port's archive (rt staticlib kapitsa_c) for the driver: it lends the work
+/* The adapter of the port's archive (bindings/build) for the driver: it lends the work
    memory, exactly as much as the counts and the mode call for. adapter.c has what it stands in
    for. What a refused call writes of its answer, and it must write nothing, shows as an answer
    that no job has. */
