@@ -13,10 +13,10 @@ ghost use Rattle.check_work.specs.Work.{memoryOf, workLengths};
 ghost use Rattle.closing_margins.specs.Held.{marginsLent};
 ghost use Rattle.kapitsa_c.specs.Closing.{verdictFits};
 ghost use Rattle.kapitsa_margins_c.specs.Margins.{MarginsListed};
-use kapitsa_c::closing::tell_verdict;
-use kapitsa_c::closing::verdict_fits;
 use closing_margins::closing_margins;
 use closing_margins::velocity_closing_margins;
+use kapitsa_c::closing::tell_verdict;
+use kapitsa_c::closing::verdict_fits;
 
 // Of positions; refusals 3, 4, 27, 28, 6, 7 and 18. For n rows, b bodies and t rules, at most 64: numbers 27n, words 8n, masses 10b, centres 3b, rule_words 3t (dimension, first key, last key), rule_tolerances t, multipliers n;
 // rule_numbers n (the rule of each row), verdict 1 (1 closed, 0 open) and gap 2 (the largest reach of linear and of angular rows), written where 0 is returned and nowhere else;

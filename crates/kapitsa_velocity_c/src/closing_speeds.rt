@@ -8,9 +8,9 @@ ghost use Rattle.check_range.specs.Closing.{speedsOf};
 ghost use Rattle.check_refusals.specs.Refusals.{passes3, tableLengths};
 ghost use Rattle.check_work.specs.Work.{memoryOf, workLengths};
 ghost use Rattle.kapitsa_c.specs.Closing.{verdictFits, CheckTold};
+use closing_check::velocity_closing_check;
 use kapitsa_c::closing::tell_verdict;
 use kapitsa_c::closing::verdict_fits;
-use closing_check::velocity_closing_check;
 
 // For n rows, b bodies and t rules, at most 64: numbers 27n, words 8n, masses 10b, given n (the residual), rule_words 3t (dimension, first key, last key), rule_tolerances t, multipliers n; no centres;
 // rule_numbers n (the rule of each row), verdict 1 (1 closed, 0 open) and gap 2 (the largest reach of linear and of angular rows), written where 0 is returned and nowhere else;
