@@ -162,7 +162,7 @@ enum kapitsa_place {
 #define KAPITSA_CONTROL 0x1f80u
 
 /* ---- the work slices, double or uint32_t: name and length for n rows, b bodies and the mode;
-   p is kapitsa_pairs(n) */
+   p is kapitsa_pairs(n). These lists stay defined, for callers who lend each slice by itself. */
 
 #define KAPITSA_SOLVE_WORK(DOUBLES, WORDS)                         \
     DOUBLES(jacobians, 12 * n)                                     \
@@ -762,9 +762,6 @@ KAPITSA_APART uint32_t kapitsa_inverse_in(const double inertia[9], double invers
     KAPITSA_RETURN_CONTROLLED(kapitsa_inverse_spd(inertia, 9, inverse, 9))
 }
 
-#undef KAPITSA_SOLVE_WORK
-#undef KAPITSA_CHECK_WORK
-#undef KAPITSA_BY_MODE
 #undef KAPITSA_TAKES_DOUBLES
 #undef KAPITSA_TAKES_WORDS
 #undef KAPITSA_ADD
