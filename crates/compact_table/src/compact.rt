@@ -1,4 +1,5 @@
 // The compact table: of each row the twelve Jacobian numbers and the two body numbers, side by side for the operator's loops.
+// A body's linear and angular numbers stand in turn, as the bodies' impulses do (kapitsa_joint, paired.rt): both dots of a body are then made two numbers at a time.
 ghost use mathlib.Core.Path.{_≡_};
 ghost use Prim.Native.Nat.{_+_, _*_, _≤_};
 ghost use lib.ListN.{length};
@@ -6,8 +7,8 @@ ghost use Rattle.kapitsa_joint.specs.Row.{rowOf, jacobianOf};
 ghost use Rattle.compact_table.specs.Compact.{compactOf, putJacobianOf, putLinkOf, Gathered};
 use kapitsa_joint::RowJacobian;
 use kapitsa_joint::jacobian_at;
-use kapitsa_math::put_vec;
-use kapitsa_math::vec_at;
+use kapitsa_math::put_spread;
+use kapitsa_math::spread_at;
 
 pub fn compact_at(jacobians: &[f64], links: &[u32], i: usize) -> RowJacobian
     requires { ⌜ (12 * i + 12 ≤ length (now jacobians)) × (2 * i + 2 ≤ length (now links)) ⌝ }
@@ -16,10 +17,10 @@ pub fn compact_at(jacobians: &[f64], links: &[u32], i: usize) -> RowJacobian
     let at = 12 * i;
     let link = 2 * i;
     RowJacobian {
-        linear_a: vec_at(jacobians, at),
-        angular_a: vec_at(jacobians, at + 3),
-        linear_b: vec_at(jacobians, at + 6),
-        angular_b: vec_at(jacobians, at + 9),
+        linear_a: spread_at(jacobians, at),
+        angular_a: spread_at(jacobians, at + 1),
+        linear_b: spread_at(jacobians, at + 6),
+        angular_b: spread_at(jacobians, at + 7),
         body_a: links[link],
         body_b: links[link + 1],
     }
@@ -34,10 +35,10 @@ fn put_jacobian(jacobians: &mut [f64], i: usize, j: RowJacobian)
     let angular_a = j.angular_a;
     let linear_b = j.linear_b;
     let angular_b = j.angular_b;
-    put_vec(jacobians, at, linear_a);
-    put_vec(jacobians, at + 3, angular_a);
-    put_vec(jacobians, at + 6, linear_b);
-    put_vec(jacobians, at + 9, angular_b);
+    put_spread(jacobians, at, linear_a);
+    put_spread(jacobians, at + 1, angular_a);
+    put_spread(jacobians, at + 6, linear_b);
+    put_spread(jacobians, at + 7, angular_b);
 }
 
 fn put_link(links: &mut [u32], i: usize, j: RowJacobian)

@@ -3,6 +3,7 @@ pub mod impulse; // impulse.rt: GeneralizedImpulse
 pub mod kind; // kind.rt: positions or velocities
 pub mod mass; // mass.rt: SolverMass with cross and diagonal
 pub mod maxima; // maxima.rt: Maxima, the largest number of each dimension
+pub mod paired; // paired.rt: GeneralizedImpulse in work memory
 pub mod row; // row.rt: ConstraintRow, read whole or in parts
 pub mod tolerance; // tolerance.rt: JointTolerance and RowDimension
 
@@ -16,6 +17,8 @@ pub use kind::placed_of;
 pub use mass::SolverMass;
 pub use mass::mass_at;
 pub use maxima::Maxima;
+pub use paired::paired_at;
+pub use paired::put_paired;
 pub use row::ConstraintRow;
 pub use row::RowJacobian;
 pub use row::RowScalars;

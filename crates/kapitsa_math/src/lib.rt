@@ -4,7 +4,9 @@ pub mod matrix; // matrix.rt: Mat3
 pub mod scalar; // scalar.rt: a number that is finite, or Overflow
 pub mod vector; // vector.rt: Vec3
 
+pub use lent::put_spread;
 pub use lent::put_vec;
+pub use lent::spread_at;
 pub use lent::vec_at;
 pub use matrix::Mat3;
 pub use scalar::Checked;

@@ -4,8 +4,8 @@ ghost use Prim.Native.Nat.{_+_, _*_, _≤_};
 ghost use lib.ListN.{length, getD};
 ghost use Rattle.mass_operator.specs.BodyPair.{bodyPairOf, putBodyPairOf, onBodies};
 use kapitsa_joint::GeneralizedImpulse;
-use kapitsa_joint::impulse_at;
-use kapitsa_joint::put_impulse;
+use kapitsa_joint::paired_at;
+use kapitsa_joint::put_paired;
 use loops::wide;
 
 pub struct BodyPair {
@@ -26,8 +26,8 @@ pub fn body_pair_at(links: &[u32], i: usize, impulses: &[f64]) -> BodyPair
     BodyPair {
         body_a: body_a,
         body_b: body_b,
-        of_a: impulse_at(impulses, wide(body_a)),
-        of_b: impulse_at(impulses, wide(body_b)),
+        of_a: paired_at(impulses, wide(body_a)),
+        of_b: paired_at(impulses, wide(body_b)),
     }
 }
 
@@ -35,8 +35,8 @@ pub fn put_body_pair(impulses: &mut [f64], pair: BodyPair)
     requires { ⌜ (6 * (pair .«body_a») + 6 ≤ length (now impulses)) × (6 * (pair .«body_b») + 6 ≤ length (now impulses)) ⌝ }
     ensures { λ _. ⌜ now (impulses .exit) ≡ putBodyPairOf (now (impulses .entry)) pair ⌝ }
 {
-    put_impulse(impulses, wide(pair.body_a), pair.of_a);
-    put_impulse(impulses, wide(pair.body_b), pair.of_b);
+    put_paired(impulses, wide(pair.body_a), pair.of_a);
+    put_paired(impulses, wide(pair.body_b), pair.of_b);
 }
 
 // Whether row `i` is on the two bodies.

@@ -3,7 +3,7 @@ ghost use mathlib.Core.Path.{_≡_};
 ghost use Prim.Native.Nat.{_+_, _*_, _≤_};
 ghost use lib.ListN.{length, getD};
 ghost use Rattle.loops.specs.Tabulate.{tabulate};
-ghost use Rattle.kapitsa_joint.specs.Impulse.{impulseOf, putImpulseOf};
+ghost use Rattle.kapitsa_joint.specs.Impulse.{pairedOf, putPairedOf};
 ghost use Rattle.kapitsa_joint.specs.Mass.{massOf};
 ghost use Rattle.compact_table.specs.Compact.{compactOf, Linked};
 ghost use Rattle.mass_operator.specs.System.{compactSystem};
@@ -19,9 +19,9 @@ use crate::impulse::sum_impulses;
 use compact_table::compact_at;
 use kapitsa_joint::GeneralizedImpulse;
 use kapitsa_joint::SolverMass;
-use kapitsa_joint::impulse_at;
+use kapitsa_joint::paired_at;
 use kapitsa_joint::mass_at;
-use kapitsa_joint::put_impulse;
+use kapitsa_joint::put_paired;
 
 pub fn response(mass: SolverMass, impulse: GeneralizedImpulse) -> GeneralizedImpulse
     ensures { λ r. ⌜ r ≡ responseOf mass impulse ⌝ }
@@ -37,16 +37,16 @@ pub fn response(mass: SolverMass, impulse: GeneralizedImpulse) -> GeneralizedImp
 
 fn respond_at(masses: &[f64], b: usize, body_impulses: &mut [f64])
     requires { ⌜ (10 * b + 10 ≤ length (now masses)) × (6 * b + 6 ≤ length (now «body_impulses»)) ⌝ }
-    ensures { λ _. ⌜ now («body_impulses» .exit) ≡ putImpulseOf (now («body_impulses» .entry)) b (responseOf (massOf (now (masses .entry)) b) (impulseOf (now («body_impulses» .entry)) b)) ⌝ }
+    ensures { λ _. ⌜ now («body_impulses» .exit) ≡ putPairedOf (now («body_impulses» .entry)) b (responseOf (massOf (now (masses .entry)) b) (pairedOf (now («body_impulses» .entry)) b)) ⌝ }
 {
-    let responded = response(mass_at(masses, b), impulse_at(body_impulses, b));
-    put_impulse(body_impulses, b, responded);
+    let responded = response(mass_at(masses, b), paired_at(body_impulses, b));
+    put_paired(body_impulses, b, responded);
 }
 
 // The response of every body in place of its impulse.
 fn respond(masses: &[f64], bodies: usize, body_impulses: &mut [f64])
     requires { ⌜ (10 * bodies ≤ length (now masses)) × (length (now «body_impulses») ≡ 6 * bodies) ⌝ }
-    ensures { λ _. ⌜ Impulses (λ b. responseOf (massOf (now (masses .entry)) b) (impulseOf (now («body_impulses» .entry)) b)) bodies (now («body_impulses» .exit)) ⌝ }
+    ensures { λ _. ⌜ Impulses (λ b. responseOf (massOf (now (masses .entry)) b) (pairedOf (now («body_impulses» .entry)) b)) bodies (now («body_impulses» .exit)) ⌝ }
 {
     let mut b = 0;
     while b < bodies {
@@ -59,7 +59,7 @@ fn respond(masses: &[f64], bodies: usize, body_impulses: &mut [f64])
 fn take_up(links: &[u32], i: usize, pair: BodyPair, responses: &[f64]) -> BodyPair
     requires { ⌜ 2 * i + 2 ≤ length (now links) ⌝ }
     requires { ⌜ (6 * (getD (now links) (2 * i) 0) + 6 ≤ length (now responses)) × (6 * (getD (now links) (2 * i + 1) 0) + 6 ≤ length (now responses)) ⌝ }
-    requires { ⌜ (pair .«of_a» ≡ impulseOf (now responses) (pair .«body_a»)) × (pair .«of_b» ≡ impulseOf (now responses) (pair .«body_b»)) ⌝ }
+    requires { ⌜ (pair .«of_a» ≡ pairedOf (now responses) (pair .«body_a»)) × (pair .«of_b» ≡ pairedOf (now responses) (pair .«body_b»)) ⌝ }
     ensures { λ r. ⌜ r ≡ bodyPairOf (now (links .entry)) i (now (responses .entry)) ⌝ }
 {
     if on_bodies(links, i, pair) {

@@ -17,6 +17,7 @@ ghost use Rattle.position_delivery.specs.Outcome.{proposalOf, outcomeAt}
 ghost use Rattle.position_delivery.specs.Delivery.{Judged, Shown, acceptedOf, gainedAfter, CommitRoom, committedBy, finishedOf};
 use crate::answer::PositionPcg;
 use crate::answer::PositionPcgResult;
+use crate::impulses::deliver_impulses;
 use loops::wide;
 use mass_operator::Applied;
 use mass_operator::global_velocity_impulse;
@@ -90,7 +91,7 @@ fn show(
         return false;
     }
     loops::copy(solution, pending);
-    loops::copy(impulses, body_impulses);
+    deliver_impulses(body_impulses, bodies, impulses);
     move_centres(masses, body_impulses, centres, placed, new_centres);
     true
 }
