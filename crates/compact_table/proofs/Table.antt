@@ -9,62 +9,62 @@ use lib.Dec.{T, ltb, ltb→lt, nltb→le}
 use lib.ListN.{length, getD, set, length-set}
 use lib.Seq.{getD-set-same, getD-set-other}
 use lib.Ieee.{Float}
-use Rattle.kapitsa_math.specs.Lent.{vecOf, putVecOf}
-use Rattle.kapitsa_math.proofs.Stored.{put-vec-length, put-vec-same, put-vec-other}
+use Rattle.kapitsa_math.specs.Lent.{spreadOf, putSpreadOf}
+use Rattle.kapitsa_math.proofs.Stored.{put-spread-length, put-spread-same, put-spread-other}
 use Rattle.kapitsa_joint.specs.declared.row.RowJacobian.{RowJacobian}
 use Rattle.compact_table.specs.Compact.{compactOf, putJacobianOf, putLinkOf, Gathered}
 
 -- ---- twelve doubles
 module _ (l : List Float) (i : ℕ) (j : RowJacobian) where
   abbrev p1 : List Float
-  p1 = putVecOf l (12 * i) (j .«linear_a»)
+  p1 = putSpreadOf l (12 * i) (j .«linear_a»)
 
   abbrev p2 : List Float
-  p2 = putVecOf p1 (12 * i + 3) (j .«angular_a»)
+  p2 = putSpreadOf p1 (12 * i + 1) (j .«angular_a»)
 
   abbrev p3 : List Float
-  p3 = putVecOf p2 (12 * i + 6) (j .«linear_b»)
+  p3 = putSpreadOf p2 (12 * i + 6) (j .«linear_b»)
 
   abbrev p4 : List Float
-  p4 = putVecOf p3 (12 * i + 9) (j .«angular_b»)
+  p4 = putSpreadOf p3 (12 * i + 7) (j .«angular_b»)
 
   l1 : length p1 ≡ length l
-  l1 = put-vec-length l (12 * i) (j .«linear_a»)
+  l1 = put-spread-length l (12 * i) (j .«linear_a»)
 
   l2 : length p2 ≡ length l
-  l2 = put-vec-length p1 (12 * i + 3) (j .«angular_a») ∙ l1
+  l2 = put-spread-length p1 (12 * i + 1) (j .«angular_a») ∙ l1
 
   l3 : length p3 ≡ length l
-  l3 = put-vec-length p2 (12 * i + 6) (j .«linear_b») ∙ l2
+  l3 = put-spread-length p2 (12 * i + 6) (j .«linear_b») ∙ l2
 
   pub put-jacobian-length : length (putJacobianOf l i j) ≡ length l
   unfolding putJacobianOf
-  put-jacobian-length = put-vec-length p3 (12 * i + 9) (j .«angular_b») ∙ l3
+  put-jacobian-length = put-spread-length p3 (12 * i + 7) (j .«angular_b») ∙ l3
 
-  kept : (k : ℕ) → (k + 3 ≤ 12 * i) ⊎ (12 * i + 12 ≤ k) → vecOf p4 k ≡ vecOf l k
+  kept : (k : ℕ) → (k + 5 ≤ 12 * i) ⊎ (12 * i + 12 ≤ k) → spreadOf p4 k ≡ spreadOf l k
   kept k (inl h) =
-      put-vec-other p3 (12 * i + 9) (j .«angular_b») k (inl (omega arith)) ∙ put-vec-other p2 (12 * i + 6) (j .«linear_b») k (inl (omega arith))
-      ∙ put-vec-other p1 (12 * i + 3) (j .«angular_a») k (inl (omega arith)) ∙ put-vec-other l (12 * i) (j .«linear_a») k (inl h)
+      put-spread-other p3 (12 * i + 7) (j .«angular_b») k (λ m n s t e. omega arith) ∙ put-spread-other p2 (12 * i + 6) (j .«linear_b») k (λ m n s t e. omega arith)
+      ∙ put-spread-other p1 (12 * i + 1) (j .«angular_a») k (λ m n s t e. omega arith) ∙ put-spread-other l (12 * i) (j .«linear_a») k (λ m n s t e. omega arith)
   kept k (inr h) =
-      put-vec-other p3 (12 * i + 9) (j .«angular_b») k (inr (omega arith)) ∙ put-vec-other p2 (12 * i + 6) (j .«linear_b») k (inr (omega arith))
-      ∙ put-vec-other p1 (12 * i + 3) (j .«angular_a») k (inr (omega arith)) ∙ put-vec-other l (12 * i) (j .«linear_a») k (inr (omega arith))
+      put-spread-other p3 (12 * i + 7) (j .«angular_b») k (λ m n s t e. omega arith) ∙ put-spread-other p2 (12 * i + 6) (j .«linear_b») k (λ m n s t e. omega arith)
+      ∙ put-spread-other p1 (12 * i + 1) (j .«angular_a») k (λ m n s t e. omega arith) ∙ put-spread-other l (12 * i) (j .«linear_a») k (λ m n s t e. omega arith)
 
   module _ (room : 12 * i + 12 ≤ length l) where
-    first : vecOf p4 (12 * i) ≡ j .«linear_a»
+    first : spreadOf p4 (12 * i) ≡ j .«linear_a»
     first =
-        put-vec-other p3 (12 * i + 9) (j .«angular_b») (12 * i) (inl (omega arith)) ∙ put-vec-other p2 (12 * i + 6) (j .«linear_b») (12 * i) (inl (omega arith))
-        ∙ put-vec-other p1 (12 * i + 3) (j .«angular_a») (12 * i) (inl (omega arith)) ∙ put-vec-same l (12 * i) (j .«linear_a») (omega arith)
+        put-spread-other p3 (12 * i + 7) (j .«angular_b») (12 * i) (λ m n s t e. omega arith) ∙ put-spread-other p2 (12 * i + 6) (j .«linear_b») (12 * i) (λ m n s t e. omega arith)
+        ∙ put-spread-other p1 (12 * i + 1) (j .«angular_a») (12 * i) (λ m n s t e. omega arith) ∙ put-spread-same l (12 * i) (j .«linear_a») (omega arith)
 
-    second : vecOf p4 (12 * i + 3) ≡ j .«angular_a»
+    second : spreadOf p4 (12 * i + 1) ≡ j .«angular_a»
     second =
-        put-vec-other p3 (12 * i + 9) (j .«angular_b») (12 * i + 3) (inl (omega arith)) ∙ put-vec-other p2 (12 * i + 6) (j .«linear_b») (12 * i + 3) (inl (omega arith))
-        ∙ put-vec-same p1 (12 * i + 3) (j .«angular_a») (omega (arith, l1))
+        put-spread-other p3 (12 * i + 7) (j .«angular_b») (12 * i + 1) (λ m n s t e. omega arith) ∙ put-spread-other p2 (12 * i + 6) (j .«linear_b») (12 * i + 1) (λ m n s t e. omega arith)
+        ∙ put-spread-same p1 (12 * i + 1) (j .«angular_a») (omega (arith, l1))
 
-    third : vecOf p4 (12 * i + 6) ≡ j .«linear_b»
-    third = put-vec-other p3 (12 * i + 9) (j .«angular_b») (12 * i + 6) (inl (omega arith)) ∙ put-vec-same p2 (12 * i + 6) (j .«linear_b») (omega (arith, l2))
+    third : spreadOf p4 (12 * i + 6) ≡ j .«linear_b»
+    third = put-spread-other p3 (12 * i + 7) (j .«angular_b») (12 * i + 6) (λ m n s t e. omega arith) ∙ put-spread-same p2 (12 * i + 6) (j .«linear_b») (omega (arith, l2))
 
-    fourth : vecOf p4 (12 * i + 9) ≡ j .«angular_b»
-    fourth = put-vec-same p3 (12 * i + 9) (j .«angular_b») (omega (arith, l3))
+    fourth : spreadOf p4 (12 * i + 7) ≡ j .«angular_b»
+    fourth = put-spread-same p3 (12 * i + 7) (j .«angular_b») (omega (arith, l3))
 
 -- ---- two words
 pub put-link-length : (l : List ℕ) (i : ℕ) (j : RowJacobian) → length (putLinkOf l i j) ≡ length l
@@ -110,14 +110,14 @@ module _ (jacobians : List Float) (links : List ℕ) (i : ℕ) (j : RowJacobian)
   compact-other k h =
       rw (
         kept jacobians i j (12 * k) (side (12 * k) (omega arith) (omega arith) h),
-        kept jacobians i j (12 * k + 3) (side (12 * k + 3) (omega arith) (omega arith) h),
+        kept jacobians i j (12 * k + 1) (side (12 * k + 1) (omega arith) (omega arith) h),
         kept jacobians i j (12 * k + 6) (side (12 * k + 6) (omega arith) (omega arith) h),
-        kept jacobians i j (12 * k + 9) (side (12 * k + 9) (omega arith) (omega arith) h),
+        kept jacobians i j (12 * k + 7) (side (12 * k + 7) (omega arith) (omega arith) h),
         kept-link links i j (2 * k) (link (2 * k) (omega arith) (omega arith) h),
         kept-link links i j (2 * k + 1) (link (2 * k + 1) (omega arith) (omega arith) h),
       )
     where
-      side : (m : ℕ) → 12 * k ≤ m → m ≤ 12 * k + 9 → (k < i) ⊎ (i < k) → (m + 3 ≤ 12 * i) ⊎ (12 * i + 12 ≤ m)
+      side : (m : ℕ) → 12 * k ≤ m → m ≤ 12 * k + 7 → (k < i) ⊎ (i < k) → (m + 5 ≤ 12 * i) ⊎ (12 * i + 12 ≤ m)
       side m p q (inl h) = inl (omega arith)
       side m p q (inr h) = inr (omega arith)
 

@@ -1,4 +1,4 @@
--- The compact table: of each row linear_a, angular_a, linear_b and angular_b, twelve doubles, and body_a and body_b, two words.
+-- The compact table: of each row twelve doubles, of body a and then of body b linear x, angular x, linear y, angular y, linear z, angular z; and body_a and body_b, two words.
 use Prim.Native.Nat.{ℕ, _+_, _*_, _<_}
 use mathlib.Core.Path.{_≡_}
 use mathlib.Core.Bool.{false}
@@ -6,21 +6,21 @@ use mathlib.Core.List.{List}
 use lib.Dec.{eqb}
 use lib.ListN.{length, getD, set}
 use lib.Ieee.{Float}
-use Rattle.kapitsa_math.specs.Lent.{vecOf, putVecOf}
+use Rattle.kapitsa_math.specs.Lent.{spreadOf, putSpreadOf}
 use Rattle.kapitsa_joint.specs.declared.row.RowJacobian.{RowJacobian}
 
 unfoldable pub compactOf : List Float → List ℕ → ℕ → RowJacobian
 compactOf jacobians links i = record {
-  «linear_a» = vecOf jacobians (12 * i);
-  «angular_a» = vecOf jacobians (12 * i + 3);
-  «linear_b» = vecOf jacobians (12 * i + 6);
-  «angular_b» = vecOf jacobians (12 * i + 9);
+  «linear_a» = spreadOf jacobians (12 * i);
+  «angular_a» = spreadOf jacobians (12 * i + 1);
+  «linear_b» = spreadOf jacobians (12 * i + 6);
+  «angular_b» = spreadOf jacobians (12 * i + 7);
   «body_a» = getD links (2 * i) 0;
   «body_b» = getD links (2 * i + 1) 0;
 }
 
 unfoldable pub putJacobianOf : List Float → ℕ → RowJacobian → List Float
-putJacobianOf l i j = putVecOf (putVecOf (putVecOf (putVecOf l (12 * i) (j .«linear_a»)) (12 * i + 3) (j .«angular_a»)) (12 * i + 6) (j .«linear_b»)) (12 * i + 9) (j .«angular_b»)
+putJacobianOf l i j = putSpreadOf (putSpreadOf (putSpreadOf (putSpreadOf l (12 * i) (j .«linear_a»)) (12 * i + 1) (j .«angular_a»)) (12 * i + 6) (j .«linear_b»)) (12 * i + 7) (j .«angular_b»)
 
 unfoldable pub putLinkOf : List ℕ → ℕ → RowJacobian → List ℕ
 putLinkOf l i j = set (set l (2 * i) (j .«body_a»)) (2 * i + 1) (j .«body_b»)

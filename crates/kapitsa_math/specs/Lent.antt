@@ -1,4 +1,4 @@
--- A vector in a lent slice of doubles: three in a row, from `at` on.
+-- A vector in a lent slice of doubles, from `at` on: three in a row.
 use Prim.Native.Nat.{ℕ, _+_}
 use mathlib.Core.List.{List}
 use lib.ListN.{getD, set}
@@ -10,3 +10,10 @@ vecOf l at = record { x = getD l at nan; y = getD l (at + 1) nan; z = getD l (at
 
 unfoldable pub putVecOf : List Float → ℕ → Vec3 → List Float
 putVecOf l at v = set (set (set l at (v .x)) (at + 1) (v .y)) (at + 2) (v .z)
+
+-- the same at every second place: between its numbers there is room for another
+unfoldable pub spreadOf : List Float → ℕ → Vec3
+spreadOf l at = record { x = getD l at nan; y = getD l (at + 2) nan; z = getD l (at + 4) nan }
+
+unfoldable pub putSpreadOf : List Float → ℕ → Vec3 → List Float
+putSpreadOf l at v = set (set (set l at (v .x)) (at + 2) (v .y)) (at + 4) (v .z)

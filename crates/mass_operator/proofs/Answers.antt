@@ -10,7 +10,7 @@ use Rattle.loops.specs.Run.{check}
 use Rattle.loops.specs.Judge.{test}
 use Rattle.loops.specs.Tabulate.{tabulate}
 use Rattle.loops.proofs.Tabulate.{tabulate-same}
-use Rattle.kapitsa_joint.specs.Impulse.{impulseOf}
+use Rattle.kapitsa_joint.specs.Impulse.{pairedOf}
 use Rattle.kapitsa_joint.specs.Mass.{massOf}
 use Rattle.kapitsa_joint.specs.declared.row.RowJacobian.{RowJacobian}
 use Rattle.mass_operator.specs.Applied.{allFiniteOf, appliedOf, appliedOut}
@@ -20,9 +20,10 @@ use Rattle.compact_table.specs.Compact.{compactOf, Linked}
 use Rattle.mass_operator.specs.Dot.{dotProductOf}
 use Rattle.mass_operator.specs.System.{compactSystem}
 use Rattle.mass_operator.specs.Operator.{impulseAt, responseOf, responseAt, valueAt}
-use Rattle.mass_operator.specs.Flat.{coefficients, impulsesOf, responsesOf, productOf, Summed, Multiplied}
-use Rattle.mass_operator.specs.Lent.{Impulses, Summing, valueIn}
-use Rattle.mass_operator.proofs.Flat.{impulses-flat}
+use Rattle.mass_operator.specs.Flat.{coefficients, flatImpulses, impulsesOf, productOf, Summed, Multiplied}
+use Rattle.mass_operator.specs.Lent.{Paired, Summing, valueIn}
+use Rattle.mass_operator.proofs.Flat.{flat-holds}
+use Rattle.mass_operator.proofs.Orders.{finite-alike}
 
 pub test-done : (l : List Float) {r : Bool} → r ≡ allFiniteOf l → not r ≡ false → Done ≡ appliedOf l
 unfolding appliedOf check
@@ -42,8 +43,12 @@ pub applied-told : (l : List Float) {r : Applied} → r ≡ appliedOf l → (num
 applied-told l e number = rw e (told-by l (allFiniteOf l) refl number)
 
 pub summed-is : (j : ℕ → RowJacobian) (x : ℕ → Float) (rows bodies : ℕ) (l : List Float) {r : Applied} → Summing j x bodies rows l → r ≡ appliedOf l → Summed j x rows bodies r l
-unfolding impulsesOf
-summed-is j x rows bodies l h e = let q = impulses-flat (λ b. impulseAt j x b rows) bodies l (record { long = h .long; at = h .at }) in record { summed = q; answered = e ∙ ap appliedOf q; told = applied-told _ (e ∙ ap appliedOf q) }
+unfolding impulsesOf appliedOf
+summed-is j x rows bodies l h e =
+    let g = λ b. impulseAt j x b rows in
+    let q : allFiniteOf l ≡ allFiniteOf (flatImpulses g bodies) = finite-alike g bodies l (flatImpulses g bodies) (record { long = h .long; at = h .at }) (flat-holds g bodies) in
+    let a = e ∙ ap (λ (b : Bool). check b Done Overflow) q in
+    record { summed = h; answered = a; told = applied-told _ a }
 
 -- impulses, responses in their place, values: the list of impulses stands between two calls
 module _ (jacobians : List Float) (links : List ℕ) (masses vector : List Float) (bodies : ℕ) (impulses responses product : List Float) where
@@ -56,12 +61,12 @@ module _ (jacobians : List Float) (links : List ℕ) (masses vector : List Float
   abbrev x : ℕ → Float
   x = coefficients vector
 
-  module _ (linked : Linked links rows bodies) (h : Summing j x bodies rows impulses) (k : Impulses (λ b. responseOf (massOf masses b) (impulseOf impulses b)) bodies responses) where
-    response : (b : ℕ) → b < bodies → impulseOf responses b ≡ responseAt (compactSystem rows bodies jacobians links masses) x b
+  module _ (linked : Linked links rows bodies) (h : Summing j x bodies rows impulses) (k : Paired (λ b. responseOf (massOf masses b) (pairedOf impulses b)) bodies responses) where
+    response : (b : ℕ) → b < bodies → pairedOf responses b ≡ responseAt (compactSystem rows bodies jacobians links masses) x b
     unfolding responseAt
     response b t = k .at b t ∙ ap (responseOf (massOf masses b)) (h .at b t)
 
-    responses-hold : Impulses (responseAt (compactSystem rows bodies jacobians links masses) x) bodies responses
+    responses-hold : Paired (responseAt (compactSystem rows bodies jacobians links masses) x) bodies responses
     responses-hold = record { long = k .long; at = response }
 
     value : (i : ℕ) → i < rows → valueIn (j i) responses ≡ valueAt (compactSystem rows bodies jacobians links masses) x i
@@ -72,11 +77,11 @@ module _ (jacobians : List Float) (links : List ℕ) (masses vector : List Float
         rw (response (j i .«body_a») a, response (j i .«body_b») b)
 
     pub multiplied-is : {r : Float} {m : ℕ} → product ≡ tabulate (λ i. valueIn (j i) responses) m → m ≡ rows → r ≡ dotProductOf vector product → Multiplied (compactSystem rows bodies jacobians links masses) vector r responses product
-    unfolding responsesOf productOf
+    unfolding productOf
     multiplied-is {r} {m} e q a =
         let p : product ≡ tabulate (valueAt (compactSystem rows bodies jacobians links masses) x) rows = e ∙ ap (tabulate (λ i. valueIn (j i) responses)) q ∙ same in
         record {
-          responded = impulses-flat (responseAt (compactSystem rows bodies jacobians links masses) x) bodies responses responses-hold;
+          responded = responses-hold;
           multiplied = p;
           answered = a ∙ ap (dotProductOf vector) p;
         }

@@ -10,10 +10,10 @@ use lib.ListN.{length, getD}
 use lib.Ieee.{Float}
 use borrow.Author.Tests.{eqb-true, eqb-false, eq-eqb, ne-eqb}
 use Rattle.loops.proofs.Both.{both}
-use Rattle.kapitsa_joint.specs.Impulse.{impulseOf, putImpulseOf}
+use Rattle.kapitsa_joint.specs.Impulse.{pairedOf, putPairedOf}
 use Rattle.kapitsa_joint.specs.declared.row.RowJacobian.{RowJacobian}
 use Rattle.kapitsa_joint.specs.declared.impulse.GeneralizedImpulse.{GeneralizedImpulse}
-use Rattle.kapitsa_joint.proofs.Stored.{put-impulse-length}
+use Rattle.kapitsa_joint.proofs.Stored.{put-paired-length}
 use Rattle.compact_table.specs.Compact.{compactOf, Linked}
 use Rattle.mass_operator.specs.Operator.{addImpulseOf, addRowOf, impulseAt, rowValueOf}
 use Rattle.mass_operator.specs.Lent.{Summing, valueIn}
@@ -30,11 +30,11 @@ on-true links i p h =
 
 -- ---- what a slice has for two bodies
 module _ (links : List ℕ) (i : ℕ) (p : BodyPair) (l : List Float) where
-  pub held-is : {r : Bool} → p .«of_a» ≡ impulseOf l (p .«body_a») → p .«of_b» ≡ impulseOf l (p .«body_b») → r ≡ onBodies links i p → r ≡ true → p ≡ bodyPairOf links i l
+  pub held-is : {r : Bool} → p .«of_a» ≡ pairedOf l (p .«body_a») → p .«of_b» ≡ pairedOf l (p .«body_b») → r ≡ onBodies links i p → r ≡ true → p ≡ bodyPairOf links i l
   unfolding bodyPairOf
   held-is a b e h = let (ea, eb) = on-true links i p (sym e ∙ h) in rw (ea, eb, ← a, ← b)
 
-  pub pair-holds : p ≡ bodyPairOf links i l → (p .«of_a» ≡ impulseOf l (p .«body_a»)) × (p .«of_b» ≡ impulseOf l (p .«body_b»))
+  pub pair-holds : p ≡ bodyPairOf links i l → (p .«of_a» ≡ pairedOf l (p .«body_a»)) × (p .«of_b» ≡ pairedOf l (p .«body_b»))
   unfolding bodyPairOf
   pair-holds e = rw e (refl, refl)
 
@@ -49,14 +49,14 @@ module _ (links : List ℕ) (i : ℕ) (p : BodyPair) (l : List Float) where
 module _ (l : List Float) (p : BodyPair) where
   pub put-pair-length : length (putBodyPairOf l p) ≡ length l
   unfolding putBodyPairOf
-  put-pair-length = put-impulse-length (putImpulseOf l (p .«body_a») (p .«of_a»)) (p .«body_b») (p .«of_b») ∙ put-impulse-length l (p .«body_a») (p .«of_a»)
+  put-pair-length = put-paired-length (putPairedOf l (p .«body_a») (p .«of_a»)) (p .«body_b») (p .«of_b») ∙ put-paired-length l (p .«body_a») (p .«of_a»)
 
   put-pair-at : (c : ℕ) → 6 * (p .«body_a») + 6 ≤ length l → 6 * (p .«body_b») + 6 ≤ length l
-      → impulseOf (putBodyPairOf l p) c ≡ cond (eqb (p .«body_b») c) (p .«of_b») (cond (eqb (p .«body_a») c) (p .«of_a») (impulseOf l c))
+      → pairedOf (putBodyPairOf l p) c ≡ cond (eqb (p .«body_b») c) (p .«of_b») (cond (eqb (p .«body_a») c) (p .«of_a») (pairedOf l c))
   unfolding putBodyPairOf
   put-pair-at c s t =
-      let e = put-impulse-length l (p .«body_a») (p .«of_a») in
-      put-at (putImpulseOf l (p .«body_a») (p .«of_a»)) (p .«body_b») (p .«of_b») c (omega arith) ∙ ap (λ (g : GeneralizedImpulse). cond (eqb (p .«body_b») c) (p .«of_b») g) (put-at l (p .«body_a») (p .«of_a») c s)
+      let e = put-paired-length l (p .«body_a») (p .«of_a») in
+      put-at (putPairedOf l (p .«body_a») (p .«of_a»)) (p .«body_b») (p .«of_b») c (omega arith) ∙ ap (λ (g : GeneralizedImpulse). cond (eqb (p .«body_b») c) (p .«of_b») g) (put-at l (p .«body_a») (p .«of_a») c s)
 
 -- ---- the invariant: after the rows 0 .. i - 1 the two bodies' impulses are held, and the slice has those of the others
 pub record Holding (j : ℕ → RowJacobian) (x : ℕ → Float) (bodies i : ℕ) (l : List Float) (p : BodyPair) : Type 0 where
@@ -66,7 +66,7 @@ pub record Holding (j : ℕ → RowJacobian) (x : ℕ → Float) (bodies i : ℕ
   pub apart : p .«body_a» ≡ p .«body_b» → ⊥
   pub of-a : p .«of_a» ≡ impulseAt j x (p .«body_a») i
   pub of-b : p .«of_b» ≡ impulseAt j x (p .«body_b») i
-  pub others : (c : ℕ) → c < bodies → (p .«body_a» ≡ c → ⊥) → (p .«body_b» ≡ c → ⊥) → impulseOf l c ≡ impulseAt j x c i
+  pub others : (c : ℕ) → c < bodies → (p .«body_a» ≡ c → ⊥) → (p .«body_b» ≡ c → ⊥) → pairedOf l c ≡ impulseAt j x c i
 
 module _ {j : ℕ → RowJacobian} {x : ℕ → Float} {bodies : ℕ} where
   pub put-back : {i : ℕ} {l l′ : List Float} {p : BodyPair} → Holding j x bodies i l p → l′ ≡ putBodyPairOf l p → Summing j x bodies i l′
@@ -76,7 +76,7 @@ module _ {j : ℕ → RowJacobian} {x : ℕ → Float} {bodies : ℕ} where
   })
     where
       by : (c : ℕ) → c < bodies → (s : Bool) → (s ≡ true → p .«body_a» ≡ c) → (s ≡ false → p .«body_a» ≡ c → ⊥) → (t : Bool) → (t ≡ true → p .«body_b» ≡ c) → (t ≡ false → p .«body_b» ≡ c → ⊥)
-          → cond t (p .«of_b») (cond s (p .«of_a») (impulseOf l c)) ≡ impulseAt j x c i
+          → cond t (p .«of_b») (cond s (p .«of_a») (pairedOf l c)) ≡ impulseAt j x c i
       by c k s a a′ true b b′ = h .of-b ∙ ap (λ (d : ℕ). impulseAt j x d i) (b refl)
       by c k true a a′ false b b′ = h .of-a ∙ ap (λ (d : ℕ). impulseAt j x d i) (a refl)
       by c k false a a′ false b b′ = h .others c k (a′ refl) (b′ refl)

@@ -1,4 +1,4 @@
--- The list of the impulses g 0 .. g (n - 1) holds them, and is the only list of its length that does. Assumes nothing.
+-- The list of the impulses g 0 .. g (n - 1) in the order of document 01 holds them, and is the only list of its length that does. Assumes nothing.
 use Prim.Native.Nat.{ℕ, zero, suc, _+_, _*_, _/_, _%_, _<_, _≤_}
 use mathlib.Core.Path.{_≡_, refl, sym, ap, _∙_}
 use mathlib.Core.Bool.{Bool, true, false, not}
@@ -79,3 +79,7 @@ impulses-same g n l m p q = ext-getD nan l m (p .long ∙ sym (q .long)) (λ k h
 
 pub impulses-flat : (g : ℕ → GeneralizedImpulse) (n : ℕ) (l : List Float) → Impulses g n l → l ≡ flatImpulses g n
 impulses-flat g n l p = impulses-same g n l (flatImpulses g n) p (flat-holds g n)
+
+-- impulses that agree have the same list
+pub flat-same : (g h : ℕ → GeneralizedImpulse) (n : ℕ) → ((b : ℕ) → b < n → g b ≡ h b) → flatImpulses g n ≡ flatImpulses h n
+flat-same g h n e = impulses-flat h n (flatImpulses g n) (record { long = flat-length g n; at = λ b k. flat-at g n b k ∙ e b k })

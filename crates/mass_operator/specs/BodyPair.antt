@@ -6,7 +6,7 @@ use mathlib.Core.List.{List}
 use lib.Dec.{eqb}
 use lib.ListN.{getD}
 use lib.Ieee.{Float}
-use Rattle.kapitsa_joint.specs.Impulse.{impulseOf, putImpulseOf}
+use Rattle.kapitsa_joint.specs.Impulse.{pairedOf, putPairedOf}
 use Rattle.kapitsa_joint.specs.declared.row.RowJacobian.{RowJacobian}
 use Rattle.mass_operator.specs.Operator.{addImpulseOf}
 use Rattle.mass_operator.specs.declared.body_pair.BodyPair.{BodyPair}
@@ -16,12 +16,12 @@ unfoldable pub bodyPairOf : List ℕ → ℕ → List Float → BodyPair
 bodyPairOf links i l = record {
   «body_a» = getD links (2 * i) 0;
   «body_b» = getD links (2 * i + 1) 0;
-  «of_a» = impulseOf l (getD links (2 * i) 0);
-  «of_b» = impulseOf l (getD links (2 * i + 1) 0);
+  «of_a» = pairedOf l (getD links (2 * i) 0);
+  «of_b» = pairedOf l (getD links (2 * i + 1) 0);
 }
 
 unfoldable pub putBodyPairOf : List Float → BodyPair → List Float
-putBodyPairOf l p = putImpulseOf (putImpulseOf l (p .«body_a») (p .«of_a»)) (p .«body_b») (p .«of_b»)
+putBodyPairOf l p = putPairedOf (putPairedOf l (p .«body_a») (p .«of_a»)) (p .«body_b») (p .«of_b»)
 
 -- whether row i is on them
 unfoldable pub onBodies : List ℕ → ℕ → BodyPair → Bool

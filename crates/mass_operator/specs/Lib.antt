@@ -2,6 +2,6 @@ pub mod Applied
 pub mod System
 pub mod Operator
 pub mod Dot
-pub mod Flat
 pub mod Lent
+pub mod Flat
 pub mod BodyPair

@@ -10,7 +10,7 @@ ghost use Rattle.mass_operator.specs.System.{compactSystem};
 ghost use Rattle.mass_operator.specs.Dot.{dotProductOf};
 ghost use Rattle.mass_operator.specs.Operator.{responseOf, rowValueOf};
 ghost use Rattle.mass_operator.specs.Flat.{Multiplied};
-ghost use Rattle.mass_operator.specs.Lent.{Impulses, valueIn};
+ghost use Rattle.mass_operator.specs.Lent.{Paired, valueIn};
 ghost use Rattle.mass_operator.specs.BodyPair.{bodyPairOf};
 use crate::body_pair::BodyPair;
 use crate::body_pair::body_pair_at;
@@ -46,7 +46,7 @@ fn respond_at(masses: &[f64], b: usize, body_impulses: &mut [f64])
 // The response of every body in place of its impulse.
 fn respond(masses: &[f64], bodies: usize, body_impulses: &mut [f64])
     requires { ⌜ (10 * bodies ≤ length (now masses)) × (length (now «body_impulses») ≡ 6 * bodies) ⌝ }
-    ensures { λ _. ⌜ Impulses (λ b. responseOf (massOf (now (masses .entry)) b) (pairedOf (now («body_impulses» .entry)) b)) bodies (now («body_impulses» .exit)) ⌝ }
+    ensures { λ _. ⌜ Paired (λ b. responseOf (massOf (now (masses .entry)) b) (pairedOf (now («body_impulses» .entry)) b)) bodies (now («body_impulses» .exit)) ⌝ }
 {
     let mut b = 0;
     while b < bodies {

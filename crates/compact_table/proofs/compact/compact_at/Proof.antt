@@ -11,16 +11,16 @@ compact-at-spec =
     (tie.spec
     (λ c. search needs)  -- mul-at
     (λ c. search needs)  -- mul-link
-    (λ c κs. search needs)  -- vec-at-requires
-    (λ c. search needs)  -- add-vec-at
-    (λ c κs. search needs)  -- vec-at-requires-2
-    (λ c. search needs)  -- add-vec-at-2
-    (λ c κs. search needs)  -- vec-at-requires-3
-    (λ c. search needs)  -- add-vec-at-3
-    (λ c κs. search needs)  -- vec-at-requires-4
+    (λ c κs. search needs)  -- spread-at-requires
+    (λ c. search needs)  -- add-spread-at
+    (λ c κs. search needs)  -- spread-at-requires-2
+    (λ c. search needs)  -- add-spread-at-2
+    (λ c κs. search needs)  -- spread-at-requires-3
+    (λ c. search needs)  -- add-spread-at-3
+    (λ c κs. search needs)  -- spread-at-requires-4
     (λ c. search needs)  -- mul-t13
     (λ c. search needs)  -- shared-slice-read-t15
     (λ c. search needs)  -- add-t16
     (λ c. search needs)  -- mul-t17
     (λ c. search needs)  -- shared-slice-read-t19
-    (λ c. rw (c .before .before .before .before .before .vec-at .ensures, c .before .before .before .before .vec-at2 .ensures, c .before .before .before .vec-at3 .ensures, c .before .before .vec-at4 .ensures)))  -- returns
+    (λ c. rw (c .before .before .before .before .before .spread-at .ensures, c .before .before .before .before .spread-at2 .ensures, c .before .before .before .spread-at3 .ensures, c .before .before .spread-at4 .ensures)))  -- returns

@@ -10,12 +10,12 @@ put-jacobian-spec =
     tie.close
     (tie.spec
     (λ c. search needs)  -- mul-at
-    (λ c κs. search needs)  -- put-vec-requires
-    (λ c. search needs)  -- add-put-vec
-    (λ c κs. search needs)  -- put-vec-requires-2
-    (λ c. search needs)  -- add-put-vec-2
-    (λ c κs. search needs)  -- put-vec-requires-3
-    (λ c. search needs)  -- add-put-vec-3
-    (λ c κs. search needs)  -- put-vec-requires-4
+    (λ c κs. search needs)  -- put-spread-requires
+    (λ c. search needs)  -- add-put-spread
+    (λ c κs. search needs)  -- put-spread-requires-2
+    (λ c. search needs)  -- add-put-spread-2
+    (λ c κs. search needs)  -- put-spread-requires-3
+    (λ c. search needs)  -- add-put-spread-3
+    (λ c κs. search needs)  -- put-spread-requires-4
     (λ c. search needs)  -- same-length
-    (λ c. rw (c .before .before .put-vec4 .ensures, c .before .before .before .before .before .before .put-vec3 .ensures, c .before .before .before .before .before .before .before .before .before .before .put-vec2 .ensures, c .before .before .before .before .before .before .before .before .before .before .before .before .before .before .put-vec .ensures)))  -- returns
+    (λ c. rw (c .before .before .put-spread4 .ensures, c .before .before .before .before .before .before .put-spread3 .ensures, c .before .before .before .before .before .before .before .before .before .before .put-spread2 .ensures, c .before .before .before .before .before .before .before .before .before .before .before .before .before .before .put-spread .ensures)))  -- returns

@@ -16,7 +16,7 @@ body-pair-at-spec =
     (λ c. search needs)  -- mul-body-b
     (λ c. search needs)  -- shared-slice-read-body-b
     (λ c κs. search needs)  -- wide-requires
-    (λ c κs. search needs)  -- impulse-at-requires
+    (λ c κs. search needs)  -- paired-at-requires
     (λ c κs. search needs)  -- wide-requires-2
-    (λ c κs. search needs)  -- impulse-at-requires-2
-    (λ c. rw ((c .before .before .impulse-at) .ensures, (c .before .before .before .wide) .ensures, (c .impulse-at2) .ensures, (c .before .wide2) .ensures)))  -- returns
+    (λ c κs. search needs)  -- paired-at-requires-2
+    (λ c. rw ((c .before .before .paired-at) .ensures, (c .before .before .before .wide) .ensures, (c .paired-at2) .ensures, (c .before .wide2) .ensures)))  -- returns

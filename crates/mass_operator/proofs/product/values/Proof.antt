@@ -7,7 +7,7 @@ use lib.ListN.{length}
 use Rattle.loops.specs.Tabulate.{tabulate}
 use Rattle.loops.proofs.Fill.{Fills, fills, fills-none, fills-put}
 use Rattle.loops.proofs.Tabulate.{filled-tabulate}
-use Rattle.kapitsa_joint.specs.Impulse.{impulseOf}
+use Rattle.kapitsa_joint.specs.Impulse.{pairedOf}
 use Rattle.compact_table.specs.Compact.{compactOf}
 use Rattle.mass_operator.specs.Lent.{valueIn}
 use Rattle.mass_operator.proofs.BodyPairs.{pair-holds, value-held}
@@ -17,7 +17,7 @@ use Rattle.mass_operator.proofs.product.values.Statement.{statement}
 use Rattle.mass_operator.proofs.product.values.Tie as tie
 
 abbrev Inv-loop : tie.InvT-loop
-Inv-loop jacobians links bodies responses vector product₀ pair₀ sum₀ i₀ product pair sum i = Fills nan (λ k. valueIn (compactOf jacobians links k) responses) (length product₀) i product × Dots vector (tabulate (λ k. valueIn (compactOf jacobians links k) responses) (length product₀)) i sum × (pair .«of_a» ≡ impulseOf responses (pair .«body_a»)) × (pair .«of_b» ≡ impulseOf responses (pair .«body_b»))
+Inv-loop jacobians links bodies responses vector product₀ pair₀ sum₀ i₀ product pair sum i = Fills nan (λ k. valueIn (compactOf jacobians links k) responses) (length product₀) i product × Dots vector (tabulate (λ k. valueIn (compactOf jacobians links k) responses) (length product₀)) i sum × (pair .«of_a» ≡ pairedOf responses (pair .«body_a»)) × (pair .«of_b» ≡ pairedOf responses (pair .«body_b»))
 
 abbrev μ-loop : tie.MeasureT-loop
 μ-loop jacobians links bodies responses vector product₀ pair₀ sum₀ i₀ product pair sum i = length product₀ - i
