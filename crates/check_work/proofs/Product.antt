@@ -7,14 +7,14 @@ use lib.Ieee.{Float}
 use Rattle.loops.specs.Tabulate.{tabulate}
 use Rattle.loops.proofs.Tabulate.{tabulate-same}
 use Rattle.binary64.specs.Order.{absolute}
-use Rattle.kapitsa_joint.specs.Impulse.{impulseOf}
+use Rattle.kapitsa_joint.specs.Impulse.{pairedOf}
 use Rattle.kapitsa_joint.specs.Mass.{massOf}
 use Rattle.kapitsa_joint.specs.Table.{tableOf}
 use Rattle.kapitsa_joint.specs.declared.mass.SolverMass.{SolverMass}
 use Rattle.mass_operator.specs.System.{System, systemOf}
 use Rattle.mass_operator.specs.Operator.{responseOf, responseAt, valueAt}
 use Rattle.mass_operator.specs.Flat.{coefficients, productOf}
-use Rattle.mass_operator.specs.Lent.{Impulses, Summing, valueIn}
+use Rattle.mass_operator.specs.Lent.{Paired, Summing, valueIn}
 use Rattle.check_measure.specs.Verdict.{sizeOfMass, sizesOf}
 use Rattle.check_measure.proofs.SizesOf.{mass-size}
 use Rattle.check_work.specs.Rows.{rowsIn, rowSizesIn, sizesIn, Valid, Measured}
@@ -22,8 +22,8 @@ use Rattle.check_work.proofs.Bodies.{below-a, below-b, size-below-a, si
 
 -- ---- of any system: impulses, responses in their place, values
 module _ (s : System) (x : ℕ → Float) {impulses responses : List Float} (a : (i : ℕ) → i < s .rows → s .jacobian i .«body_a» < s .bodies) (b : (i : ℕ) → i < s .rows → s .jacobian i .«body_b» < s .bodies)
-    (h : Summing (s .jacobian) x (s .bodies) (s .rows) impulses) (k : Impulses (λ c. responseOf (s .mass c) (impulseOf impulses c)) (s .bodies) responses) where
-  response : (c : ℕ) → c < s .bodies → impulseOf responses c ≡ responseAt s x c
+    (h : Summing (s .jacobian) x (s .bodies) (s .rows) impulses) (k : Paired (λ c. responseOf (s .mass c) (pairedOf impulses c)) (s .bodies) responses) where
+  response : (c : ℕ) → c < s .bodies → pairedOf responses c ≡ responseAt s x c
   unfolding responseAt
   response c t = k .at c t ∙ ap (responseOf (s .mass c)) (h .at c t)
 
@@ -37,11 +37,11 @@ module _ (s : System) (x : ℕ → Float) {impulses responses : List Float} (a :
 
 -- ---- of the lent table
 module _ {bodies : ℕ} {numbers : List Float} {words : List ℕ} (masses multipliers : List Float) (v : Valid (length multipliers) bodies numbers words) {impulses responses sizeImpulses sizeResponses : List Float}
-    (h : Summing (rowsIn numbers words) (coefficients multipliers) bodies (length multipliers) impulses) (k : Impulses (λ b. responseOf (massOf masses b) (impulseOf impulses b)) bodies responses)
-    (hs : Summing (rowSizesIn numbers words) (sizesIn multipliers) bodies (length multipliers) sizeImpulses) (ks : Impulses (λ b. responseOf (massOf (map absolute masses) b) (impulseOf sizeImpulses b)) bodies sizeResponses) where
+    (h : Summing (rowsIn numbers words) (coefficients multipliers) bodies (length multipliers) impulses) (k : Paired (λ b. responseOf (massOf masses b) (pairedOf impulses b)) bodies responses)
+    (hs : Summing (rowSizesIn numbers words) (sizesIn multipliers) bodies (length multipliers) sizeImpulses) (ks : Paired (λ b. responseOf (massOf (map absolute masses) b) (pairedOf sizeImpulses b)) bodies sizeResponses) where
   -- a body's response on sizes, by the size of its mass
-  by-size : Impulses (λ b. responseOf (sizeOfMass (massOf masses b)) (impulseOf sizeImpulses b)) bodies sizeResponses
-  by-size = record { long = ks .long; at = λ b t. ks .at b t ∙ ap (λ (p : SolverMass). responseOf p (impulseOf sizeImpulses b)) (mass-size masses b) }
+  by-size : Paired (λ b. responseOf (sizeOfMass (massOf masses b)) (pairedOf sizeImpulses b)) bodies sizeResponses
+  by-size = record { long = ks .long; at = λ b t. ks .at b t ∙ ap (λ (p : SolverMass). responseOf p (pairedOf sizeImpulses b)) (mass-size masses b) }
 
   pub measured : {values sizes : List Float} {m : ℕ} → m ≡ length multipliers → values ≡ tabulate (λ i. valueIn (rowsIn numbers words i) responses) m → sizes ≡ tabulate (λ i. valueIn (rowSizesIn numbers words i) sizeResponses) m
       → Measured bodies numbers words masses multipliers values sizes

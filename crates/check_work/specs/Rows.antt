@@ -6,7 +6,7 @@ use lib.ListN.{length}
 use lib.Ieee.{Float}
 use Rattle.binary64.specs.Order.{absolute}
 use Rattle.kapitsa_math.specs.declared.vector.Vec3.{Vec3}
-use Rattle.kapitsa_joint.specs.Impulse.{impulseOf, putImpulseOf}
+use Rattle.kapitsa_joint.specs.Impulse.{pairedOf, putPairedOf}
 use Rattle.kapitsa_joint.specs.Row.{rowOf, jacobianOf}
 use Rattle.kapitsa_joint.specs.Table.{tableOf}
 use Rattle.kapitsa_joint.specs.declared.row.RowJacobian.{RowJacobian}
@@ -32,7 +32,7 @@ pub record Valid (rows bodies : ℕ) (numbers : List Float) (words : List ℕ) :
 
 -- ---- one body's impulse with one more term, and those of a row's two bodies
 unfoldable pub addedAt : List Float → ℕ → Vec3 → Vec3 → Float → List Float
-addedAt l b linear angular c = putImpulseOf l b (addImpulseOf (impulseOf l b) linear angular c)
+addedAt l b linear angular c = putPairedOf l b (addImpulseOf (pairedOf l b) linear angular c)
 
 unfoldable pub addedRow : List Float → RowJacobian → Float → List Float
 addedRow l j c = addedAt (addedAt l (j .«body_a») (j .«linear_a») (j .«angular_a») c) (j .«body_b») (j .«linear_b») (j .«angular_b») c

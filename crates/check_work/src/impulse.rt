@@ -8,9 +8,9 @@ ghost use Rattle.mass_operator.specs.Lent.{Summing};
 ghost use Rattle.check_work.specs.Rows.{rowsIn, rowSizesIn, sizesIn, addedAt, addedRow, Valid};
 use check_measure::row_size;
 use kapitsa_joint::RowJacobian;
-use kapitsa_joint::impulse_at;
+use kapitsa_joint::paired_at;
 use kapitsa_joint::jacobian_at;
-use kapitsa_joint::put_impulse;
+use kapitsa_joint::put_paired;
 use kapitsa_math::Vec3;
 use loops::wide;
 use mass_operator::add_generalized_impulse;
@@ -20,8 +20,8 @@ fn add_at(impulses: &mut [f64], body: u32, linear: Vec3, angular: Vec3, coeffici
     ensures { λ _. ⌜ now (impulses .exit) ≡ addedAt (now (impulses .entry)) body linear angular coefficient ⌝ }
 {
     let b = wide(body);
-    let before = impulse_at(impulses, b);
-    put_impulse(
+    let before = paired_at(impulses, b);
+    put_paired(
         impulses,
         b,
         add_generalized_impulse(before, linear, angular, coefficient),

@@ -7,7 +7,7 @@ ghost use Rattle.mass_operator.specs.Lent.{valueIn};
 ghost use Rattle.check_work.specs.Rows.{rowsIn, rowSizesIn, Valid};
 use check_measure::row_size;
 use kapitsa_joint::RowJacobian;
-use kapitsa_joint::impulse_at;
+use kapitsa_joint::paired_at;
 use kapitsa_joint::jacobian_at;
 use loops::wide;
 
@@ -25,8 +25,8 @@ fn value_of(j: RowJacobian, responses: &[f64]) -> f64
     let angular_a = j.angular_a;
     let linear_b = j.linear_b;
     let angular_b = j.angular_b;
-    let p = impulse_at(responses, wide(j.body_a));
-    let q = impulse_at(responses, wide(j.body_b));
+    let p = paired_at(responses, wide(j.body_a));
+    let q = paired_at(responses, wide(j.body_b));
     linear_a.dot(p.linear)
         + angular_a.dot(p.angular)
         + linear_b.dot(q.linear)

@@ -13,6 +13,7 @@ use Rattle.loops.proofs.Tabulate.{tabulate-same}
 use Rattle.kapitsa_joint.specs.Impulse.{pairedOf}
 use Rattle.kapitsa_joint.specs.Mass.{massOf}
 use Rattle.kapitsa_joint.specs.declared.row.RowJacobian.{RowJacobian}
+use Rattle.kapitsa_joint.specs.declared.impulse.GeneralizedImpulse.{GeneralizedImpulse}
 use Rattle.mass_operator.specs.Applied.{allFiniteOf, appliedOf, appliedOut}
 use Rattle.mass_operator.specs.declared.finite.Applied.{Applied}
 use Rattle.mass_operator.specs.declared.finite.Applied.the-variants.{Done, Overflow}
@@ -45,7 +46,7 @@ applied-told l e number = rw e (told-by l (allFiniteOf l) refl number)
 pub summed-is : (j : ℕ → RowJacobian) (x : ℕ → Float) (rows bodies : ℕ) (l : List Float) {r : Applied} → Summing j x bodies rows l → r ≡ appliedOf l → Summed j x rows bodies r l
 unfolding impulsesOf appliedOf
 summed-is j x rows bodies l h e =
-    let g = λ b. impulseAt j x b rows in
+    let g : ℕ → GeneralizedImpulse = λ b. impulseAt j x b rows in
     let q : allFiniteOf l ≡ allFiniteOf (flatImpulses g bodies) = finite-alike g bodies l (flatImpulses g bodies) (record { long = h .long; at = h .at }) (flat-holds g bodies) in
     let a = e ∙ ap (λ (b : Bool). check b Done Overflow) q in
     record { summed = h; answered = a; told = applied-told _ a }

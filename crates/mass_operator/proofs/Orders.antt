@@ -59,11 +59,11 @@ finite-alike g n l m p q = rw (p .long, q .long) (together (every (λ k. finite 
     work : (k : ℕ) → k < 6 * n → (p : ℕ) × (p < 6 * n) × (getD m k nan ≡ getD l p nan)
     work k h =
         let s : k / 6 < n = omega arith in
-        let (p, t, e) = work-at l m (k / 6) (same (k / 6) s) (k % 6) (omega arith) (omega arith) in
+        let (p, t, e) = work-at l m (k / 6) (same (k / 6) s) (k % 6) {k = k} (omega arith) (omega arith) in
         (p, omega arith, e)
 
     lent : (k : ℕ) → k < 6 * n → (p : ℕ) × (p < 6 * n) × (getD l k nan ≡ getD m p nan)
     lent k h =
         let s : k / 6 < n = omega arith in
-        let (p, t, e) = lent-at l m (k / 6) (same (k / 6) s) (k % 6) (omega arith) (omega arith) in
+        let (p, t, e) = lent-at l m (k / 6) (same (k / 6) s) (k % 6) {k = k} (omega arith) (omega arith) in
         (p, omega arith, e)

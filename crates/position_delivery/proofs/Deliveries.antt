@@ -19,15 +19,16 @@ use Rattle.loops.proofs.Every.{every-same}
 use Rattle.kapitsa_joint.specs.Row.{rowOf, wordsOf}
 use Rattle.kapitsa_joint.specs.Table.{Table, tableOf}
 use Rattle.kapitsa_joint.specs.Mass.{massOf}
-use Rattle.kapitsa_joint.specs.Impulse.{impulseOf}
+use Rattle.kapitsa_joint.specs.Impulse.{impulseOf, pairedOf}
 use Rattle.kapitsa_joint.specs.Centre.{Centres, centresIn, flatCentres}
 use Rattle.kapitsa_joint.proofs.Centres.{flat-centres-in}
 use Rattle.joint_refusals.specs.Refusals.{centresFinite}
 use Rattle.kapitsa_joint.specs.declared.row.RowJacobian.{RowJacobian}
 use Rattle.compact_table.specs.Compact.{compactOf}
 use Rattle.mass_operator.specs.System.{System, systemOf, compactSystem}
-use Rattle.mass_operator.specs.Flat.{Summed, impulsesOf, coefficients}
-use Rattle.mass_operator.proofs.Flat.{flat-holds}
+use Rattle.mass_operator.specs.Operator.{impulseAt}
+use Rattle.mass_operator.specs.Flat.{Summed, flatImpulses, impulsesOf, coefficients}
+use Rattle.mass_operator.proofs.Flat.{flat-holds, flat-same}
 use Rattle.mass_operator.specs.Applied.{allFiniteOf, appliedOf}
 use Rattle.mass_operator.specs.declared.finite.Applied.{Applied}
 use Rattle.mass_operator.specs.declared.finite.Applied.the-variants as applied
@@ -56,6 +57,10 @@ applied-finite : (a : Applied) (l : List Float) → a ≡ appliedOf l → (b : B
 unfolding appliedOf
 applied-finite a l e b h = rw (← h) (sym e)
 
+-- the impulses in work memory are those of the list
+read : (l : List Float) (bodies placed : ℕ) {m : List Float} → placed ≤ bodies → flatImpulses (pairedOf l) bodies ≡ m → (b : ℕ) → b < placed → pairedOf l b ≡ impulseOf m b
+read l bodies placed few e b h = sym (flat-holds (pairedOf l) bodies .at b (omega arith)) ∙ ap (λ (m : List Float). impulseOf m b) e
+
 module _ (j : ℕ → RowJacobian) (numbers pending : List Float) (rows bodies : ℕ) (a : Applied) (l : List Float) (summed : Summed j (coefficients pending) rows bodies a l) where
   all : (b : Bool) → allFiniteOf (impulsesOf j (coefficients pending) rows bodies) ≡ b → check b applied.Done applied.Overflow ≡ a
   all b h = applied-finite a (impulsesOf j (coefficients pending) rows bodies) (summed .answered) b h
@@ -70,22 +75,31 @@ module _ (j : ℕ → RowJacobian) (numbers pending : List Float) (rows bodies :
   passed true e = refl
   passed false e = absurd (let z : _≡_ {A = ℕ} 0 1 = cc in omega arith)
 
-  module _ (place placed : ℕ) (masses centres : List Float) where
-    pub judged-overflow : a ≡ applied.Overflow → Judged false place placed numbers masses centres (impulsesOf j (coefficients pending) rows bodies) pending l
-    judged-overflow t = record { passed = rw (failed _ (all _ refl ∙ t)); summed = summed .summed }
+  in-order : flatImpulses (pairedOf l) bodies ≡ impulsesOf j (coefficients pending) rows bodies
+  unfolding impulsesOf
+  in-order = flat-same (pairedOf l) (λ b. impulseAt j (coefficients pending) b rows) bodies (summed .summed .at)
 
-    pub judged-finite : (gains moved : Bool) → a ≡ applied.Done → gains ≡ gainsFinite place numbers pending (length pending) → moved ≡ centresFinite (movedIn placed masses l centres) → Judged (gains && moved) place placed numbers masses centres (impulsesOf j (coefficients pending) rows bodies) pending l
-    judged-finite gains moved t eg em = record { passed = rw (passed _ (all _ refl ∙ t), ← summed .summed, ← eg, ← em); summed = summed .summed }
+  module _ (place placed : ℕ) (masses centres : List Float) where
+    pub judged-overflow : a ≡ applied.Overflow → Judged false place placed bodies numbers masses centres (impulsesOf j (coefficients pending) rows bodies) pending l
+    judged-overflow t = record { passed = rw (failed _ (all _ refl ∙ t)); summed = in-order }
+
+    pub judged-finite : (gains moved : Bool) → placed ≤ bodies → a ≡ applied.Done → gains ≡ gainsFinite place numbers pending (length pending) → moved ≡ centresFinite (movedBy (massOf masses) (pairedOf l) (centresIn placed centres))
+        → Judged (gains && moved) place placed bodies numbers masses centres (impulsesOf j (coefficients pending) rows bodies) pending l
+    judged-finite gains moved few t eg em = record { passed = rw (passed _ (all _ refl ∙ t), ← eg, em, same); summed = in-order }
+      where
+        same : centresFinite (movedBy (massOf masses) (pairedOf l) (centresIn placed centres)) ≡ centresFinite (movedIn placed masses (impulsesOf j (coefficients pending) rows bodies) centres)
+        same = moved-finite-same (massOf masses) (pairedOf l) (impulseOf (impulsesOf j (coefficients pending) rows bodies)) (centresIn placed centres) (read l bodies placed few in-order)
 
 -- ---- `show`
-module _ (r : Bool) (place placed : ℕ) (numbers masses centres impulses pending l solution₀ impulses₀ centres₀ : List Float) (judged : Judged r place placed numbers masses centres impulses pending l) where
+module _ (r : Bool) (place placed bodies : ℕ) (numbers masses centres impulses pending l solution₀ impulses₀ centres₀ : List Float) (judged : Judged r place placed bodies numbers masses centres impulses pending l) where
   pub shown-none : not r ≡ true → Shown false place placed numbers masses centres impulses pending solution₀ impulses₀ centres₀ solution₀ impulses₀ centres₀
   shown-none h = record { passed = sym (not-true r h) ∙ judged .passed; shown = λ e. absurd (let z : _≡_ {A = ℕ} 0 1 = cc in omega arith); kept = λ _. (refl, refl, refl) }
 
-  pub shown-all : (solution₁ impulses₁ centres₁ : List Float) → not r ≡ false → solution₁ ≡ pending → impulses₁ ≡ l → centres₁ ≡ flatCentres (movedIn placed masses l centres) → Shown true place placed numbers masses centres impulses pending solution₀ impulses₀ centres₀ solution₁ impulses₁ centres₁
-  shown-all solution₁ impulses₁ centres₁ h es ei ec = record {
+  pub shown-all : (solution₁ impulses₁ centres₁ : List Float) → placed ≤ bodies → not r ≡ false → solution₁ ≡ pending → impulses₁ ≡ flatImpulses (pairedOf l) bodies → centres₁ ≡ flatCentres (movedBy (massOf masses) (pairedOf l) (centresIn placed centres))
+      → Shown true place placed numbers masses centres impulses pending solution₀ impulses₀ centres₀ solution₁ impulses₁ centres₁
+  shown-all solution₁ impulses₁ centres₁ few h es ei ec = record {
     passed = sym (not-false r h) ∙ judged .passed;
-    shown = λ _. (es, ei ∙ judged .summed, ec ∙ ap (λ (i : List Float). flatCentres (movedIn placed masses i centres)) (judged .summed));
+    shown = λ _. (es, ei ∙ judged .summed, ec ∙ moved-flat-same (massOf masses) (pairedOf l) (impulseOf impulses) (centresIn placed centres) (read l bodies placed few (judged .summed)));
     kept = λ e. absurd (let z : _≡_ {A = ℕ} 0 1 = cc in omega arith);
   }
 

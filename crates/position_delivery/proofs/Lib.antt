@@ -1,4 +1,5 @@
 -- Laws of what is delivered.
+pub mod InOrder
 pub mod Deliveries
 pub mod Counted
 pub mod Answered

@@ -9,10 +9,11 @@ use Rattle.loops.specs.Run.{going, next}
 use Rattle.kapitsa_joint.specs.Table.{Table}
 use Rattle.kapitsa_joint.specs.Tolerance.{dimensionOf}
 use Rattle.kapitsa_joint.specs.Mass.{massOf}
-use Rattle.kapitsa_joint.specs.Impulse.{impulseOf}
+use Rattle.kapitsa_joint.specs.Impulse.{impulseOf, pairedOf}
 use Rattle.kapitsa_joint.specs.Centre.{Centres, centresIn, flatCentres}
 use Rattle.joint_refusals.specs.Refusals.{centresFinite}
 use Rattle.mass_operator.specs.Applied.{allFiniteOf}
+use Rattle.mass_operator.specs.Flat.{flatImpulses}
 use Rattle.recurrence.specs.Step.{Iterate}
 use Rattle.position.specs.Centres.{movedBy}
 use Rattle.position.specs.Residual.{maximaOf}
@@ -31,10 +32,10 @@ movedIn placed masses impulses centres = movedBy (massOf masses) (impulseOf impu
 abbrev pub passes17 : ℕ → ℕ → List Float → List Float → List Float → List Float → List Float → Bool
 passes17 place placed numbers masses centres impulses pending = allFiniteOf impulses && (gainsFinite place numbers pending (length pending) && centresFinite (movedIn placed masses impulses centres))
 
--- and the impulses in work memory
-pub record Judged (r : Bool) (place placed : ℕ) (numbers masses centres impulses pending bodyImpulses : List Float) : Type 0 where
+-- and work memory holds the impulses, in its order
+pub record Judged (r : Bool) (place placed bodies : ℕ) (numbers masses centres impulses pending bodyImpulses : List Float) : Type 0 where
   pub passed : r ≡ passes17 place placed numbers masses centres impulses pending
-  pub summed : bodyImpulses ≡ impulses
+  pub summed : flatImpulses (pairedOf bodyImpulses) bodies ≡ impulses
 
 -- solution, impulses and centres, or nothing
 pub record Shown (r : Bool) (place placed : ℕ) (numbers masses centres impulses pending solution₀ impulses₀ centres₀ solution₁ impulses₁ centres₁ : List Float) : Type 0 where

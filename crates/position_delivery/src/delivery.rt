@@ -45,7 +45,7 @@ fn deliverable(
     requires { ⌜ (27 * length (now pending) ≤ length (now numbers)) × (12 * length (now pending) ≤ length (now jacobians)) × (2 * length (now pending) ≤ length (now links)) × (length (now «body_impulses») ≡ 6 * bodies) ⌝ }
     requires { ⌜ (place < 27) × (placed ≤ bodies) × (10 * bodies ≤ length (now masses)) × (3 * placed ≤ length (now centres)) ⌝ }
     requires { ⌜ Linked (now links) (length (now pending)) bodies ⌝ }
-    ensures { λ r. ⌜ Judged r place placed (now (numbers .entry)) (now (masses .entry)) (now (centres .entry)) (impulsesOf (compactOf (now (jacobians .entry)) (now (links .entry))) (coefficients (now (pending .entry))) (length (now (pending .entry))) bodies) (now (pending .entry)) (now («body_impulses» .exit)) ⌝ }
+    ensures { λ r. ⌜ Judged r place placed bodies (now (numbers .entry)) (now (masses .entry)) (now (centres .entry)) (impulsesOf (compactOf (now (jacobians .entry)) (now (links .entry))) (coefficients (now (pending .entry))) (length (now (pending .entry))) bodies) (now (pending .entry)) (now («body_impulses» .exit)) ⌝ }
 {
     let Applied::Done = global_velocity_impulse(jacobians, links, pending, bodies, body_impulses)
     else {

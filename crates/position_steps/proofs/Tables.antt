@@ -12,7 +12,7 @@ use Rattle.loops.specs.Run.{going}
 use Rattle.loops.specs.Judge.{judged, AllPass}
 use Rattle.loops.proofs.Judge.{judge-going}
 use Rattle.loops.proofs.Same.{judged-each}
-use Rattle.kapitsa_math.specs.Lent.{vecOf}
+use Rattle.kapitsa_math.specs.Lent.{vecOf, spreadOf}
 use Rattle.kapitsa_math.specs.declared.vector.Vec3.{Vec3}
 use Rattle.kapitsa_joint.specs.Row.{rowOf, wordsOf, jacobianOf}
 use Rattle.kapitsa_joint.specs.Mass.{massOf}
@@ -36,6 +36,10 @@ no-vec : (l : List Float) (k : ℕ) → length l ≤ k → vecOf l k ≡ noVecto
 unfolding vecOf
 no-vec l k h = rw (beyond l k nan h, beyond l (k + 1) nan (omega arith), beyond l (k + 2) nan (omega arith))
 
+no-spread : (l : List Float) (k : ℕ) → length l ≤ k → spreadOf l k ≡ noVector
+unfolding spreadOf
+no-spread l k h = rw (beyond l k nan h, beyond l (k + 2) nan (omega arith), beyond l (k + 4) nan (omega arith))
+
 module _ (numbers : List Float) (words : List ℕ) (n : ℕ) (en : length numbers ≡ 27 * n) (ew : length words ≡ 8 * n) where
   abbrev noRow : RowJacobian
   noRow = record { «linear_a» = noVector; «angular_a» = noVector; «linear_b» = noVector; «angular_b» = noVector; «body_a» = 0; «body_b» = 0 }
@@ -46,7 +50,7 @@ module _ (numbers : List Float) (words : List ℕ) (n : ℕ) (en : length number
 
   compact-beyond : (jacobians : List Float) (links : List ℕ) → length jacobians ≡ 12 * n → length links ≡ 2 * n → (i : ℕ) → n ≤ i → compactOf jacobians links i ≡ noRow
   unfolding compactOf
-  compact-beyond jacobians links ej el i h = rw (no-vec jacobians (12 * i) (omega arith), no-vec jacobians (12 * i + 3) (omega arith), no-vec jacobians (12 * i + 6) (omega arith), no-vec jacobians (12 * i + 9) (omega arith), beyond links (2 * i) 0 (omega arith), beyond links (2 * i + 1) 0 (omega arith))
+  compact-beyond jacobians links ej el i h = rw (no-spread jacobians (12 * i) (omega arith), no-spread jacobians (12 * i + 1) (omega arith), no-spread jacobians (12 * i + 6) (omega arith), no-spread jacobians (12 * i + 7) (omega arith), beyond links (2 * i) 0 (omega arith), beyond links (2 * i + 1) 0 (omega arith))
 
   rows-same : (jacobians₀ jacobians : List Float) (links₀ links : List ℕ) → length jacobians ≡ 12 * n → length links ≡ 2 * n → Gathered (λ i. jacobianOf (rowOf numbers words i)) n jacobians₀ links₀ jacobians links
       → compactOf jacobians links ≡ (λ i. jacobianOf (rowOf numbers words i))

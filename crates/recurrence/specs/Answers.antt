@@ -6,7 +6,9 @@ use lib.Ieee.{Float}
 use Rattle.loops.specs.Run.{Run, going, ended, on}
 use Rattle.loops.specs.Cleared.{Free}
 use Rattle.mass_operator.specs.System.{System}
-use Rattle.mass_operator.specs.Flat.{coefficients, responsesOf, productOf}
+use Rattle.mass_operator.specs.Operator.{responseAt}
+use Rattle.mass_operator.specs.Flat.{coefficients, productOf}
+use Rattle.mass_operator.specs.Lent.{Paired}
 use Rattle.recurrence.specs.Step.{Iterate, Carried}
 use Rattle.recurrence.specs.declared.ratio.Scale.{Scale}
 use Rattle.recurrence.specs.declared.ratio.Scale.the-variants as scales
@@ -39,7 +41,7 @@ standing r = on r (λ z. z) (λ z. z)
 
 -- what the operator works in, refused or not
 pub record ProductLeft (s : System) (direction impulses product : List Float) : Type 0 where
-  pub responded : impulses ≡ responsesOf s (coefficients direction)
+  pub responded : Paired (responseAt s (coefficients direction)) (s .bodies) impulses
   pub multiplied : product ≡ productOf s (coefficients direction)
 
 -- `advance`: after a refusal solution and residual are free
@@ -50,7 +52,7 @@ pub record AdvanceLeft (s : System) (direction impulses product solution₀ solu
 
 -- `advance_diagonal`: after a refusal solution, residual and product are free
 pub record DiagonalLeft (s : System) (direction impulses product₀ product solution₀ solution residual₀ residual : List Float) : Type 0 where
-  pub responded : impulses ≡ responsesOf s (coefficients direction)
+  pub responded : Paired (responseAt s (coefficients direction)) (s .bodies) impulses
   pub product-left : Free product₀ product
   pub solution-left : Free solution₀ solution
   pub residual-left : Free residual₀ residual

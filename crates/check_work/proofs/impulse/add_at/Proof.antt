@@ -10,8 +10,8 @@ add-at-spec =
     tie.close
     (tie.spec
     (λ c κs. search needs)  -- wide-requires
-    (λ c κs. search needs)  -- impulse-at-requires
+    (λ c κs. search needs)  -- paired-at-requires
     (λ c κs. search needs)  -- add-generalized-impulse-requires
-    (λ c κs. search needs)  -- put-impulse-requires
+    (λ c κs. search needs)  -- put-paired-requires
     (λ c. search needs)  -- same-length
-    (λ c. rw ((c .before .before .put-impulse) .ensures, (c .before .before .before .add-generalized-impulse) .ensures, (c .before .before .before .before .before .impulse-at) .ensures, (c .before .before .before .before .before .before .before .wide) .ensures)))  -- returns
+    (λ c. rw ((c .before .before .put-paired) .ensures, (c .before .before .before .add-generalized-impulse) .ensures, (c .before .before .before .before .before .paired-at) .ensures, (c .before .before .before .before .before .before .before .wide) .ensures)))  -- returns

@@ -7,8 +7,8 @@ pub turn-spec : {M : Type 1} → statement M
 turn-spec =
     tie.close
     (tie.spec
-    (λ c κs. search needs)  -- impulse-at-requires
+    (λ c κs. search needs)  -- paired-at-requires
     (λ c κs. search needs)  -- response-requires
-    (λ c κs. search needs)  -- put-impulse-requires
+    (λ c κs. search needs)  -- put-paired-requires
     (λ c. search needs)  -- same-length
-    (λ c. rw ((c .before .before .put-impulse) .ensures, (c .before .before .before .before .response) .ensures, (c .before .before .before .before .before .impulse-at) .ensures)))  -- returns
+    (λ c. rw ((c .before .before .put-paired) .ensures, (c .before .before .before .before .response) .ensures, (c .before .before .before .before .before .paired-at) .ensures)))  -- returns

@@ -2,7 +2,7 @@
 use Prim.Native.Nat.{_-_}
 use Rattle.loops.proofs.Loop.{loops}
 use Rattle.kapitsa_joint.specs.Mass.{massOf}
-use Rattle.kapitsa_joint.specs.Impulse.{impulseOf}
+use Rattle.kapitsa_joint.specs.Impulse.{pairedOf}
 use Rattle.kapitsa_joint.specs.Centre.{centresIn}
 use Rattle.position.specs.Centres.{movedBy}
 use Rattle.position.proofs.Moved.{Moves, moves-none, moves-more, moves-end}
@@ -10,7 +10,7 @@ use Rattle.position.proofs.centre.move_centres.Statement.{statement}
 use Rattle.position.proofs.centre.move_centres.Tie as tie
 
 abbrev Inv-loop : tie.InvT-loop
-Inv-loop masses impulses centres bodies now₀ b₀ now b = Moves (movedBy (massOf masses) (impulseOf impulses) (centresIn bodies centres)) b now
+Inv-loop masses impulses centres bodies now₀ b₀ now b = Moves (movedBy (massOf masses) (pairedOf impulses) (centresIn bodies centres)) b now
 
 abbrev μ-loop : tie.MeasureT-loop
 μ-loop masses impulses centres bodies now₀ b₀ now b = bodies - b

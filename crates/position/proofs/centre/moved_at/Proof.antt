@@ -8,11 +8,11 @@ pub moved-at-spec : {M : Type 1} → statement M
 moved-at-spec =
     tie.close
     (tie.spec
-    (λ c κs. search needs)  -- impulse-at-requires
+    (λ c κs. search needs)  -- paired-at-requires
     (λ c. search needs)  -- mul-vec-at
     (λ c κs. search needs)  -- vec-at-requires
     (λ c κs. search needs)  -- is-still-requires
-    (λ c. moved-still _ _ _ _ _ _ _ (c .before .before .before .impulse-at .ensures) (c .before .before .vec-at .ensures) (c .before .is-still .ensures) (c .if1 .taken))  -- returns
+    (λ c. moved-still _ _ _ _ _ _ _ (c .before .before .before .paired-at .ensures) (c .before .before .vec-at .ensures) (c .before .is-still .ensures) (c .if1 .taken))  -- returns
     (λ c κs. search needs)  -- mass-at-requires
     (λ c κs. search needs)  -- next-center-requires
-    (λ c. moved-next _ _ _ _ _ _ _ (c .before .before .before .before .before .impulse-at .ensures) (c .before .before .before .before .vec-at .ensures) (c .before .before .before .is-still .ensures) _ _ (c .before .before .if1 .left) (c .before .mass-at .ensures) (c .next-center .ensures)))  -- returns-2
+    (λ c. moved-next _ _ _ _ _ _ _ (c .before .before .before .before .before .paired-at .ensures) (c .before .before .before .before .vec-at .ensures) (c .before .before .before .is-still .ensures) _ _ (c .before .before .if1 .left) (c .before .mass-at .ensures) (c .next-center .ensures)))  -- returns-2

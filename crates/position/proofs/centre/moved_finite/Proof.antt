@@ -3,7 +3,7 @@ use Prim.Native.Nat.{_-_}
 use Rattle.loops.proofs.Every.{Holds, called}
 use Rattle.kapitsa_math.specs.Vector.{isFiniteOf}
 use Rattle.kapitsa_joint.specs.Mass.{massOf}
-use Rattle.kapitsa_joint.specs.Impulse.{impulseOf}
+use Rattle.kapitsa_joint.specs.Impulse.{pairedOf}
 use Rattle.kapitsa_joint.specs.Centre.{centresIn}
 use Rattle.joint_refusals.specs.Refusals.{centresFinite}
 use Rattle.position.specs.Centres.{movedBy}
@@ -12,7 +12,7 @@ use Rattle.position.proofs.centre.moved_finite.Statement.{statement}
 use Rattle.position.proofs.centre.moved_finite.Tie as tie
 
 abbrev Inv-loop : tie.InvT-loop
-Inv-loop masses impulses centres bodies b₀ b = Holds (λ b. isFiniteOf (movedBy (massOf masses) (impulseOf impulses) (centresIn bodies centres) .at b)) bodies b
+Inv-loop masses impulses centres bodies b₀ b = Holds (λ b. isFiniteOf (movedBy (massOf masses) (pairedOf impulses) (centresIn bodies centres) .at b)) bodies b
 
 abbrev μ-loop : tie.MeasureT-loop
 μ-loop masses impulses centres bodies b₀ b = bodies - b

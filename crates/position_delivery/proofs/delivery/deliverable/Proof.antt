@@ -18,4 +18,4 @@ deliverable-spec =
     (λ c κs. search known)  -- multipliers-finite-requires
     (λ c κs. search known)  -- moved-finite-requires
     (λ c. search known)  -- same-length-2
-    (λ c. judged-finite _ _ _ _ _ _ _ ((c .before .before .before .before .before .before .before .global-velocity-impulse) .ensures) _ _ _ _ _ _ ((c .before .before .before .enum-told) .given .1) ((c .before .before .multipliers-finite) .ensures) ((c .moved-finite) .ensures)))  -- returns-2
+    (λ c. judged-finite _ _ _ _ _ _ _ ((c .before .before .before .before .before .before .before .global-velocity-impulse) .ensures) _ _ _ _ _ _ (search known) ((c .before .before .before .enum-told) .given .1) ((c .before .before .multipliers-finite) .ensures) ((c .moved-finite) .ensures)))  -- returns-2

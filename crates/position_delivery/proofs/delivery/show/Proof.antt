@@ -13,12 +13,12 @@ show-spec =
     (tie.spec
     (λ c κs. search known)  -- deliverable-requires
     (λ c. search known)  -- same-length
-    (λ c. shown-none _ _ _ _ _ _ _ _ _ _ _ _ ((c .before .before .before .deliverable) .ensures) ((c .if1) .taken))  -- returns
+    (λ c. shown-none _ _ _ _ _ _ _ _ _ _ _ _ _ ((c .before .before .before .deliverable) .ensures) ((c .if1) .taken))  -- returns
     (λ c κs. search known)  -- copy-requires
-    (λ c κs. search known)  -- copy-requires-2
+    (λ c κs. search known)  -- deliver-impulses-requires
     (λ c κs. (omega (arith, (c .before .before .before .before .before .before .before .before .before .before .before .before .before .before .before .before .before .before .before .before .before .before .before .before .before .before) .pre .1 .0), omega (arith, (c .before .before .before .before .before .before .before .before .before .before .before .before .before .before .before .before .before .before .before .before .before .before .before .before .before .before) .pre .0, (c .before .before .before .before .before .before .before .before .before .before .before .before .before .before .before .before .before .before .before .before .before .before .before .before .before .before) .pre .1 .0, (c .before .before .before .before .before .before .before .before .before .before .before .before .before .body-impulses) .given), (c .before .before .before .before .before .before .before .before .before .before .before .before .before .before .before .before .before .before .before .before .before .before .before .before .before .before) .pre .1 .0 .3, (c .before .before .before .before .before .before .before .before .before .before .before .before .before .before .before .before .before .before .before .before .before .before .before .before .before .before) .pre .1 .0 .4))  -- move-centres-requires
     (λ c. search known)  -- same-length-2
     (λ c. search known)  -- same-length-3
     (λ c. search known)  -- same-length-4
     (λ c. search known)  -- same-length-5
-    (λ c. shown-all _ _ _ _ _ _ _ _ _ _ _ _ ((c .before .before .before .before .before .before .before .before .before .before .before .before .before .before .before .before .before .deliverable) .ensures) _ _ _ ((c .before .before .before .before .before .before .before .before .before .before .before .before .before .before .if1) .left) ((c .before .before .before .before .before .before .before .before .before .before .before .before .copy) .ensures) ((c .before .before .before .before .before .before .before .copy2) .ensures) ((c .before .before .move-centres) .ensures)))  -- returns-2
+    (λ c. shown-all _ _ _ _ _ _ _ _ _ _ _ _ _ ((c .before .before .before .before .before .before .before .before .before .before .before .before .before .before .before .before .before .deliverable) .ensures) _ _ _ (search known) ((c .before .before .before .before .before .before .before .before .before .before .before .before .before .before .if1) .left) ((c .before .before .before .before .before .before .before .before .before .before .before .before .copy) .ensures) ((c .before .before .before .before .before .before .before .deliver-impulses) .ensures) ((c .before .before .move-centres) .ensures)))  -- returns-2
