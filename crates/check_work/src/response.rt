@@ -10,8 +10,8 @@ ghost use Rattle.mass_operator.specs.Operator.{responseOf};
 ghost use Rattle.mass_operator.specs.Lent.{Paired};
 use check_measure::mass_size;
 use kapitsa_joint::SolverMass;
-use kapitsa_joint::paired_at;
 use kapitsa_joint::mass_at;
+use kapitsa_joint::paired_at;
 use kapitsa_joint::put_paired;
 use mass_operator::product::response;
 

@@ -7,8 +7,8 @@ ghost use Rattle.mass_operator.specs.Lent.{valueIn};
 ghost use Rattle.check_work.specs.Rows.{rowsIn, rowSizesIn, Valid};
 use check_measure::row_size;
 use kapitsa_joint::RowJacobian;
-use kapitsa_joint::paired_at;
 use kapitsa_joint::jacobian_at;
+use kapitsa_joint::paired_at;
 use loops::wide;
 
 // A row's value, and its value on sizes.

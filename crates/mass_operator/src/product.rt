@@ -19,8 +19,8 @@ use crate::impulse::sum_impulses;
 use compact_table::compact_at;
 use kapitsa_joint::GeneralizedImpulse;
 use kapitsa_joint::SolverMass;
-use kapitsa_joint::paired_at;
 use kapitsa_joint::mass_at;
+use kapitsa_joint::paired_at;
 use kapitsa_joint::put_paired;
 
 pub fn response(mass: SolverMass, impulse: GeneralizedImpulse) -> GeneralizedImpulse

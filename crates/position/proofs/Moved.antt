@@ -1,7 +1,7 @@
 -- The centres after the impulses: the ways of `moved_at`, the loops over the bodies, and impulses that agree. Assumes nothing.
 use Prim.Native.Nat.{ℕ, _+_, _*_, _<_, _≤_}
 use mathlib.Core.Path.{_≡_, refl, ap, _∙_}
-use mathlib.Core.Bool.{Bool, true, false}
+use mathlib.Core.Bool.{Bool, true, false, _&&_}
 use mathlib.Core.List.{List}
 use mathlib.Core.Logic.{inl}
 use native.Mathlib.Omega.{arith}
@@ -19,6 +19,18 @@ use Rattle.kapitsa_joint.specs.declared.mass.SolverMass.{SolverMass}
 use Rattle.kapitsa_joint.proofs.Centres.{centres-flat, flat-centres-same}
 use Rattle.joint_refusals.specs.Refusals.{centresFinite}
 use Rattle.position.specs.Centres.{stillOf, nextCentre, movedAt, movedBy}
+
+-- ---- `is_still`: six tests, by pairs or by threes
+pub in-pairs : (a b c d e f : Bool) → (((a && d) && (b && e)) && (c && f)) ≡ (((a && b) && c) && ((d && e) && f))
+in-pairs false b c d e f = refl
+in-pairs true false c true e f = refl
+in-pairs true false c false e f = refl
+in-pairs true true false true true f = refl
+in-pairs true true false true false f = refl
+in-pairs true true false false e f = refl
+in-pairs true true true true true f = refl
+in-pairs true true true true false f = refl
+in-pairs true true true false e f = refl
 
 -- ---- `next_center`
 pub next-is : (m : SolverMass) (g : GeneralizedImpulse) (centre step r : Vec3) → step ≡ scaleOf (g .linear) (m .«inverse_mass») → r ≡ addOf centre step → r ≡ nextCentre m g centre

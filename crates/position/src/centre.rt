@@ -7,25 +7,22 @@ ghost use Rattle.kapitsa_joint.specs.Mass.{massOf};
 ghost use Rattle.kapitsa_joint.specs.Impulse.{pairedOf};
 ghost use Rattle.kapitsa_joint.specs.Centre.{centresIn, flatCentres};
 ghost use Rattle.joint_refusals.specs.Refusals.{centresFinite};
-ghost use Rattle.position.specs.Centres.{zeroOf, stillOf, nextCentre, movedAt, movedBy};
+ghost use Rattle.position.specs.Centres.{stillOf, nextCentre, movedAt, movedBy};
 use kapitsa_joint::GeneralizedImpulse;
 use kapitsa_joint::SolverMass;
-use kapitsa_joint::paired_at;
 use kapitsa_joint::mass_at;
+use kapitsa_joint::paired_at;
 use kapitsa_math::Vec3;
 use kapitsa_math::put_vec;
 use kapitsa_math::vec_at;
 
-fn is_zero(v: Vec3) -> bool
-    ensures { λ r. ⌜ r ≡ zeroOf v ⌝ }
-{
-    (v.x == 0.0) & (v.y == 0.0) & (v.z == 0.0)
-}
-
+// Linear and angular numbers are tested side by side, as work memory has them.
 fn is_still(impulse: GeneralizedImpulse) -> bool
     ensures { λ r. ⌜ r ≡ stillOf impulse ⌝ }
 {
-    is_zero(impulse.linear) & is_zero(impulse.angular)
+    let p = impulse.linear;
+    let q = impulse.angular;
+    ((p.x == 0.0) & (q.x == 0.0)) & ((p.y == 0.0) & (q.y == 0.0)) & ((p.z == 0.0) & (q.z == 0.0))
 }
 
 fn next_center(mass: SolverMass, impulse: GeneralizedImpulse, center: Vec3) -> Vec3
