@@ -7,7 +7,8 @@ use mathlib.Core.Logic.{inl}
 use native.Mathlib.Omega.{arith}
 use borrow.Author.Count.{below-none, below-more}
 use lib.ListN.{length}
-use lib.Ieee.{Float}
+use lib.Ieee.{Float, eq}
+use Rattle.loops.specs.Cleared.{plusZero}
 use Rattle.loops.proofs.Every.{every-same}
 use Rattle.kapitsa_math.specs.declared.vector.Vec3.{Vec3}
 use Rattle.kapitsa_math.specs.Vector.{isFiniteOf, addOf, scaleOf}
@@ -18,10 +19,10 @@ use Rattle.kapitsa_joint.specs.declared.impulse.GeneralizedImpulse.{Generalized
 use Rattle.kapitsa_joint.specs.declared.mass.SolverMass.{SolverMass}
 use Rattle.kapitsa_joint.proofs.Centres.{centres-flat, flat-centres-same}
 use Rattle.joint_refusals.specs.Refusals.{centresFinite}
-use Rattle.position.specs.Centres.{stillOf, nextCentre, movedAt, movedBy}
+use Rattle.position.specs.Centres.{zeroOf, stillOf, nextCentre, movedAt, movedBy}
 
 -- ---- `is_still`: six tests, by pairs or by threes
-pub in-pairs : (a b c d e f : Bool) → (((a && d) && (b && e)) && (c && f)) ≡ (((a && b) && c) && ((d && e) && f))
+in-pairs : (a b c d e f : Bool) → (((a && d) && (b && e)) && (c && f)) ≡ (((a && b) && c) && ((d && e) && f))
 in-pairs false b c d e f = refl
 in-pairs true false c true e f = refl
 in-pairs true false c false e f = refl
@@ -31,6 +32,11 @@ in-pairs true true false false e f = refl
 in-pairs true true true true true f = refl
 in-pairs true true true true false f = refl
 in-pairs true true true false e f = refl
+
+pub still-is : (g : GeneralizedImpulse)
+    → (((eq (g .linear .x) plusZero && eq (g .angular .x) plusZero) && (eq (g .linear .y) plusZero && eq (g .angular .y) plusZero)) && (eq (g .linear .z) plusZero && eq (g .angular .z) plusZero)) ≡ stillOf g
+unfolding zeroOf stillOf
+still-is g = in-pairs (eq (g .linear .x) plusZero) (eq (g .linear .y) plusZero) (eq (g .linear .z) plusZero) (eq (g .angular .x) plusZero) (eq (g .angular .y) plusZero) (eq (g .angular .z) plusZero)
 
 -- ---- `next_center`
 pub next-is : (m : SolverMass) (g : GeneralizedImpulse) (centre step r : Vec3) → step ≡ scaleOf (g .linear) (m .«inverse_mass») → r ≡ addOf centre step → r ≡ nextCentre m g centre
