@@ -21,4 +21,4 @@ show-spec =
     (λ c. search known)  -- same-length-3
     (λ c. search known)  -- same-length-4
     (λ c. search known)  -- same-length-5
-    (λ c. shown-all _ _ _ _ _ _ _ _ _ _ _ _ _ ((c .before .before .before .before .before .before .before .before .before .before .before .before .before .before .before .before .before .deliverable) .ensures) _ _ _ (search known) ((c .before .before .before .before .before .before .before .before .before .before .before .before .before .before .if1) .left) ((c .before .before .before .before .before .before .before .before .before .before .before .before .copy) .ensures) ((c .before .before .before .before .before .before .before .deliver-impulses) .ensures) ((c .before .before .move-centres) .ensures)))  -- returns-2
+    (λ c. shown-all _ _ _ _ _ _ _ _ _ _ _ _ _ ((c .before .before .before .before .before .before .before .before .before .before .before .before .before .before .before .before .before .deliverable) .ensures) _ _ _ ((c .before .before .before .before .before .before .before .before .before .before .before .before .before .before .before .before .before .before .before .before .before .before .before .before .before .before .before .before .before) .pre .1 .0 .1) ((c .before .before .before .before .before .before .before .before .before .before .before .before .before .before .if1) .left) ((c .before .before .before .before .before .before .before .before .before .before .before .before .copy) .ensures) ((c .before .before .before .before .before .before .before .deliver-impulses) .ensures) ((c .before .before .move-centres) .ensures)))  -- returns-2
