@@ -1,6 +1,6 @@
 -- An impulse put into a slice and read out of it again, in the order of document 01 and in that of work memory. Assumes nothing.
 use Prim.Native.Nat.{ℕ, _+_, _*_, _<_, _≤_}
-use mathlib.Core.Path.{_≡_, sym, ap, _∙_}
+use mathlib.Core.Path.{_≡_, sym, _∙_}
 use mathlib.Core.Bool.{Bool, true, false, not}
 use lib.Dec.{T, ltb, ltb→lt, nltb→le}
 use lib.Arith.{lt-of-le-ne}
@@ -18,9 +18,6 @@ use Rattle.kapitsa_joint.specs.declared.impulse.GeneralizedImpulse.{Gene
 pub put-impulse-length : (l : List Float) (b : ℕ) (g : GeneralizedImpulse) → length (putImpulseOf l b g) ≡ length l
 unfolding putImpulseOf
 put-impulse-length l b g = put-vec-length (putVecOf l (6 * b) (g .linear)) (6 * b + 3) (g .angular) ∙ put-vec-length l (6 * b) (g .linear)
-
-pub put-impulse-long : {m : List Float} (l : List Float) (b : ℕ) (g : GeneralizedImpulse) → m ≡ putImpulseOf l b g → length m ≡ length l
-put-impulse-long l b g e = ap length e ∙ put-impulse-length l b g
 
 -- it is there, and every other body's is as it was
 pub put-impulse-same : (l : List Float) (b : ℕ) (g : GeneralizedImpulse) → 6 * b + 6 ≤ length l → impulseOf (putImpulseOf l b g) b ≡ g
@@ -56,9 +53,6 @@ put-impulse-other l b g c h = rw (kept (6 * c) (side (6 * c) (omega arith) (omeg
 pub put-paired-length : (l : List Float) (b : ℕ) (g : GeneralizedImpulse) → length (putPairedOf l b g) ≡ length l
 unfolding putPairedOf
 put-paired-length l b g = put-spread-length (putSpreadOf l (6 * b) (g .linear)) (6 * b + 1) (g .angular) ∙ put-spread-length l (6 * b) (g .linear)
-
-pub put-paired-long : {m : List Float} (l : List Float) (b : ℕ) (g : GeneralizedImpulse) → m ≡ putPairedOf l b g → length m ≡ length l
-put-paired-long l b g e = ap length e ∙ put-paired-length l b g
 
 pub put-paired-same : (l : List Float) (b : ℕ) (g : GeneralizedImpulse) → 6 * b + 6 ≤ length l → pairedOf (putPairedOf l b g) b ≡ g
 unfolding putPairedOf pairedOf

@@ -1,26 +1,14 @@
-// GeneralizedImpulse of solver.rs: six doubles a body, linear then angular.
+// GeneralizedImpulse of solver.rs: six doubles a body as they are delivered, linear then angular. Work memory has another order: paired.rt.
 ghost use mathlib.Core.Path.{_≡_};
 ghost use Prim.Native.Nat.{_+_, _*_, _≤_};
 ghost use lib.ListN.{length};
-ghost use Rattle.kapitsa_joint.specs.Impulse.{impulseOf, putImpulseOf};
+ghost use Rattle.kapitsa_joint.specs.Impulse.{putImpulseOf};
 use kapitsa_math::Vec3;
 use kapitsa_math::put_vec;
-use kapitsa_math::vec_at;
 
 pub struct GeneralizedImpulse {
     pub linear: Vec3,
     pub angular: Vec3,
-}
-
-pub fn impulse_at(impulses: &[f64], body: usize) -> GeneralizedImpulse
-    requires { ⌜ 6 * body + 6 ≤ length (now impulses) ⌝ }
-    ensures { λ r. ⌜ r ≡ impulseOf (now (impulses .entry)) body ⌝ }
-{
-    let at = 6 * body;
-    GeneralizedImpulse {
-        linear: vec_at(impulses, at),
-        angular: vec_at(impulses, at + 3),
-    }
 }
 
 pub fn put_impulse(impulses: &mut [f64], body: usize, impulse: GeneralizedImpulse)

@@ -8,7 +8,6 @@ pub mod row; // row.rt: ConstraintRow, read whole or in parts
 pub mod tolerance; // tolerance.rt: JointTolerance and RowDimension
 
 pub use impulse::GeneralizedImpulse;
-pub use impulse::impulse_at;
 pub use impulse::put_impulse;
 pub use kind::Kind;
 pub use kind::is_velocity;
