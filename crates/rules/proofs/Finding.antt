@@ -1,13 +1,13 @@
--- The search for the first and for the only rule that applies; the ruleset `searches` closes the needs of `first_rule` and `one_rule`. Assumes nothing.
+-- The search for the first and for the only rule that applies; the ruleset `searches` closes the needs of `first_rule`, `one_rule` and `only_rule`. Assumes nothing.
 use Prim.Native.Nat.{ℕ, _+_, _<_, _≤_}
 use mathlib.Core.Path.{_≡_, sym, _∙_}
 use mathlib.Core.Bool.{Bool, true, false, true≢false}
 use mathlib.Core.Logic.{_⊎_, inl, inr}
 use native.Mathlib.Omega.{arith}
 use Rattle.loops.proofs.Loop.{loops}
-use Rattle.rules.specs.Rules.{onlyBelow}
+use Rattle.rules.specs.Rules.{Only, onlyBelow}
 use Rattle.rules.specs.Found.{First}
-use Rattle.rules.proofs.Only.{equal-or-less, less-or-not, only-is, only-none}
+use Rattle.rules.proofs.Only.{equal-or-less, less-or-not, only-below, only-is, only-none}
 
 -- the invariant: none from `start` on and below r
 pub record Passed (p : ℕ → Bool) (n start r : ℕ) : Type 0 where
@@ -54,4 +54,15 @@ module _ {p : ℕ → Bool} {n : ℕ} where
       go q b h (inl e) = absurd (true≢false (sym h ∙ f .none q (omega arith) e))
       go q b h (inr e) = later q b h (equal-or-less r q e)
 
-pub ruleset searches = (passed-none, passed-more, first-here, first-end, found-none, found-second, found-one, loops)
+  -- ---- the first, where there is one only
+  pub found-only : {r : ℕ} → First p n 0 r → onlyBelow p n < n → r ≡ onlyBelow p n
+  found-only {r} f l = go (less-or-not r n)
+    where
+      only : Only p n (onlyBelow p n)
+      only = only-below p n l
+
+      go : (r < n) ⊎ (n ≤ r) → r ≡ onlyBelow p n
+      go (inl b) = only .alone r b (f .hit b)
+      go (inr b) = absurd (true≢false (sym (only .holds) ∙ f .none (onlyBelow p n) (omega arith) (omega arith)))
+
+pub ruleset searches = (passed-none, passed-more, first-here, first-end, found-none, found-second, found-one, found-only, loops)

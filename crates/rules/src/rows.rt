@@ -6,6 +6,7 @@ ghost use lib.ListN.{length};
 ghost use Rattle.loops.specs.Tabulate.{tabulate};
 ghost use Rattle.rules.specs.Rows.{rulesIn, ruleIn, toleranceIn, rowsRuled};
 use crate::search::one_rule;
+use crate::search::only_rule;
 
 pub fn row_tolerance(
     row_words: &[u32],
@@ -17,7 +18,7 @@ pub fn row_tolerance(
     requires { ⌜ ruleIn (rulesIn (now «rule_words») (now «rule_tolerances»)) (now «row_words») i < length (now «rule_tolerances») ⌝ }
     ensures { λ r. ⌜ r ≡ toleranceIn (rulesIn (now («rule_words» .entry)) (now («rule_tolerances» .entry))) (now («row_words» .entry)) i ⌝ }
 {
-    let r = one_rule(
+    let r = only_rule(
         rule_words,
         rule_tolerances,
         row_words[8 * i + 1],

@@ -1,6 +1,6 @@
 // The one rule that applies to a row's dimension and key.
 ghost use mathlib.Core.Path.{_≡_};
-ghost use Prim.Native.Nat.{_+_, _*_, _≤_};
+ghost use Prim.Native.Nat.{_+_, _*_, _<_, _≤_};
 ghost use lib.ListN.{length};
 ghost use Rattle.rules.specs.Rules.{applies, ruleFor};
 ghost use Rattle.rules.specs.Rows.{rulesIn};
@@ -42,4 +42,13 @@ pub fn one_rule(words: &[u32], tolerances: &[f64], dimension: u32, key: u32) -> 
         return tolerances.len();
     }
     r
+}
+
+// The same where it is known that there is one and no second: the first that applies.
+pub fn only_rule(words: &[u32], tolerances: &[f64], dimension: u32, key: u32) -> usize
+    requires { ⌜ 3 * length (now tolerances) ≤ length (now words) ⌝ }
+    requires { ⌜ ruleFor (rulesIn (now words) (now tolerances)) dimension key < length (now tolerances) ⌝ }
+    ensures { λ r. ⌜ r ≡ ruleFor (rulesIn (now (words .entry)) (now (tolerances .entry))) dimension key ⌝ }
+{
+    first_rule(words, tolerances, dimension, key, 0)
 }

@@ -7,14 +7,14 @@ pub row-tolerance-spec : {M : Type 1} → statement M
 row-tolerance-spec =
     tie.close
     (tie.spec
-    (λ c. search rowed)  -- mul-one-rule
-    (λ c. search rowed)  -- add-one-rule
-    (λ c. search rowed)  -- mul-one-rule-2
-    (λ c. search rowed)  -- shared-slice-read-one-rule
-    (λ c. search rowed)  -- mul-one-rule-3
-    (λ c. search rowed)  -- mul-one-rule-4
-    (λ c. search rowed)  -- shared-slice-read-one-rule-2
-    (λ c κs. search rowed)  -- one-rule-requires
+    (λ c. search rowed)  -- mul-only-rule
+    (λ c. search rowed)  -- add-only-rule
+    (λ c. search rowed)  -- mul-only-rule-2
+    (λ c. search rowed)  -- shared-slice-read-only-rule
+    (λ c. search rowed)  -- mul-only-rule-3
+    (λ c. search rowed)  -- mul-only-rule-4
+    (λ c. search rowed)  -- shared-slice-read-only-rule-2
+    (λ c κs. search rowed)  -- only-rule-requires
     (λ c. search rowed)  -- mul-result
     (λ c. search rowed)  -- shared-slice-read-result
     (λ c. cc))  -- returns
