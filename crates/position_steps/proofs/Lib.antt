@@ -1,5 +1,6 @@
 -- Laws of the steps.
 pub mod Openings
+pub mod AtOnce
 pub mod Tables
 pub mod StepZero
 pub mod Stepping
