@@ -5,6 +5,7 @@ use mathlib.Core.Bool.{Bool, true, false, not, _&&_}
 use mathlib.Core.List.{List}
 use native.Mathlib.Omega.{arith}
 use lib.Dec.{leb, eqb}
+use lib.ListN.{length}
 use lib.Ieee.{Float}
 use borrow.Author.Tests.{not-true, not-false, eqb-true, leb-true}
 use Rattle.loops.specs.Run.{Run, going, ended, on}
@@ -18,7 +19,8 @@ use Rattle.kapitsa_joint.specs.declared.kind.Kind.{Kind}
 use Rattle.kapitsa_joint.specs.declared.kind.Kind.the-variants as kinds
 use Rattle.kapitsa_joint.specs.Table.{Table, tableOf}
 use Rattle.rules.specs.Rules.{Rules, ruleLengthsFit, Ruled}
-use Rattle.rules.specs.Rows.{ruleIn}
+use Rattle.rules.specs.Rows.{ruleIn, rowsRuled}
+use Rattle.rules.proofs.Lent.{lent-28}
 use Rattle.rules.proofs.Ruled.{passes-28}
 use Rattle.preconditioner.specs.declared.mode.Mode.{Mode}
 use Rattle.position.specs.Problem.{Problem}
@@ -33,7 +35,7 @@ use Rattle.position_delivery.specs.declared.answer.PositionPcgResult.{PositionP
 use Rattle.steps.specs.Solve.{solve}
 use Rattle.work_memory.specs.Work.{WorkMemory}
 use Rattle.pcg.specs.SolveHeld.{SolveHeld}
-use Rattle.pcg.specs.Ruled.{rulesLent, residualLent, centresLent, besideLent, NamingRoom, namedBy, SolveRuled}
+use Rattle.pcg.specs.Ruled.{rulesLent, residualLent, centresLent, besideLent, NamingRoom, NamingRuled, namedBy, SolveRuled}
 use Rattle.pcg.proofs.Entry.{solve-apart, solved-three}
 
 -- ---- an accepted answer has passed what is judged before step 0
@@ -97,6 +99,19 @@ naming-room fits p mode limit place n before after held long e = record {
   room = λ r a. let w = long (accepted-tests fits p mode limit place n before after (held .answered) r a .0) in omega arith;
 }
 
+-- and each row is under one rule and no second
+module _ (kind : Kind) (s : Rules) (rows bodies : ℕ) (numbers : List Float) (words : List ℕ) (masses centres given : List Float) (shift : Float) (mode : Mode) (limit : ℕ) (before : Lent) {fits : Bool} {after : Lent} {answer : PositionPcg} {work workAfter : WorkMemory}
+    (held : SolveHeld fits (solveFor kind rows bodies numbers words masses centres given s shift) mode limit (placeOf kind) rows before after answer work workAfter) where
+  passed : (r : PositionPcgResult) → answer ≡ answers.Accepted r → AllPass (openingTests fits (solveFor kind rows bodies numbers words masses centres given s shift) limit)
+  passed r c = accepted-tests fits (solveFor kind rows bodies numbers words masses centres given s shift) mode limit (placeOf kind) rows before after (held .answered) r c
+
+  pub naming-ruled : {k : ℕ} → (fits ≡ true → length words ≡ 8 * rows) → k ≡ rows → NamingRuled answer s words k
+  unfolding AllPass
+  naming-ruled long e = record {
+    room = λ r c. let w = long (passed r c .0) in omega arith;
+    ruled = λ r c. ap (rowsRuled s words) e ∙ lent-28 s rows bodies numbers words masses ∙ passed r c .1 .1 .1 .1 .0;
+  }
+
 -- ---- the commit: what it has room for, and what it leaves
 within : (kind : Kind) {place : ℕ} → place ≡ placeOf kind → place < 27
 within kinds.Position e = omega arith
@@ -143,7 +158,7 @@ module _ (kind : Kind) (s : Rules) (rows bodies : ℕ) (numbers : List Float) (w
         let passed : a ≡ true = sym e ∙ not-false b h in
         rw passed (record { held = held; named = l ∙ ap (λ (k : ℕ). namedBy answer (ruleIn s words) k named) en; ruled = each-ruled })
 
--- ---- `name_accepted`
+-- ---- `name_accepted`, `name_ruled`
 module _ (a : PositionPcg) (rule : ℕ → ℕ) (n : ℕ) (before : List ℕ) where
   pub named-accepted : {r : PositionPcgResult} {l : List ℕ} → a ≡ answers.Accepted r → l ≡ tabulate rule n → l ≡ namedBy a rule n before
   named-accepted e h = rw e h

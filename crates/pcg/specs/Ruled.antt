@@ -4,10 +4,12 @@ use mathlib.Core.Path.{_≡_}
 use mathlib.Core.Bool.{Bool, true, _&&_}
 use mathlib.Core.List.{List}
 use lib.Dec.{eqb}
+use lib.ListN.{length}
 use Rattle.loops.specs.Tabulate.{tabulate}
 use Rattle.kapitsa_joint.specs.Kind.{byKind, placedOf}
 use Rattle.kapitsa_joint.specs.declared.kind.Kind.{Kind}
 use Rattle.rules.specs.Rules.{Rules, ruleLengthsFit, Ruled}
+use Rattle.rules.specs.Rows.{rowsRuled}
 use Rattle.preconditioner.specs.declared.mode.Mode.{Mode}
 use Rattle.position.specs.Problem.{Problem}
 use Rattle.position_delivery.specs.Outcome.{Lent}
@@ -41,6 +43,11 @@ namedBy (answers.Refused number) rule n before = before
 -- the words of as many rows are there, where they are read
 pub record NamingRoom (answer : PositionPcg) (numbers words : ℕ) : Type 0 where
   pub room : (r : PositionPcgResult) → answer ≡ answers.Accepted r → 8 * numbers ≤ words
+
+-- and each row is under one rule and no second
+pub record NamingRuled (answer : PositionPcg) (s : Rules) (words : List ℕ) (numbers : ℕ) : Type 0 where
+  pub room : (r : PositionPcgResult) → answer ≡ answers.Accepted r → 8 * numbers ≤ length words
+  pub ruled : (r : PositionPcgResult) → answer ≡ answers.Accepted r → rowsRuled s words numbers ≡ true
 
 -- of n rows; `fits` is whether refusal 3 passes
 pub record SolveRuled (fits : Bool) (s : Rules) (p : Problem) (mode : Mode) (limit place n : ℕ) (before after : Lent) (numbers numbersAfter : List ℕ) (answer : PositionPcg) (work workAfter : WorkMemory) : Type 0 where

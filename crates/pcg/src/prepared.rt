@@ -9,7 +9,7 @@ ghost use Rattle.kapitsa_joint.specs.Kind.{byKind, placeOf};
 ghost use Rattle.position_iteration.specs.Position.{positionOf, solveFor};
 ghost use Rattle.work_memory.specs.Work.{workMemory};
 ghost use Rattle.work_memory.specs.Lengths.{passes3};
-ghost use Rattle.pcg.specs.Ruled.{rulesLent, residualLent, centresLent, besideLent, NamingRoom, namedBy, SolveRuled};
+ghost use Rattle.pcg.specs.Ruled.{rulesLent, residualLent, centresLent, besideLent, NamingRoom, NamingRuled, namedBy, SolveRuled};
 use crate::solve::propose_by_rules;
 use kapitsa_joint::Kind;
 use kapitsa_joint::place_of;
@@ -17,6 +17,7 @@ use kapitsa_joint::placed_of;
 use loops::wide;
 use position_delivery::PositionPcg;
 use position_delivery::commit;
+use rules::name_only_rules;
 use rules::name_rules;
 use rules::rule_lengths_fit;
 
@@ -73,6 +74,26 @@ pub fn name_accepted(
     match answer {
         PositionPcg::Accepted(result) => {
             name_rules(words, rule_words, rule_tolerances, rule_numbers);
+        }
+        PositionPcg::Refused(number) => {}
+    }
+}
+
+// The same where each row is known to be under one rule and no second.
+fn name_ruled(
+    answer: PositionPcg,
+    words: &[u32],
+    rule_words: &[u32],
+    rule_tolerances: &[f64],
+    rule_numbers: &mut [u32],
+)
+    requires { ⌜ (3 * length (now «rule_tolerances») ≤ length (now «rule_words»)) × (length (now «rule_tolerances») ≤ 64) ⌝ }
+    requires { ⌜ NamingRuled answer (rulesIn (now «rule_words») (now «rule_tolerances»)) (now words) (length (now «rule_numbers»)) ⌝ }
+    ensures { λ _. ⌜ now («rule_numbers» .exit) ≡ namedBy answer (ruleIn (rulesIn (now («rule_words» .entry)) (now («rule_tolerances» .entry))) (now (words .entry))) (length (now («rule_numbers» .entry))) (now («rule_numbers» .entry)) ⌝ }
+{
+    match answer {
+        PositionPcg::Accepted(result) => {
+            name_only_rules(words, rule_words, rule_tolerances, rule_numbers);
         }
         PositionPcg::Refused(number) => {}
     }
@@ -166,7 +187,7 @@ pub fn solve_prepared(
         values,
     );
     commit(place_of(kind), answer, numbers, solution);
-    name_accepted(answer, words, rule_words, rule_tolerances, rule_numbers);
+    name_ruled(answer, words, rule_words, rule_tolerances, rule_numbers);
     answer
 }
 

@@ -7,6 +7,7 @@ pub use judge::rows_ruled;
 pub use judge::rule_lengths_fit;
 pub use judge::rules_fit;
 pub use rows::gather_tolerances;
+pub use rows::name_only_rules;
 pub use rows::name_rules;
 pub use rows::row_tolerance;
 pub use search::one_rule;

@@ -66,3 +66,27 @@ pub fn name_rules(
         i += 1;
     }
 }
+
+// The same where each row is under one rule and no second.
+pub fn name_only_rules(
+    row_words: &[u32],
+    rule_words: &[u32],
+    rule_tolerances: &[f64],
+    rule_numbers: &mut [u32],
+)
+    requires { ⌜ (8 * length (now «rule_numbers») ≤ length (now «row_words»)) × (3 * length (now «rule_tolerances») ≤ length (now «rule_words»)) × (length (now «rule_tolerances») ≤ 64) ⌝ }
+    requires { ⌜ rowsRuled (rulesIn (now «rule_words») (now «rule_tolerances»)) (now «row_words») (length (now «rule_numbers»)) ≡ true ⌝ }
+    ensures { λ _. ⌜ now («rule_numbers» .exit) ≡ tabulate (ruleIn (rulesIn (now («rule_words» .entry)) (now («rule_tolerances» .entry))) (now («row_words» .entry))) (length (now («rule_numbers» .entry))) ⌝ }
+{
+    let mut i = 0;
+    while i < rule_numbers.len() {
+        let r = only_rule(
+            rule_words,
+            rule_tolerances,
+            row_words[8 * i + 1],
+            row_words[8 * i],
+        );
+        rule_numbers[i] = r as u32;
+        i += 1;
+    }
+}
