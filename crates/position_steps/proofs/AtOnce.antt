@@ -1,5 +1,5 @@
 -- Where all is passed at once, every test in the order passes. Assumes nothing.
-use Prim.Native.Nat.{ℕ, _+_, _*_, _<_}
+use Prim.Native.Nat.{ℕ, _+_, _*_, _<_, _≤_}
 use mathlib.Core.Path.{_≡_, refl, sym, ap, _∙_}
 use mathlib.Core.Bool.{Bool, true, false, not, _&&_, cond}
 use mathlib.Core.List.{List}
@@ -22,6 +22,7 @@ use Rattle.kapitsa_joint.specs.declared.row.RowWords.{RowWords}
 use Rattle.joint_refusals.specs.Refusals.{wordsFitOf, opensOf, velocityOpensOf, massFiniteOf}
 use Rattle.rules.specs.Rules.{Rules, ruleCount, ruleFor, passes27}
 use Rattle.rules.specs.Rows.{ruleIn, rowsRuled}
+use Rattle.rules.proofs.Two.{words-fit}
 use Rattle.preconditioner.specs.Shift.{passes25}
 use Rattle.position_iteration.specs.Method.{passes5, afterThree}
 use Rattle.position_iteration.specs.Position.{stepsFor}
@@ -61,6 +62,10 @@ module _ (kind : Kind) (rules : Rules) (numbers : List Float) (words : List ℕ)
   pub row-ruled : {r : ℕ} → not (a && b) ≡ false → r ≡ ruleFor rules (w .dimension) (w .key) → ltb r (ruleCount rules) ≡ rowReady kind rules numbers words i
   unfolding rowReady wordsOf
   row-ruled h e = ap (λ (x : ℕ). ltb x (ruleCount rules)) (e ∙ ap (λ (v : RowWords). ruleFor rules (v .dimension) (v .key)) ew) ∙ ap (λ (x : Bool). x && ruled) (sym (not-false (a && b) h) ∙ looked)
+
+-- what the rule is asked of: key and dimension that 4 lets pass
+pub fit-words : (w : RowWords) {a : Bool} (b : Bool) → a ≡ wordsFitOf w → not (a && b) ≡ false → (w .key ≤ 255) × (w .dimension ≤ 1)
+fit-words w {a} b e h = words-fit w (sym e ∙ both a b (not-false (a && b) h) .0)
 
 -- ---- a ready row passes 4, 5 and 28
 module _ (kind : Kind) (s : Rules) (numbers : List Float) (words : List ℕ) (i : ℕ) where

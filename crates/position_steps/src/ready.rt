@@ -6,6 +6,7 @@ ghost use Rattle.loops.specs.Every.{every};
 ghost use Rattle.kapitsa_joint.specs.Kind.{byKind};
 ghost use Rattle.joint_refusals.specs.Refusals.{opensOf, velocityOpensOf};
 ghost use Rattle.rules.specs.Rows.{rulesIn};
+ghost use Rattle.rules.specs.Plain.{plainRules};
 ghost use Rattle.position_steps.specs.Ready.{rowReady};
 use joint_refusals::row_opens;
 use joint_refusals::row_words_fit;
@@ -15,7 +16,8 @@ use kapitsa_joint::RowScalars;
 use kapitsa_joint::RowWords;
 use kapitsa_joint::scalars_at;
 use kapitsa_joint::words_at;
-use rules::one_rule;
+use rules::one_rule_of;
+use rules::rules_plain;
 
 fn opens_by_kind(kind: Kind, s: RowScalars, w: RowWords) -> bool
     ensures { λ r. ⌜ r ≡ byKind kind (opensOf s w) (velocityOpensOf s w) ⌝ }
@@ -29,6 +31,7 @@ fn opens_by_kind(kind: Kind, s: RowScalars, w: RowWords) -> bool
 // The search comes last: the other tests have no loop.
 fn row_ready_at(
     kind: Kind,
+    plain: bool,
     numbers: &[f64],
     words: &[u32],
     rule_words: &[u32],
@@ -36,6 +39,7 @@ fn row_ready_at(
     i: usize,
 ) -> bool
     requires { ⌜ (27 * i + 27 ≤ length (now numbers)) × (8 * i + 8 ≤ length (now words)) × (3 * length (now «rule_tolerances») ≤ length (now «rule_words»)) ⌝ }
+    requires { ⌜ plain ≡ plainRules (rulesIn (now «rule_words») (now «rule_tolerances»)) ⌝ }
     ensures { λ r. ⌜ r ≡ rowReady kind (rulesIn (now («rule_words» .entry)) (now («rule_tolerances» .entry))) (now (numbers .entry)) (now (words .entry)) i ⌝ }
 {
     let w = words_at(words, 8 * i);
@@ -43,7 +47,7 @@ fn row_ready_at(
     if !(row_words_fit(w) & opens_by_kind(kind, s, w)) {
         return false;
     }
-    one_rule(rule_words, rule_tolerances, w.dimension, w.key) < rule_tolerances.len()
+    one_rule_of(plain, rule_words, rule_tolerances, w.dimension, w.key) < rule_tolerances.len()
 }
 
 pub fn rows_ready(
@@ -57,9 +61,10 @@ pub fn rows_ready(
     requires { ⌜ (27 * rows ≤ length (now numbers)) × (8 * rows ≤ length (now words)) × (3 * length (now «rule_tolerances») ≤ length (now «rule_words»)) ⌝ }
     ensures { λ r. ⌜ r ≡ every (rowReady kind (rulesIn (now («rule_words» .entry)) (now («rule_tolerances» .entry))) (now (numbers .entry)) (now (words .entry))) rows ⌝ }
 {
+    let plain = rules_plain(rule_words, rule_tolerances);
     let mut i = 0;
     while i < rows {
-        if !row_ready_at(kind, numbers, words, rule_words, rule_tolerances, i) {
+        if !row_ready_at(kind, plain, numbers, words, rule_words, rule_tolerances, i) {
             return false;
         }
         i += 1;

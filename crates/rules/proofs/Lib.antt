@@ -6,3 +6,4 @@ pub mod Lent
 pub mod Ruled
 pub mod Two
 pub mod Agree
+pub mod ByDimension

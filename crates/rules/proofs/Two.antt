@@ -19,7 +19,7 @@ use Rattle.rules.specs.Rules.{toleranceAt, ruleFits, passes27, applies, 
 use Rattle.rules.proofs.Ruled.{rule-is, unique-28}
 
 -- ---- what 4 tells of a row's key and dimension
-words-fit : (w : RowWords) → wordsFitOf w ≡ true → (w .key ≤ 255) × (w .dimension ≤ 1)
+pub words-fit : (w : RowWords) → wordsFitOf w ≡ true → (w .key ≤ 255) × (w .dimension ≤ 1)
 unfolding wordsFitOf
 words-fit w h =
     let (a, _) = both (((leb (w .key) 255 && leb (w .dimension) 1) && leb (w .«force_driven») 1) && leb (w .«position_enabled») 1) (eqb (w .spare) 0) h in

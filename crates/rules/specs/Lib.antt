@@ -1,3 +1,4 @@
 pub mod Rules
 pub mod Found
 pub mod Rows
+pub mod Plain

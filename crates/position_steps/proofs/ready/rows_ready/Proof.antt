@@ -7,15 +7,16 @@ use Rattle.position_steps.proofs.ready.rows_ready.Statement.{statement}
 use Rattle.position_steps.proofs.ready.rows_ready.Tie as tie
 
 abbrev Inv-loop : tie.InvT-loop
-Inv-loop kind numbers words rule-words rule-tolerances rows i₀ i = Holds (rowReady kind (rulesIn rule-words rule-tolerances) numbers words) rows i
+Inv-loop kind numbers words rule-words rule-tolerances rows plain i₀ i = Holds (rowReady kind (rulesIn rule-words rule-tolerances) numbers words) rows i
 
 abbrev μ-loop : tie.MeasureT-loop
-μ-loop kind numbers words rule-words rule-tolerances rows i₀ i = rows - i
+μ-loop kind numbers words rule-words rule-tolerances rows plain i₀ i = rows - i
 
 pub rows-ready-spec : {M : Type 1} → statement M
 rows-ready-spec =
     tie.close
     (tie.spec Inv-loop μ-loop
+    (λ c κs. search called)  -- rules-plain-requires
     (λ c. search called)  -- loop-holds
     (λ c κs. search called)  -- row-ready-at-requires
     (λ c. search called)  -- returns
