@@ -12,7 +12,7 @@ use Rattle.preconditioner.specs.declared.apply.Preconditioner.{Preconditioner}
 use Rattle.position_iteration.specs.Standing.{Standing}
 
 module _ (p : Preconditioner) (n bodies : ℕ) (tolerances masses jacobians : List Float) (links : List ℕ) (m : Memory) (h : Standing p n bodies tolerances masses jacobians links m) (k : ℕ) (e : k ≡ n) where
-  -- `advance`
+  -- `step_length`
   pub table-fits : (12 * k ≤ length jacobians) × (2 * k ≤ length links) × (10 * bodies ≤ length masses)
   table-fits = (omega (arith, h .jacobians-long), omega (arith, h .links-long), h .masses-long)
 
@@ -20,8 +20,8 @@ module _ (p : Preconditioner) (n bodies : ℕ) (tolerances masses jacobians : Li
   linked-fits = subst (λ (i : ℕ). Linked links i bodies) (sym e) (h .linked)
 
   -- `take_diagonal_step`
-  pub diagonal-fits : (12 * k ≤ length jacobians) × (2 * k ≤ length links) × (10 * bodies ≤ length masses) × (length (m .diagonal) ≡ k) × (length tolerances ≡ k)
-  diagonal-fits = (omega (arith, h .jacobians-long), omega (arith, h .links-long), h .masses-long, h .ready .long ∙ sym e, h .tolerances-long ∙ sym e)
+  pub diagonal-fits : (length (m .diagonal) ≡ k) × (length tolerances ≡ k)
+  diagonal-fits = (h .ready .long ∙ sym e, h .tolerances-long ∙ sym e)
 
   -- `first`, `renew`
   pub ready-fits : Ready p k m

@@ -1,9 +1,11 @@
-// One turn of the loop: a step, and where it misses z, s and direction anew.
+// One turn of the loop: a step's length, the step, and where it misses z, s and direction anew.
 // A residual that is not finite makes s so, and that is refused; where the step meets, by a tolerance that is infinite, it has a test of its own.
 ghost use mathlib.Core.Path.{_≡_};
-ghost use Prim.Native.Nat.{_*_, _≤_};
+ghost use Prim.Native.Nat.{_*_};
 ghost use lib.ListN.{length};
-ghost use Rattle.compact_table.specs.Compact.{Linked};
+ghost use Rattle.mass_operator.specs.System.{compactSystem};
+ghost use Rattle.recurrence.specs.Parts.{lengthOf};
+ghost use Rattle.recurrence.specs.Answers.{scaleOut, ProductLeft};
 ghost use Rattle.position_iteration.specs.Standing.{Standing, stepsIn, diagonalStepsIn, TurnIs};
 use mass_operator::all_finite;
 use position::position_vector_converged;
@@ -14,6 +16,7 @@ use recurrence::advance;
 use recurrence::advance_diagonal;
 use recurrence::next_direction;
 use recurrence::renew;
+use recurrence::step_length;
 
 pub enum Turned {
     On(f64),
@@ -21,8 +24,9 @@ pub enum Turned {
     Refused(u32),
 }
 
-// With a factor: z and s are made where the step misses.
+// A step of the length found, with a factor: z and s are made where it misses.
 fn take_factor_step(
+    found: Scale,
     tolerances: &[f64],
     preconditioner: Preconditioner,
     masses: &[f64],
@@ -41,10 +45,12 @@ fn take_factor_step(
     direction: &mut [f64],
 ) -> Turned
     requires { ⌜ Standing preconditioner (length (now tolerances)) bodies (now tolerances) (now masses) (now jacobians) (now links) record { diagonal = now diagonal; pattern = now pattern; order = now order; values = now values } ⌝ }
-    requires { ⌜ (length (now «body_impulses») ≡ 6 * bodies) × (length (now product) ≡ length (now tolerances)) × (length (now pending) ≡ length (now tolerances)) × (length (now residual) ≡ length (now tolerances)) × (length (now direction) ≡ length (now tolerances)) ⌝ }
+    requires { ⌜ (length (now product) ≡ length (now tolerances)) × (length (now pending) ≡ length (now tolerances)) × (length (now residual) ≡ length (now tolerances)) × (length (now direction) ≡ length (now tolerances)) ⌝ }
+    requires { ⌜ (lengthOf (compactSystem (length (now direction)) bodies (now jacobians) (now links) (now masses)) record { direction = now direction; s = «residual_product» } ≡ scaleOut found) × ProductLeft (compactSystem (length (now direction)) bodies (now jacobians) (now links) (now masses)) (now direction) (now «body_impulses») (now product) ⌝ }
     ensures { λ r. ⌜ TurnIs (stepsIn preconditioner (length (now (tolerances .entry))) bodies (now (tolerances .entry)) (now (masses .entry)) (now (jacobians .entry)) (now (links .entry)) record { diagonal = now (diagonal .entry); pattern = now (pattern .entry); order = now (order .entry); values = now (values .entry) }) (record { solution = now (pending .entry); residual = now (residual .entry) }, record { direction = now (direction .entry); s = «residual_product» }) r (now (pending .exit)) (now (residual .exit)) (now (direction .exit)) ⌝ }
 {
     match advance(
+        found,
         jacobians,
         links,
         masses,
@@ -83,8 +89,9 @@ fn take_factor_step(
     }
 }
 
-// In mode 0: z and s come with the step.
+// The same in mode 0: z and s come with the step.
 fn take_diagonal_step(
+    found: Scale,
     tolerances: &[f64],
     masses: &[f64],
     bodies: usize,
@@ -98,12 +105,12 @@ fn take_diagonal_step(
     residual: &mut [f64],
     direction: &mut [f64],
 ) -> Turned
-    requires { ⌜ (12 * length (now direction) ≤ length (now jacobians)) × (2 * length (now direction) ≤ length (now links)) × (10 * bodies ≤ length (now masses)) × (length (now diagonal) ≡ length (now direction)) × (length (now tolerances) ≡ length (now direction)) ⌝ }
-    requires { ⌜ (length (now «body_impulses») ≡ 6 * bodies) × (length (now product) ≡ length (now direction)) × (length (now pending) ≡ length (now direction)) × (length (now residual) ≡ length (now direction)) ⌝ }
-    requires { ⌜ Linked (now links) (length (now direction)) bodies ⌝ }
+    requires { ⌜ (length (now diagonal) ≡ length (now direction)) × (length (now product) ≡ length (now direction)) × (length (now pending) ≡ length (now direction)) × (length (now residual) ≡ length (now direction)) × (length (now tolerances) ≡ length (now direction)) ⌝ }
+    requires { ⌜ (lengthOf (compactSystem (length (now direction)) bodies (now jacobians) (now links) (now masses)) record { direction = now direction; s = «residual_product» } ≡ scaleOut found) × ProductLeft (compactSystem (length (now direction)) bodies (now jacobians) (now links) (now masses)) (now direction) (now «body_impulses») (now product) ⌝ }
     ensures { λ r. ⌜ TurnIs (diagonalStepsIn (length (now (direction .entry))) bodies (now (tolerances .entry)) (now (masses .entry)) (now (jacobians .entry)) (now (links .entry)) (now (diagonal .entry))) (record { solution = now (pending .entry); residual = now (residual .entry) }, record { direction = now (direction .entry); s = «residual_product» }) r (now (pending .exit)) (now (residual .exit)) (now (direction .exit)) ⌝ }
 {
     match advance_diagonal(
+        found,
         jacobians,
         links,
         masses,
@@ -154,8 +161,19 @@ pub fn take_step(
     requires { ⌜ (length (now «body_impulses») ≡ 6 * bodies) × (length (now product) ≡ length (now tolerances)) × (length (now pending) ≡ length (now tolerances)) × (length (now residual) ≡ length (now tolerances)) × (length (now direction) ≡ length (now tolerances)) ⌝ }
     ensures { λ r. ⌜ TurnIs (stepsIn preconditioner (length (now (tolerances .entry))) bodies (now (tolerances .entry)) (now (masses .entry)) (now (jacobians .entry)) (now (links .entry)) record { diagonal = now (diagonal .entry); pattern = now (pattern .entry); order = now (order .entry); values = now (values .entry) }) (record { solution = now (pending .entry); residual = now (residual .entry) }, record { direction = now (direction .entry); s = «residual_product» }) r (now (pending .exit)) (now (residual .exit)) (now (direction .exit)) ⌝ }
 {
+    let found = step_length(
+        jacobians,
+        links,
+        masses,
+        bodies,
+        direction,
+        residual_product,
+        body_impulses,
+        product,
+    );
     if let Preconditioner::Diagonal = preconditioner {
         return take_diagonal_step(
+            found,
             tolerances,
             masses,
             bodies,
@@ -171,6 +189,7 @@ pub fn take_step(
         );
     }
     take_factor_step(
+        found,
         tolerances,
         preconditioner,
         masses,

@@ -1,16 +1,14 @@
 // A step of mode 0. Its z is the residual by the diagonal, so solution, residual, z and s = residual · z are made in one pass over the rows. z takes the place of the product.
 // Of these the solution alone is tested: where a residual is not finite, neither is s (proofs/Residual.antt).
 ghost use mathlib.Core.Path.{_≡_};
-ghost use Prim.Native.Nat.{_+_, _*_, _<_, _≤_};
+ghost use Prim.Native.Nat.{_+_, _<_};
 ghost use lib.ListN.{length};
 ghost use Rattle.loops.specs.Run.{going, next};
 ghost use Rattle.loops.specs.Judge.{test};
-ghost use Rattle.compact_table.specs.Compact.{Linked};
 ghost use Rattle.mass_operator.specs.System.{compactSystem};
-ghost use Rattle.recurrence.specs.Parts.{movedOf, steppedOf, withDiagonal};
+ghost use Rattle.recurrence.specs.Parts.{lengthOf, movedOf, steppedOf, withDiagonal};
 ghost use Rattle.recurrence.specs.Pass.{rowOf, passOut};
-ghost use Rattle.recurrence.specs.Answers.{scaleOut, diagonalOut, DiagonalLeft};
-use crate::length::step_length;
+ghost use Rattle.recurrence.specs.Answers.{scaleOut, diagonalOut, DiagonalLeft, ProductLeft};
 use crate::ratio::Scale;
 
 // Of the rows passed: whether their solution is finite, and their share of s.
@@ -136,8 +134,10 @@ fn update_diagonal(
     passed_product(passed)
 }
 
+// `found` is the answer of `step_length` for these lists. What it was found from is here for the contract alone.
 // The answer is the new s, not tested yet. After a refusal solution, residual and product are left free.
 pub fn advance_diagonal(
+    found: Scale,
     jacobians: &[f64],
     links: &[u32],
     masses: &[f64],
@@ -150,25 +150,15 @@ pub fn advance_diagonal(
     solution: &mut [f64],
     residual: &mut [f64],
 ) -> Scale
-    requires { ⌜ (12 * length (now direction) ≤ length (now jacobians)) × (2 * length (now direction) ≤ length (now links)) × (10 * bodies ≤ length (now masses)) × (length (now diagonal) ≡ length (now direction)) ⌝ }
-    requires { ⌜ (length (now «body_impulses») ≡ 6 * bodies) × (length (now product) ≡ length (now direction)) × (length (now solution) ≡ length (now direction)) × (length (now residual) ≡ length (now direction)) ⌝ }
-    requires { ⌜ Linked (now links) (length (now direction)) bodies ⌝ }
+    requires { ⌜ (length (now diagonal) ≡ length (now direction)) × (length (now product) ≡ length (now direction)) × (length (now solution) ≡ length (now direction)) × (length (now residual) ≡ length (now direction)) ⌝ }
+    requires { ⌜ (lengthOf (compactSystem (length (now direction)) bodies (now jacobians) (now links) (now masses)) record { direction = now direction; s = «residual_product» } ≡ scaleOut found) × ProductLeft (compactSystem (length (now direction)) bodies (now jacobians) (now links) (now masses)) (now direction) (now «body_impulses») (now product) ⌝ }
     ensures { λ r. ⌜ next (steppedOf (compactSystem (length (now (direction .entry))) bodies (now (jacobians .entry)) (now (links .entry)) (now (masses .entry)))
         record { solution = now (solution .entry); residual = now (residual .entry) } record { direction = now (direction .entry); s = «residual_product» }) (withDiagonal (now (diagonal .entry)))
         ≡ diagonalOut r (now (solution .exit)) (now (residual .exit)) (now (product .exit)) ⌝ }
     ensures { λ _. ⌜ DiagonalLeft (compactSystem (length (now (direction .entry))) bodies (now (jacobians .entry)) (now (links .entry)) (now (masses .entry))) (now (direction .entry))
         (now («body_impulses» .exit)) (now (product .entry)) (now (product .exit)) (now (solution .entry)) (now (solution .exit)) (now (residual .entry)) (now (residual .exit)) ⌝ }
 {
-    match step_length(
-        jacobians,
-        links,
-        masses,
-        bodies,
-        direction,
-        residual_product,
-        body_impulses,
-        product,
-    ) {
+    match found {
         Scale::Value(alpha) => update_diagonal(
             solution,
             residual,

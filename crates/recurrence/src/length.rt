@@ -1,4 +1,4 @@
-// How far a step goes along its direction: alpha, by the operator on it.
+// How far a step goes along its direction: alpha, by the operator on it. Steps of both kinds go so far, so it is found before they part.
 // The product is not tested: where a number of it is not finite, direction times product is not (mass_operator, proofs/Dots.antt), and both are 16.
 ghost use mathlib.Core.Path.{_≡_};
 ghost use Prim.Native.Nat.{_+_, _*_, _≤_};

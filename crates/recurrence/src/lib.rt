@@ -10,6 +10,7 @@ pub use diagonal::advance_diagonal;
 pub use direction::first;
 pub use direction::next_direction;
 pub use direction::renew;
+pub use length::step_length;
 pub use ratio::Scale;
 pub use step::Advanced;
 pub use step::advance;

@@ -1,12 +1,9 @@
-// A step: its length, and the updates of solution and residual. Of the two the solution alone is tested here: a residual that is not finite is refused by what follows (proofs/Residual.antt).
+// A step of the length found: the updates of solution and residual. Of the two the solution alone is tested here: a residual that is not finite is refused by what follows (proofs/Residual.antt).
 ghost use mathlib.Core.Path.{_≡_};
-ghost use Prim.Native.Nat.{_+_, _*_, _≤_};
 ghost use lib.ListN.{length};
-ghost use Rattle.compact_table.specs.Compact.{Linked};
 ghost use Rattle.mass_operator.specs.System.{compactSystem};
-ghost use Rattle.recurrence.specs.Parts.{movedOf, steppedOf};
-ghost use Rattle.recurrence.specs.Answers.{advancedOut, AdvanceLeft};
-use crate::length::step_length;
+ghost use Rattle.recurrence.specs.Parts.{lengthOf, movedOf, steppedOf};
+ghost use Rattle.recurrence.specs.Answers.{scaleOut, advancedOut, AdvanceLeft, ProductLeft};
 use crate::ratio::Scale;
 use crate::vector::scaled_add;
 use crate::vector::scaled_subtract;
@@ -34,8 +31,10 @@ fn update(
     Advanced::Done
 }
 
+// `found` is the answer of `step_length` for these lists. What it was found from is here for the contract alone.
 // After a refusal solution and residual are left free.
 pub fn advance(
+    found: Scale,
     jacobians: &[f64],
     links: &[u32],
     masses: &[f64],
@@ -47,25 +46,15 @@ pub fn advance(
     solution: &mut [f64],
     residual: &mut [f64],
 ) -> Advanced
-    requires { ⌜ (12 * length (now direction) ≤ length (now jacobians)) × (2 * length (now direction) ≤ length (now links)) × (10 * bodies ≤ length (now masses)) ⌝ }
-    requires { ⌜ (length (now «body_impulses») ≡ 6 * bodies) × (length (now product) ≡ length (now direction)) × (length (now solution) ≡ length (now direction)) × (length (now residual) ≡ length (now direction)) ⌝ }
-    requires { ⌜ Linked (now links) (length (now direction)) bodies ⌝ }
+    requires { ⌜ (length (now product) ≡ length (now direction)) × (length (now solution) ≡ length (now direction)) × (length (now residual) ≡ length (now direction)) ⌝ }
+    requires { ⌜ (lengthOf (compactSystem (length (now direction)) bodies (now jacobians) (now links) (now masses)) record { direction = now direction; s = «residual_product» } ≡ scaleOut found) × ProductLeft (compactSystem (length (now direction)) bodies (now jacobians) (now links) (now masses)) (now direction) (now «body_impulses») (now product) ⌝ }
     ensures { λ r. ⌜ steppedOf (compactSystem (length (now (direction .entry))) bodies (now (jacobians .entry)) (now (links .entry)) (now (masses .entry)))
         record { solution = now (solution .entry); residual = now (residual .entry) } record { direction = now (direction .entry); s = «residual_product» }
         ≡ advancedOut r (now (solution .exit)) (now (residual .exit)) ⌝ }
     ensures { λ _. ⌜ AdvanceLeft (compactSystem (length (now (direction .entry))) bodies (now (jacobians .entry)) (now (links .entry)) (now (masses .entry))) (now (direction .entry))
         (now («body_impulses» .exit)) (now (product .exit)) (now (solution .entry)) (now (solution .exit)) (now (residual .entry)) (now (residual .exit)) ⌝ }
 {
-    match step_length(
-        jacobians,
-        links,
-        masses,
-        bodies,
-        direction,
-        residual_product,
-        body_impulses,
-        product,
-    ) {
+    match found {
         Scale::Value(alpha) => update(solution, residual, alpha, direction, product),
         Scale::Refused(number) => Advanced::Refused(number),
     }

@@ -11,15 +11,11 @@ pub advance-spec : {M : Type 1} → statement M
 advance-spec =
     tie.close
     (tie.spec
-    (λ c κs. search known)  -- step-length-requires
-    (λ c. search known)  -- enum-known-alpha
+    (λ c. search known)  -- enum-known-found
     (λ c κs. search known)  -- update-requires
-    (λ c. search known)  -- enum-known-number
+    (λ c. search known)  -- enum-known-found-2
     (λ c. search known)  -- same-length
     (λ c. search known)  -- same-length-2
     (λ c. search known)  -- same-length-3
-    (λ c. search known)  -- same-length-4
-    (λ c. (advance-on _ _ _ _ _ _ _ _ ((c .before .before .before .before .before .before .before .before .before .before .before .before .before .before .before .step-length) .ensures .0) ((c .before .before .before .before .before .before .before .before .before .before .before .before .before .before .before .step-length) .ensures .1) _ ((c .before .before .before .before .before .before .before .before .before .alpha) .given .1) ((c .before .before .before .before .update) .ensures), advance-left _ _ _ _ _ _ _ _ ((c .before .before .before .before .before .before .before .before .before .before .before .before .before .before .before .step-length) .ensures .1) (search known) (search known)))  -- returns
-    (λ c. search known)  -- same-length-5
-    (λ c. search known)  -- same-length-6
-    (λ c. (advance-refused _ _ _ _ _ _ _ _ ((c .before .before .before .before .before .before .before .step-length) .ensures .0) ((c .before .before .before .before .before .before .before .step-length) .ensures .1) _ ((c .before .number) .given .1), advance-left _ _ _ _ _ _ _ _ ((c .before .before .before .before .before .before .before .step-length) .ensures .1) refl refl)))  -- returns-2
+    (λ c. (advance-on _ _ _ _ _ _ _ _ ((c .before .before .before .before .before .before .before .before .before .before .before .before .before .before .before .before .before .before .before) .pre .1 .0) ((c .before .before .before .before .before .before .before .before .before .before .before .before .before .before .before .before .before .before .before) .pre .1 .1) _ ((c .before .before .before .before .before .before .before .before .before .found) .given .1) ((c .before .before .before .before .update) .ensures), advance-left _ _ _ _ _ _ _ _ ((c .before .before .before .before .before .before .before .before .before .before .before .before .before .before .before .before .before .before .before) .pre .1 .1) (search known) (search known)))  -- returns
+    (λ c. (advance-refused _ _ _ _ _ _ _ _ ((c .before .before .before .before .before .before .before .before .before .before .before) .pre .1 .0) ((c .before .before .before .before .before .before .before .before .before .before .before) .pre .1 .1) _ ((c .before .found2) .given .1), advance-left _ _ _ _ _ _ _ _ ((c .before .before .before .before .before .before .before .before .before .before .before) .pre .1 .1) refl refl)))  -- returns-2
