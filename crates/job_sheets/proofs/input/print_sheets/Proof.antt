@@ -7,10 +7,10 @@ use Rattle.job_sheets.proofs.input.print_sheets.Statement.{statement}
 use Rattle.job_sheets.proofs.input.print_sheets.Tie as tie
 
 abbrev Inv-loop : tie.InvT-loop
-Inv-loop sheet₀ space₀ text₀ left₀ sheet space text left = (left ≤ left₀) × (length space ≡ length space₀) × (length text ≡ length text₀)
+Inv-loop sheet space₀ text₀ left₀ space text left = (left ≤ left₀) × (length space ≡ length space₀) × (length text ≡ length text₀)
 
 abbrev μ-loop : tie.MeasureT-loop
-μ-loop sheet₀ space₀ text₀ left₀ sheet space text left = left
+μ-loop sheet space₀ text₀ left₀ space text left = left
 
 pub print-sheets-spec : {M : Type 1} → statement M
 print-sheets-spec =
