@@ -1,14 +1,14 @@
 -- The two bodies of the rows at hand are held apart from the slice; with what is held put back, the slice has the impulses of all rows so far. Assumes nothing.
 use Prim.Native.Nat.{ℕ, _+_, _*_, _<_, _≤_}
 use mathlib.Core.Path.{_≡_, refl, sym, ap, _∙_}
-use mathlib.Core.Bool.{Bool, true, false, cond}
+use mathlib.Core.Bool.{Bool, true, false, cond, not}
 use mathlib.Core.List.{List}
 use native.Mathlib.Numerals.{add-one}
 use native.Mathlib.Omega.{arith}
 use lib.Dec.{eqb}
 use lib.ListN.{length, getD}
 use lib.Ieee.{Float}
-use borrow.Author.Tests.{eqb-true, eqb-false, eq-eqb, ne-eqb}
+use borrow.Author.Tests.{eqb-true, eqb-false, eq-eqb, ne-eqb, not-false}
 use Rattle.loops.proofs.Both.{both}
 use Rattle.kapitsa_joint.specs.Impulse.{pairedOf, putPairedOf}
 use Rattle.kapitsa_joint.specs.declared.row.RowJacobian.{RowJacobian}
@@ -17,7 +17,7 @@ use Rattle.kapitsa_joint.proofs.Stored.{put-paired-length}
 use Rattle.compact_table.specs.Compact.{compactOf, Linked}
 use Rattle.mass_operator.specs.Operator.{addImpulseOf, addRowOf, impulseAt, rowValueOf}
 use Rattle.mass_operator.specs.Lent.{Summing, valueIn}
-use Rattle.mass_operator.specs.BodyPair.{bodyPairOf, putBodyPairOf, onBodies, addedRow, Exchanged}
+use Rattle.mass_operator.specs.BodyPair.{bodyPairOf, putBodyPairOf, onBodies, addedRow, Holding, RunAdded}
 use Rattle.mass_operator.specs.declared.body_pair.BodyPair.{BodyPair}
 use Rattle.mass_operator.proofs.Sums.{put-at}
 
@@ -38,13 +38,6 @@ module _ (links : List ℕ) (i : ℕ) (p : BodyPair) (l : List Float) where
   unfolding bodyPairOf
   pair-holds e = rw e (refl, refl)
 
-  -- the two ways of `exchange`
-  pub exchange-held : {r : Bool} → r ≡ onBodies links i p → r ≡ true → Exchanged links i p l p l
-  exchange-held e h = let o : onBodies links i p ≡ true = sym e ∙ h in record { put = rw o; taken = rw o }
-
-  pub exchange-other : {r : Bool} {p′ : BodyPair} {l′ : List Float} → r ≡ onBodies links i p → r ≡ false → l′ ≡ putBodyPairOf l p → p′ ≡ bodyPairOf links i l′ → Exchanged links i p l p′ l′
-  exchange-other e h q t = let o : onBodies links i p ≡ false = sym e ∙ h in record { put = rw o q; taken = rw o (t ∙ rw q) }
-
 -- ---- putting back
 module _ (l : List Float) (p : BodyPair) where
   pub put-pair-length : length (putBodyPairOf l p) ≡ length l
@@ -58,16 +51,7 @@ module _ (l : List Float) (p : BodyPair) where
       let e = put-paired-length l (p .«body_a») (p .«of_a») in
       put-at (putPairedOf l (p .«body_a») (p .«of_a»)) (p .«body_b») (p .«of_b») c (omega arith) ∙ ap (λ (g : GeneralizedImpulse). cond (eqb (p .«body_b») c) (p .«of_b») g) (put-at l (p .«body_a») (p .«of_a») c s)
 
--- ---- the invariant: after the rows 0 .. i - 1 the two bodies' impulses are held, and the slice has those of the others
-pub record Holding (j : ℕ → RowJacobian) (x : ℕ → Float) (bodies i : ℕ) (l : List Float) (p : BodyPair) : Type 0 where
-  pub long : length l ≡ 6 * bodies
-  pub below-a : p .«body_a» < bodies
-  pub below-b : p .«body_b» < bodies
-  pub apart : p .«body_a» ≡ p .«body_b» → ⊥
-  pub of-a : p .«of_a» ≡ impulseAt j x (p .«body_a») i
-  pub of-b : p .«of_b» ≡ impulseAt j x (p .«body_b») i
-  pub others : (c : ℕ) → c < bodies → (p .«body_a» ≡ c → ⊥) → (p .«body_b» ≡ c → ⊥) → pairedOf l c ≡ impulseAt j x c i
-
+-- ---- what is held and the slice
 module _ {j : ℕ → RowJacobian} {x : ℕ → Float} {bodies : ℕ} where
   pub put-back : {i : ℕ} {l l′ : List Float} {p : BodyPair} → Holding j x bodies i l p → l′ ≡ putBodyPairOf l p → Summing j x bodies i l′
   put-back {i} {l} {p = p} h e = rw e (record {
@@ -93,15 +77,6 @@ module _ {j : ℕ → RowJacobian} {x : ℕ → Float} {bodies : ℕ} where
     others = λ c q _ _. h .at c q;
   })
 
-  -- the bodies of row i, whether they were held or not
-  module _ {i rows : ℕ} {l l′ : List Float} {links : List ℕ} {p p′ : BodyPair} (h : Holding j x bodies i l p) (t : Linked links rows bodies) (s : i < rows) (e : Exchanged links i p l p′ l′) where
-    exchanged : (b : Bool) → onBodies links i p ≡ b → l′ ≡ cond b l (putBodyPairOf l p) → p′ ≡ cond b p (bodyPairOf links i (putBodyPairOf l p)) → Holding j x bodies i l′ p′ × (getD links (2 * i) 0 ≡ p′ .«body_a») × (getD links (2 * i + 1) 0 ≡ p′ .«body_b»)
-    exchanged true o q r = let (a, b) = on-true links i p o in rw (q, r) (h, a, b)
-    exchanged false o q r = rw (q, r) (take-up (put-back h refl) t s refl, (unfold bodyPairOf in refl), (unfold bodyPairOf in refl))
-
-    pub on-row : Holding j x bodies i l′ p′ × (getD links (2 * i) 0 ≡ p′ .«body_a») × (getD links (2 * i + 1) 0 ≡ p′ .«body_b»)
-    on-row = exchanged (onBodies links i p) refl (e .put) (e .taken)
-
 -- ---- one more row
 row-at : (j : RowJacobian) (c : Float) (b : ℕ) (g : GeneralizedImpulse) {s t : Bool} → eqb (j .«body_a») b ≡ s → eqb (j .«body_b») b ≡ t
     → addRowOf j c b g ≡ cond t (addImpulseOf (cond s (addImpulseOf g (j .«linear_a») (j .«angular_a») c) g) (j .«linear_b») (j .«angular_b») c) (cond s (addImpulseOf g (j .«linear_a») (j .«angular_a») c) g)
@@ -121,14 +96,36 @@ module _ {j : ℕ → RowJacobian} {x : ℕ → Float} {bodies i : ℕ} {l : Lis
     others = λ c k m n. h .others c k m n ∙ sym (row-at (j i) (x i) c (impulseAt j x c i) (ne-eqb _ _ (λ q. m (sym a ∙ q))) (ne-eqb _ _ (λ q. n (sym b ∙ q))));
   })
 
--- ---- a turn of the loop: row i on the bodies that are held or taken up
-pub row-turned : (jacobians : List Float) (links : List ℕ) (x : ℕ → Float) {bodies i rows : ℕ} {l l′ : List Float} {p p′ p″ : BodyPair} → Holding (compactOf jacobians links) x bodies i l p → Linked links rows bodies → i < rows
-    → Exchanged links i p l p′ l′ → p″ ≡ addedRow p′ (compactOf jacobians links i) (x i) → Holding (compactOf jacobians links) x bodies (i + 1) l′ p″
-row-turned jacobians links x h t s e f =
-    let (k, a, b) = on-row h t s e in
-    row-added k (unfold compactOf in a) (unfold compactOf in b) f
+-- ---- a run: its first row, then each that is on the same bodies
+on-row : (jacobians : List Float) (links : List ℕ) (i : ℕ) (p : BodyPair) → onBodies links i p ≡ true → (compactOf jacobians links i .«body_a» ≡ p .«body_a») × (compactOf jacobians links i .«body_b» ≡ p .«body_b»)
+unfolding compactOf
+on-row jacobians links i p h = on-true links i p h
+
+row-of-pair : (jacobians : List Float) (links : List ℕ) (i : ℕ) (l : List Float) {p : BodyPair} → p ≡ bodyPairOf links i l → (compactOf jacobians links i .«body_a» ≡ p .«body_a») × (compactOf jacobians links i .«body_b» ≡ p .«body_b»)
+unfolding compactOf bodyPairOf
+row-of-pair jacobians links i l e = rw e (refl, refl)
+
+module _ {jacobians : List Float} {links : List ℕ} {x : ℕ → Float} {rows first : ℕ} {l : List Float} where
+  pub run-begun : {p p′ : BodyPair} → first < rows → p ≡ bodyPairOf links first l → p′ ≡ addedRow p (compactOf jacobians links first) (x first) → RunAdded jacobians links x rows first l record { pair = p′; end = first + 1 }
+  run-begun s e f = let (u, v) = row-of-pair jacobians links first l e in record {
+    more = omega arith;
+    within = omega arith;
+    held = λ bodies t h. row-added (take-up h t s e) u v f;
+  }
+
+  pub run-on : {i : ℕ} {p p′ : BodyPair} {b : Bool} → RunAdded jacobians links x rows first l record { pair = p; end = i } → i < rows → b ≡ onBodies links i p → not b ≡ false → p′ ≡ addedRow p (compactOf jacobians links i) (x i)
+      → RunAdded jacobians links x rows first l record { pair = p′; end = i + 1 }
+  run-on {i} {p} {b = b} h s e o f = let (u, v) = on-row jacobians links i p (sym e ∙ not-false b o) in record {
+    more = omega (arith, h .more);
+    within = omega arith;
+    held = λ bodies t g. row-added (h .held bodies t g) u v f;
+  }
 
 -- ---- a row's value by what is held
 pub value-held : (jacobians : List Float) (links : List ℕ) (i : ℕ) (l : List Float) {p : BodyPair} {v : Float} → p ≡ bodyPairOf links i l → v ≡ rowValueOf (compactOf jacobians links i) (p .«of_a») (p .«of_b») → v ≡ valueIn (compactOf jacobians links i) l
 unfolding valueIn bodyPairOf compactOf
 value-held jacobians links i l e q = q ∙ rw e
+
+-- of a later row of the run that row `first` begins
+pub value-on : (jacobians : List Float) (links : List ℕ) (i first : ℕ) (l : List Float) {p : BodyPair} {b : Bool} → p ≡ bodyPairOf links first l → b ≡ onBodies links i p → not b ≡ false → rowValueOf (compactOf jacobians links i) (p .«of_a») (p .«of_b») ≡ valueIn (compactOf jacobians links i) l
+value-on jacobians links i first l {p} {b} e o t = let (s, u) = pair-holds links first p l e in value-held jacobians links i l (held-is links i p l s u o (not-false b t)) refl

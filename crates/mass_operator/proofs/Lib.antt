@@ -4,6 +4,7 @@ pub mod Orders
 pub mod Sums
 pub mod BodyPairs
 pub mod Dots
+pub mod Values
 pub mod Room
 pub mod Answers
 pub mod Overflow

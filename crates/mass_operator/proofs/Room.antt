@@ -7,9 +7,8 @@ use lib.ListN.{length, getD}
 use lib.Ieee.{Float}
 use Rattle.kapitsa_joint.specs.declared.row.RowJacobian.{RowJacobian}
 use Rattle.compact_table.specs.Compact.{Linked}
-use Rattle.mass_operator.specs.BodyPair.{putBodyPairOf}
+use Rattle.mass_operator.specs.BodyPair.{Holding}
 use Rattle.mass_operator.specs.declared.body_pair.BodyPair.{BodyPair}
-use Rattle.mass_operator.proofs.BodyPairs.{Holding, put-pair-length}
 
 module _ (links : List ℕ) (i rows bodies : ℕ) (t : Linked links rows bodies) (h : i < rows) (l : List Float) (e : length l ≡ 6 * bodies) where
   pub linked-a : 6 * getD links (2 * i) 0 + 6 ≤ length l
@@ -24,7 +23,3 @@ module _ (j : ℕ → RowJacobian) (x : ℕ → Float) (bodies i : ℕ) (l : Lis
 
   pub held-b : 6 * (p .«body_b») + 6 ≤ length l
   held-b = omega (arith, h .long, h .below-b)
-
--- after the bodies that were held are put back
-pub room-after : (l l′ : List Float) (p : BodyPair) (b : ℕ) → l′ ≡ putBodyPairOf l p → 6 * b + 6 ≤ length l → 6 * b + 6 ≤ length l′
-room-after l l′ p b e h = rw (e, put-pair-length l p) h

@@ -6,7 +6,7 @@ ghost use Rattle.compact_table.specs.Compact.{compactOf, Linked};
 ghost use Rattle.mass_operator.specs.Operator.{addImpulseOf};
 ghost use Rattle.mass_operator.specs.Flat.{coefficients, Summed};
 ghost use Rattle.mass_operator.specs.Lent.{Summing};
-ghost use Rattle.mass_operator.specs.BodyPair.{addedRow, Exchanged};
+ghost use Rattle.mass_operator.specs.BodyPair.{addedRow, RunAdded};
 use crate::body_pair::BodyPair;
 use crate::body_pair::body_pair_at;
 use crate::body_pair::on_bodies;
@@ -52,18 +52,29 @@ fn add_row(jacobians: &[f64], links: &[u32], vector: &[f64], i: usize, pair: Bod
     }
 }
 
-// The bodies of row `i`: where they are others, those held are put back and these are taken up.
-fn exchange(links: &[u32], i: usize, pair: BodyPair, impulses: &mut [f64]) -> BodyPair
-    requires { ⌜ 2 * i + 2 ≤ length (now links) ⌝ }
-    requires { ⌜ (6 * (pair .«body_a») + 6 ≤ length (now impulses)) × (6 * (pair .«body_b») + 6 ≤ length (now impulses)) ⌝ }
-    requires { ⌜ (6 * (getD (now links) (2 * i) 0) + 6 ≤ length (now impulses)) × (6 * (getD (now links) (2 * i + 1) 0) + 6 ≤ length (now impulses)) ⌝ }
-    ensures { λ r. ⌜ Exchanged (now (links .entry)) i pair (now (impulses .entry)) r (now (impulses .exit)) ⌝ }
+// Rows that follow one another on the same two bodies: the bodies with the terms of those rows, and the row behind the last.
+pub struct Run {
+    pub pair: BodyPair,
+    pub end: usize,
+}
+
+// The rows from `first` on that are on its bodies. Until the run ends these are held and not in the slice, so that a row is read and nothing else.
+fn add_run(jacobians: &[f64], links: &[u32], vector: &[f64], first: usize, impulses: &[f64]) -> Run
+    requires { ⌜ (12 * length (now vector) ≤ length (now jacobians)) × (2 * length (now vector) ≤ length (now links)) × (first < length (now vector)) ⌝ }
+    requires { ⌜ (6 * (getD (now links) (2 * first) 0) + 6 ≤ length (now impulses)) × (6 * (getD (now links) (2 * first + 1) 0) + 6 ≤ length (now impulses)) ⌝ }
+    ensures { λ r. ⌜ RunAdded (now (jacobians .entry)) (now (links .entry)) (coefficients (now (vector .entry))) (length (now (vector .entry))) first (now (impulses .entry)) r ⌝ }
 {
-    if on_bodies(links, i, pair) {
-        return pair;
+    let taken = body_pair_at(links, first, impulses);
+    let mut pair = add_row(jacobians, links, vector, first, taken);
+    let mut i = first + 1;
+    while i < vector.len() {
+        if !on_bodies(links, i, pair) {
+            return Run { pair: pair, end: i };
+        }
+        pair = add_row(jacobians, links, vector, i, pair);
+        i += 1;
     }
-    put_body_pair(impulses, pair);
-    body_pair_at(links, i, impulses)
+    Run { pair: pair, end: i }
 }
 
 // The impulse of every body, rows ascending from +0.0.
@@ -79,17 +90,12 @@ pub fn sum_impulses(
     ensures { λ _. ⌜ Summing (compactOf (now (jacobians .entry)) (now (links .entry))) (coefficients (now (vector .entry))) bodies (length (now (vector .entry))) (now (impulses .exit)) ⌝ }
 {
     loops::clear(impulses);
-    if vector.len() == 0 {
-        return;
-    }
-    let mut pair = body_pair_at(links, 0, impulses);
     let mut i = 0;
     while i < vector.len() {
-        let taken = exchange(links, i, pair, impulses);
-        pair = add_row(jacobians, links, vector, i, taken);
-        i += 1;
+        let run = add_run(jacobians, links, vector, i, impulses);
+        put_body_pair(impulses, run.pair);
+        i = run.end;
     }
-    put_body_pair(impulses, pair);
 }
 
 // The same, with the answer whether every number of it is finite.

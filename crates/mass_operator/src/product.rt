@@ -1,7 +1,8 @@
 // The operator on a vector: global_velocity_matrix_vector of pcg.rs.
 ghost use mathlib.Core.Path.{_≡_};
-ghost use Prim.Native.Nat.{_+_, _*_, _≤_};
-ghost use lib.ListN.{length, getD};
+ghost use Prim.Native.Nat.{_+_, _*_, _<_, _≤_};
+ghost use lib.ListN.{length, getD, set};
+ghost use lib.Ieee.{nan, binary64, add, mul};
 ghost use Rattle.loops.specs.Tabulate.{tabulate};
 ghost use Rattle.kapitsa_joint.specs.Impulse.{pairedOf, putPairedOf};
 ghost use Rattle.kapitsa_joint.specs.Mass.{massOf};
@@ -11,7 +12,7 @@ ghost use Rattle.mass_operator.specs.Dot.{dotProductOf};
 ghost use Rattle.mass_operator.specs.Operator.{responseOf, rowValueOf};
 ghost use Rattle.mass_operator.specs.Flat.{Multiplied};
 ghost use Rattle.mass_operator.specs.Lent.{Paired, valueIn};
-ghost use Rattle.mass_operator.specs.BodyPair.{bodyPairOf};
+ghost use Rattle.mass_operator.specs.BodyPair.{Valued};
 use crate::body_pair::BodyPair;
 use crate::body_pair::body_pair_at;
 use crate::body_pair::on_bodies;
@@ -55,19 +56,6 @@ fn respond(masses: &[f64], bodies: usize, body_impulses: &mut [f64])
     }
 }
 
-// The bodies of row `i`: those held, or these taken up.
-fn take_up(links: &[u32], i: usize, pair: BodyPair, responses: &[f64]) -> BodyPair
-    requires { ⌜ 2 * i + 2 ≤ length (now links) ⌝ }
-    requires { ⌜ (6 * (getD (now links) (2 * i) 0) + 6 ≤ length (now responses)) × (6 * (getD (now links) (2 * i + 1) 0) + 6 ≤ length (now responses)) ⌝ }
-    requires { ⌜ (pair .«of_a» ≡ pairedOf (now responses) (pair .«body_a»)) × (pair .«of_b» ≡ pairedOf (now responses) (pair .«body_b»)) ⌝ }
-    ensures { λ r. ⌜ r ≡ bodyPairOf (now (links .entry)) i (now (responses .entry)) ⌝ }
-{
-    if on_bodies(links, i, pair) {
-        return pair;
-    }
-    body_pair_at(links, i, responses)
-}
-
 fn row_value(jacobians: &[f64], links: &[u32], i: usize, pair: BodyPair) -> f64
     requires { ⌜ (12 * i + 12 ≤ length (now jacobians)) × (2 * i + 2 ≤ length (now links)) ⌝ }
     ensures { λ r. ⌜ r ≡ rowValueOf (compactOf (now (jacobians .entry)) (now (links .entry)) i) (pair .«of_a») (pair .«of_b») ⌝ }
@@ -85,6 +73,59 @@ fn row_value(jacobians: &[f64], links: &[u32], i: usize, pair: BodyPair) -> f64
         + angular_b.dot(q.angular)
 }
 
+// The value of row `i`, on the bodies of `pair`. The answer is `before` and `vector` times the value.
+fn put_value(
+    jacobians: &[f64],
+    links: &[u32],
+    i: usize,
+    pair: BodyPair,
+    vector: &[f64],
+    before: f64,
+    product: &mut [f64],
+) -> f64
+    requires { ⌜ (12 * i + 12 ≤ length (now jacobians)) × (2 * i + 2 ≤ length (now links)) × (i < length (now vector)) × (i < length (now product)) ⌝ }
+    ensures { λ _. ⌜ now (product .exit) ≡ set (now (product .entry)) i (rowValueOf (compactOf (now (jacobians .entry)) (now (links .entry)) i) (pair .«of_a») (pair .«of_b»)) ⌝ }
+    ensures { λ r. ⌜ r ≡ add binary64 before (mul binary64 (getD (now (vector .entry)) i nan) (rowValueOf (compactOf (now (jacobians .entry)) (now (links .entry)) i) (pair .«of_a») (pair .«of_b»))) ⌝ }
+{
+    let value = row_value(jacobians, links, i, pair);
+    product[i] = value;
+    before + vector[i] * value
+}
+
+// Of the rows of a run: the sum of `vector` times the product up to them, and the row behind the last.
+pub struct RunValues {
+    pub sum: f64,
+    pub end: usize,
+}
+
+// The values of the rows from `first` on that are on its bodies.
+fn value_run(
+    jacobians: &[f64],
+    links: &[u32],
+    responses: &[f64],
+    vector: &[f64],
+    first: usize,
+    before: f64,
+    product: &mut [f64],
+) -> RunValues
+    requires { ⌜ (12 * length (now product) ≤ length (now jacobians)) × (2 * length (now product) ≤ length (now links)) × (length (now vector) ≡ length (now product)) × (first < length (now product)) ⌝ }
+    requires { ⌜ (6 * (getD (now links) (2 * first) 0) + 6 ≤ length (now responses)) × (6 * (getD (now links) (2 * first + 1) 0) + 6 ≤ length (now responses)) ⌝ }
+    requires { ⌜ Valued (λ i. valueIn (compactOf (now jacobians) (now links) i) (now responses)) (now vector) first (now product) before ⌝ }
+    ensures { λ r. ⌜ (first < r .end) × Valued (λ i. valueIn (compactOf (now (jacobians .entry)) (now (links .entry)) i) (now (responses .entry))) (now (vector .entry)) (r .end) (now (product .exit)) (r .sum) ⌝ }
+{
+    let pair = body_pair_at(links, first, responses);
+    let mut sum = put_value(jacobians, links, first, pair, vector, before, product);
+    let mut i = first + 1;
+    while i < product.len() {
+        if !on_bodies(links, i, pair) {
+            return RunValues { sum: sum, end: i };
+        }
+        sum = put_value(jacobians, links, i, pair, vector, sum, product);
+        i += 1;
+    }
+    RunValues { sum: sum, end: i }
+}
+
 // The value of every row, and `vector` times them.
 fn values(
     jacobians: &[f64],
@@ -99,18 +140,12 @@ fn values(
     ensures { λ _. ⌜ now (product .exit) ≡ tabulate (λ i. valueIn (compactOf (now (jacobians .entry)) (now (links .entry)) i) (now (responses .entry))) (length (now (product .entry))) ⌝ }
     ensures { λ r. ⌜ r ≡ dotProductOf (now (vector .entry)) (now (product .exit)) ⌝ }
 {
-    if product.len() == 0 {
-        return 0.0;
-    }
-    let mut pair = body_pair_at(links, 0, responses);
     let mut sum = 0.0;
     let mut i = 0;
     while i < product.len() {
-        pair = take_up(links, i, pair, responses);
-        let value = row_value(jacobians, links, i, pair);
-        product[i] = value;
-        sum = sum + vector[i] * value;
-        i += 1;
+        let run = value_run(jacobians, links, responses, vector, i, sum, product);
+        sum = run.sum;
+        i = run.end;
     }
     sum
 }
