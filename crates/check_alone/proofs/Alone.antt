@@ -28,18 +28,14 @@ use Rattle.check_alone.specs.Checked.{AloneHeld}
 -- refusal 3 of what is lent and of the memory is refusal 3 of what is lent
 pub fits-too : (kind : Kind) (n b : ℕ) (l : TableLengths) (w : WorkLengths) → givenFits kind n b l ≡ true → WorkRoom n b w → passes3 kind n b l w ≡ givenFits kind n b l
 unfolding passes3 workFits
-fits-too kind n b l w g room = rw (g, eq-eqb _ _ (room .jacobians), eq-eqb _ _ (room .links), eq-eqb _ _ (room .massSizes), eq-eqb _ _ (room .multiplierSizes), eq-eqb _ _ (room .impulses), eq-eqb _ _ (room .values), eq-eqb _ _ (room .sizes))
+fits-too kind n b l w g room = rw (g, eq-eqb _ _ (room .impulses), eq-eqb _ _ (room .sizeImpulses), eq-eqb _ _ (room .values), eq-eqb _ _ (room .sizes))
 
 -- what a table of n rows and b bodies takes of arrays for rows and bodies that are no fewer
-pub taken : {n b : ℕ} (rows bodies : ℕ) (jacobians : List Float) (links : List ℕ) (massSizes multiplierSizes impulses values sizes : List Float) → n ≤ rows → b ≤ bodies
-    → length jacobians ≡ 12 * rows → length links ≡ 2 * rows → length massSizes ≡ 10 * bodies → length multiplierSizes ≡ rows → length impulses ≡ 6 * bodies → length values ≡ rows → length sizes ≡ rows
-    → WorkRoom n b (workLengths (memoryOf (take (12 * n) jacobians) (take (2 * n) links) (take (10 * b) massSizes) (take n multiplierSizes) (take (6 * b) impulses) (take n values) (take n sizes)))
-taken {n} {b} rows bodies _ _ _ _ _ _ _ r s j k m x i v z = record {
-  jacobians = length-take-le _ _ (omega (arith, r, j));
-  links = length-take-le _ _ (omega (arith, r, k));
-  massSizes = length-take-le _ _ (omega (arith, s, m));
-  multiplierSizes = length-take-le _ _ (omega (arith, r, x));
+pub taken : {n b : ℕ} (rows bodies : ℕ) (impulses sizeImpulses values sizes : List Float) → n ≤ rows → b ≤ bodies → length impulses ≡ 6 * bodies → length sizeImpulses ≡ 6 * bodies → length values ≡ rows → length sizes ≡ rows
+    → WorkRoom n b (workLengths (memoryOf (take (6 * b) impulses) (take (6 * b) sizeImpulses) (take n values) (take n sizes)))
+taken {n} {b} rows bodies _ _ _ _ r s i j v z = record {
   impulses = length-take-le _ _ (omega (arith, s, i));
+  sizeImpulses = length-take-le _ _ (omega (arith, s, j));
   values = length-take-le _ _ (omega (arith, r, v));
   sizes = length-take-le _ _ (omega (arith, r, z));
 }

@@ -29,18 +29,12 @@ fn with_memory(
     ensures { λ r. ⌜ AloneHeld (givenFits kind n b (tableLengths (now (numbers .entry)) (now (words .entry)) (now (masses .entry)) (now (beside .entry)) (now (multipliers .entry)) (now («rule_words» .entry)) (now («rule_tolerances» .entry)) (now («rule_numbers» .entry)))) (rulesIn (now («rule_words» .entry)) (now («rule_tolerances» .entry)))
         (closingIn kind n b (now (numbers .entry)) (now (words .entry)) (now (masses .entry)) (now (beside .entry)) (now (multipliers .entry)) (rulesIn (now («rule_words» .entry)) (now («rule_tolerances» .entry)))) r (now («rule_numbers» .entry)) (now («rule_numbers» .exit)) ⌝ }
 {
-    let mut jacobians: [f64; 6144] = [0.0; 6144];
-    let mut links: [u32; 1024] = [0; 1024];
-    let mut mass_sizes: [f64; 2560] = [0.0; 2560];
-    let mut multiplier_sizes: [f64; 512] = [0.0; 512];
     let mut impulses: [f64; 1536] = [0.0; 1536];
+    let mut size_impulses: [f64; 1536] = [0.0; 1536];
     let mut values: [f64; 512] = [0.0; 512];
     let mut sizes: [f64; 512] = [0.0; 512];
     let rows = n as usize;
     let bodies = b as usize;
-    let row_numbers = 12 * rows;
-    let row_links = 2 * rows;
-    let mass_numbers = 10 * bodies;
     let body_numbers = 6 * bodies;
     check_prepared(
         kind,
@@ -54,11 +48,8 @@ fn with_memory(
         rule_words,
         rule_tolerances,
         rule_numbers,
-        &mut jacobians[..row_numbers],
-        &mut links[..row_links],
-        &mut mass_sizes[..mass_numbers],
-        &mut multiplier_sizes[..rows],
         &mut impulses[..body_numbers],
+        &mut size_impulses[..body_numbers],
         &mut values[..rows],
         &mut sizes[..rows],
     )

@@ -35,18 +35,12 @@ fn with_small_memory(
     ensures { λ r. ⌜ AloneHeld (givenFits Position n b (tableLengths (now (numbers .entry)) (now (words .entry)) (now (masses .entry)) (now (centres .entry)) (now (multipliers .entry)) (now («rule_words» .entry)) (now («rule_tolerances» .entry)) (now («rule_numbers» .entry)))) (rulesIn (now («rule_words» .entry)) (now («rule_tolerances» .entry)))
         (closingOf (tableOf n b (now (numbers .entry)) (now (words .entry)) (now (masses .entry))) (coefficients (now (multipliers .entry))) (rulesIn (now («rule_words» .entry)) (now («rule_tolerances» .entry))) (centresFinite (centresIn b (now (centres .entry))))) r (now («rule_numbers» .entry)) (now («rule_numbers» .exit)) ⌝ }
 {
-    let mut jacobians: [f64; 1536] = [0.0; 1536];
-    let mut links: [u32; 256] = [0; 256];
-    let mut mass_sizes: [f64; 640] = [0.0; 640];
-    let mut multiplier_sizes: [f64; 128] = [0.0; 128];
     let mut impulses: [f64; 384] = [0.0; 384];
+    let mut size_impulses: [f64; 384] = [0.0; 384];
     let mut values: [f64; 128] = [0.0; 128];
     let mut sizes: [f64; 128] = [0.0; 128];
     let rows = n as usize;
     let bodies = b as usize;
-    let row_numbers = 12 * rows;
-    let row_links = 2 * rows;
-    let mass_numbers = 10 * bodies;
     let body_numbers = 6 * bodies;
     closing_check(
         n,
@@ -59,11 +53,8 @@ fn with_small_memory(
         rule_words,
         rule_tolerances,
         rule_numbers,
-        &mut jacobians[..row_numbers],
-        &mut links[..row_links],
-        &mut mass_sizes[..mass_numbers],
-        &mut multiplier_sizes[..rows],
         &mut impulses[..body_numbers],
+        &mut size_impulses[..body_numbers],
         &mut values[..rows],
         &mut sizes[..rows],
     )

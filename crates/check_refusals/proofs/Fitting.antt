@@ -59,36 +59,24 @@ given-of kind n b t h =
 
 -- ---- the work memory
 pub record WorkRoom (n b : ℕ) (w : WorkLengths) : Type 0 where
-  pub jacobians : w .jacobians ≡ 12 * n
-  pub links : w .links ≡ 2 * n
-  pub massSizes : w .«mass_sizes» ≡ 10 * b
-  pub multiplierSizes : w .«multiplier_sizes» ≡ n
   pub impulses : w .impulses ≡ 6 * b
+  pub sizeImpulses : w .«size_impulses» ≡ 6 * b
   pub values : w .values ≡ n
   pub sizes : w .sizes ≡ n
 
 pub work-of : (n b : ℕ) (w : WorkLengths) → workFits n b w ≡ true → WorkRoom n b w
 unfolding workFits
 work-of n b w h =
-    let b1 = eqb (w .jacobians) (12 * n) in
-    let b2 = eqb (w .links) (2 * n) in
-    let b3 = eqb (w .«mass_sizes») (10 * b) in
-    let b4 = eqb (w .«multiplier_sizes») n in
-    let b5 = eqb (w .impulses) (6 * b) in
-    let b6 = eqb (w .values) n in
-    let b7 = eqb (w .sizes) n in
-    let (q6, k7) = both (((((b1 && b2) && b3) && b4) && b5) && b6) b7 h in
-    let (q5, k6) = both ((((b1 && b2) && b3) && b4) && b5) b6 q6 in
-    let (q4, k5) = both (((b1 && b2) && b3) && b4) b5 q5 in
-    let (q3, k4) = both ((b1 && b2) && b3) b4 q4 in
+    let b1 = eqb (w .impulses) (6 * b) in
+    let b2 = eqb (w .«size_impulses») (6 * b) in
+    let b3 = eqb (w .values) n in
+    let b4 = eqb (w .sizes) n in
+    let (q3, k4) = both ((b1 && b2) && b3) b4 h in
     let (q2, k3) = both (b1 && b2) b3 q3 in
     let (k1, k2) = both b1 b2 q2 in
     record {
-      jacobians = eqb-true (w .jacobians) (12 * n) k1;
-      links = eqb-true (w .links) (2 * n) k2;
-      massSizes = eqb-true (w .«mass_sizes») (10 * b) k3;
-      multiplierSizes = eqb-true (w .«multiplier_sizes») n k4;
-      impulses = eqb-true (w .impulses) (6 * b) k5;
-      values = eqb-true (w .values) n k6;
-      sizes = eqb-true (w .sizes) n k7;
+      impulses = eqb-true (w .impulses) (6 * b) k1;
+      sizeImpulses = eqb-true (w .«size_impulses») (6 * b) k2;
+      values = eqb-true (w .values) n k3;
+      sizes = eqb-true (w .sizes) n k4;
     }

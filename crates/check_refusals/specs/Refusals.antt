@@ -25,8 +25,7 @@ unfoldable pub givenFits : Kind → ℕ → ℕ → TableLengths → Bool
 givenFits kind n b l = tableCountsFit n b && tableFits kind n b l
 
 unfoldable pub workFits : ℕ → ℕ → WorkLengths → Bool
-workFits n b l =
-    (((((eqb (l .jacobians) (12 * n) && eqb (l .links) (2 * n)) && eqb (l .«mass_sizes») (10 * b)) && eqb (l .«multiplier_sizes») n) && eqb (l .impulses) (6 * b)) && eqb (l .values) n) && eqb (l .sizes) n
+workFits n b l = ((eqb (l .impulses) (6 * b) && eqb (l .«size_impulses») (6 * b)) && eqb (l .values) n) && eqb (l .sizes) n
 
 unfoldable pub passes3 : Kind → ℕ → ℕ → TableLengths → WorkLengths → Bool
 passes3 kind n b t w = givenFits kind n b t && workFits n b w

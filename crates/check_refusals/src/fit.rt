@@ -21,11 +21,8 @@ pub struct TableLengths {
 
 // The work memory.
 pub struct WorkLengths {
-    pub jacobians: usize,
-    pub links: usize,
-    pub mass_sizes: usize,
-    pub multiplier_sizes: usize,
     pub impulses: usize,
+    pub size_impulses: usize,
     pub values: usize,
     pub sizes: usize,
 }
@@ -64,11 +61,8 @@ fn work_fits(n: usize, b: usize, lengths: WorkLengths) -> bool
     requires { ⌜ (n < 4294967296) × (b < 4294967296) ⌝ }
     ensures { λ r. ⌜ r ≡ workFits n b lengths ⌝ }
 {
-    (lengths.jacobians == 12 * n)
-        & (lengths.links == 2 * n)
-        & (lengths.mass_sizes == 10 * b)
-        & (lengths.multiplier_sizes == n)
-        & (lengths.impulses == 6 * b)
+    (lengths.impulses == 6 * b)
+        & (lengths.size_impulses == 6 * b)
         & (lengths.values == n)
         & (lengths.sizes == n)
 }

@@ -4,7 +4,7 @@ use mathlib.Core.Path.{_≡_, refl, sym, ap, _∙_}
 use mathlib.Core.Bool.{Bool, true, false, not, true≢false, false≢true}
 use mathlib.Core.List.{List}
 use native.Mathlib.Omega.{arith}
-use lib.ListN.{length, replicate}
+use lib.ListN.{length}
 use lib.Ieee.{Float}
 use borrow.Author.Tests.{not-true, not-false}
 use Rattle.loops.specs.Run.{on, check}
@@ -92,11 +92,8 @@ room-3 kind n b numbers words masses multipliers z u v w m h =
       words = g .words;
       masses = g .masses;
       multipliers = g .multipliers;
-      jacobians = k .jacobians;
-      links = k .links;
-      massSizes = k .massSizes;
-      multiplierSizes = k .multiplierSizes;
       impulses = k .impulses;
+      sizeImpulses = k .sizeImpulses;
       values = k .values;
       sizes = k .sizes;
     }
@@ -105,11 +102,11 @@ pub passed-3 : {p r : Bool} → r ≡ p → not r ≡ false → p ≡ true
 passed-3 {p} {r} e h = sym e ∙ not-false r h
 
 -- memory of these lengths, cleared: as long as the memory that was lent
-abbrev clearedTo : ℕ → ℕ → ℕ → ℕ → ℕ → ℕ → ℕ → CheckMemory
-clearedTo j l m x i v s = memoryOf (zeros j) (replicate l 0) (zeros m) (zeros x) (zeros i) (zeros v) (zeros s)
+abbrev clearedTo : ℕ → ℕ → ℕ → ℕ → CheckMemory
+clearedTo i j v s = memoryOf (zeros i) (zeros j) (zeros v) (zeros s)
 
-pub cleared-same : {j j′ l l′ m m′ x x′ i i′ v v′ s s′ : ℕ} {after : CheckMemory} → j′ ≡ j → l′ ≡ l → m′ ≡ m → x′ ≡ x → i′ ≡ i → v′ ≡ v → s′ ≡ s → after ≡ clearedTo j′ l′ m′ x′ i′ v′ s′ → after ≡ clearedTo j l m x i v s
-cleared-same a b c d e f g p = rw (a, b, c, d, e, f, g) at p
+pub cleared-same : {i i′ j j′ v v′ s s′ : ℕ} {after : CheckMemory} → i′ ≡ i → j′ ≡ j → v′ ≡ v → s′ ≡ s → after ≡ clearedTo i′ j′ v′ s′ → after ≡ clearedTo i j v s
+cleared-same a b c d p = rw (a, b, c, d) at p
 
 -- ---- the promise
 module _ (kind : Kind) (s : Rules) (t : Table) (listed residual : ℕ → Float) (placed : Bool) (numbers : List ℕ) (before : CheckMemory) {fits r : Bool} (e : r ≡ fits) where

@@ -39,7 +39,7 @@ fn verdict(
     CheckAnswer::Open(gap)
 }
 
-// Once refusal 3 has passed: the other refusals, and the verdict. Nothing is made in jacobians, links and multiplier_sizes.
+// Once refusal 3 has passed: the other refusals, and the verdict.
 pub fn judged_check(
     kind: Kind,
     rows: u32,
@@ -53,15 +53,12 @@ pub fn judged_check(
     rule_tolerances: &[f64],
     placed: bool,
     rule_numbers: &mut [u32],
-    jacobians: &mut [f64],
-    links: &mut [u32],
-    mass_sizes: &mut [f64],
-    multiplier_sizes: &mut [f64],
     impulses: &mut [f64],
+    size_impulses: &mut [f64],
     values: &mut [f64],
     sizes: &mut [f64],
 ) -> CheckAnswer
-    requires { ⌜ Room rows bodies (now numbers) (now words) (now masses) (now multipliers) (memoryOf (now jacobians) (now links) (now «mass_sizes») (now «multiplier_sizes») (now impulses) (now values) (now sizes)) ⌝ }
+    requires { ⌜ Room rows bodies (now numbers) (now words) (now masses) (now multipliers) (memoryOf (now impulses) (now «size_impulses») (now values) (now sizes)) ⌝ }
     requires { ⌜ (length (now «rule_words») ≡ 3 * length (now «rule_tolerances»)) × (length (now «rule_tolerances») ≤ 64) × (length (now «rule_numbers») ≡ rows) ⌝ }
     requires { ⌜ (rows ≤ 512) × GivenFrom kind (length (now given)) rows ⌝ }
     ensures { λ r. ⌜ r ≡ checkOf true (closingFor kind (tableOf rows bodies (now (numbers .entry)) (now (words .entry)) (now (masses .entry))) (coefficients (now (multipliers .entry))) (rulesIn (now («rule_words» .entry)) (now («rule_tolerances» .entry))) (coefficients (now (given .entry))) placed) ⌝ }
@@ -87,16 +84,14 @@ pub fn judged_check(
         }
         TableJudged::Passed => {}
     }
-    let b = bodies as usize;
-    let size_impulses = 6 * b;
     measure_rows(
-        b,
+        bodies as usize,
         numbers,
         words,
         masses,
         multipliers,
         impulses,
-        &mut mass_sizes[..size_impulses],
+        size_impulses,
         values,
         sizes,
     );

@@ -28,19 +28,16 @@ pub fn closing_gaps(
     rule_tolerances: &[f64],
     rule_numbers: &mut [u32],
     gaps: &mut [f64],
-    jacobians: &mut [f64],
-    links: &mut [u32],
-    mass_sizes: &mut [f64],
-    multiplier_sizes: &mut [f64],
     impulses: &mut [f64],
+    size_impulses: &mut [f64],
     values: &mut [f64],
     sizes: &mut [f64],
 ) -> CheckAnswer
-    ensures { λ r. ⌜ GapsHeld (gapsLent rows (length (now (gaps .entry))) && passes3 Position rows bodies (tableLengths (now (numbers .entry)) (now (words .entry)) (now (masses .entry)) (now (centres .entry)) (now (multipliers .entry)) (now («rule_words» .entry)) (now («rule_tolerances» .entry)) (now («rule_numbers» .entry))) (workLengths (memoryOf (now (jacobians .entry)) (now (links .entry)) (now («mass_sizes» .entry)) (now («multiplier_sizes» .entry)) (now (impulses .entry)) (now (values .entry)) (now (sizes .entry)))))
+    ensures { λ r. ⌜ GapsHeld (gapsLent rows (length (now (gaps .entry))) && passes3 Position rows bodies (tableLengths (now (numbers .entry)) (now (words .entry)) (now (masses .entry)) (now (centres .entry)) (now (multipliers .entry)) (now («rule_words» .entry)) (now («rule_tolerances» .entry)) (now («rule_numbers» .entry))) (workLengths (memoryOf (now (impulses .entry)) (now («size_impulses» .entry)) (now (values .entry)) (now (sizes .entry)))))
         (rulesIn (now («rule_words» .entry)) (now («rule_tolerances» .entry)))
         (closingOf (tableOf rows bodies (now (numbers .entry)) (now (words .entry)) (now (masses .entry))) (coefficients (now (multipliers .entry))) (rulesIn (now («rule_words» .entry)) (now («rule_tolerances» .entry))) (centresFinite (centresIn bodies (now (centres .entry))))) r (now («rule_numbers» .entry)) (now («rule_numbers» .exit))
-        (memoryOf (now (jacobians .entry)) (now (links .entry)) (now («mass_sizes» .entry)) (now («multiplier_sizes» .entry)) (now (impulses .entry)) (now (values .entry)) (now (sizes .entry)))
-        (memoryOf (now (jacobians .exit)) (now (links .exit)) (now («mass_sizes» .exit)) (now («multiplier_sizes» .exit)) (now (impulses .exit)) (now (values .exit)) (now (sizes .exit)))
+        (memoryOf (now (impulses .entry)) (now («size_impulses» .entry)) (now (values .entry)) (now (sizes .entry)))
+        (memoryOf (now (impulses .exit)) (now («size_impulses» .exit)) (now (values .exit)) (now (sizes .exit)))
         (now (gaps .entry)) (now (gaps .exit)) ⌝ }
 {
     gaps_prepared(
@@ -56,11 +53,8 @@ pub fn closing_gaps(
         rule_tolerances,
         rule_numbers,
         gaps,
-        jacobians,
-        links,
-        mass_sizes,
-        multiplier_sizes,
         impulses,
+        size_impulses,
         values,
         sizes,
     )
@@ -79,19 +73,16 @@ pub fn velocity_closing_gaps(
     rule_tolerances: &[f64],
     rule_numbers: &mut [u32],
     gaps: &mut [f64],
-    jacobians: &mut [f64],
-    links: &mut [u32],
-    mass_sizes: &mut [f64],
-    multiplier_sizes: &mut [f64],
     impulses: &mut [f64],
+    size_impulses: &mut [f64],
     values: &mut [f64],
     sizes: &mut [f64],
 ) -> CheckAnswer
-    ensures { λ r. ⌜ GapsHeld (gapsLent rows (length (now (gaps .entry))) && passes3 Velocity rows bodies (tableLengths (now (numbers .entry)) (now (words .entry)) (now (masses .entry)) (now (given .entry)) (now (multipliers .entry)) (now («rule_words» .entry)) (now («rule_tolerances» .entry)) (now («rule_numbers» .entry))) (workLengths (memoryOf (now (jacobians .entry)) (now (links .entry)) (now («mass_sizes» .entry)) (now («multiplier_sizes» .entry)) (now (impulses .entry)) (now (values .entry)) (now (sizes .entry)))))
+    ensures { λ r. ⌜ GapsHeld (gapsLent rows (length (now (gaps .entry))) && passes3 Velocity rows bodies (tableLengths (now (numbers .entry)) (now (words .entry)) (now (masses .entry)) (now (given .entry)) (now (multipliers .entry)) (now («rule_words» .entry)) (now («rule_tolerances» .entry)) (now («rule_numbers» .entry))) (workLengths (memoryOf (now (impulses .entry)) (now («size_impulses» .entry)) (now (values .entry)) (now (sizes .entry)))))
         (rulesIn (now («rule_words» .entry)) (now («rule_tolerances» .entry)))
         (speedsOf (tableOf rows bodies (now (numbers .entry)) (now (words .entry)) (now (masses .entry))) (coefficients (now (multipliers .entry))) (rulesIn (now («rule_words» .entry)) (now («rule_tolerances» .entry))) (coefficients (now (given .entry)))) r (now («rule_numbers» .entry)) (now («rule_numbers» .exit))
-        (memoryOf (now (jacobians .entry)) (now (links .entry)) (now («mass_sizes» .entry)) (now («multiplier_sizes» .entry)) (now (impulses .entry)) (now (values .entry)) (now (sizes .entry)))
-        (memoryOf (now (jacobians .exit)) (now (links .exit)) (now («mass_sizes» .exit)) (now («multiplier_sizes» .exit)) (now (impulses .exit)) (now (values .exit)) (now (sizes .exit)))
+        (memoryOf (now (impulses .entry)) (now («size_impulses» .entry)) (now (values .entry)) (now (sizes .entry)))
+        (memoryOf (now (impulses .exit)) (now («size_impulses» .exit)) (now (values .exit)) (now (sizes .exit)))
         (now (gaps .entry)) (now (gaps .exit)) ⌝ }
 {
     gaps_prepared(
@@ -107,11 +98,8 @@ pub fn velocity_closing_gaps(
         rule_tolerances,
         rule_numbers,
         gaps,
-        jacobians,
-        links,
-        mass_sizes,
-        multiplier_sizes,
         impulses,
+        size_impulses,
         values,
         sizes,
     )

@@ -31,19 +31,16 @@ pub fn gaps_prepared(
     rule_tolerances: &[f64],
     rule_numbers: &mut [u32],
     gaps: &mut [f64],
-    jacobians: &mut [f64],
-    links: &mut [u32],
-    mass_sizes: &mut [f64],
-    multiplier_sizes: &mut [f64],
     impulses: &mut [f64],
+    size_impulses: &mut [f64],
     values: &mut [f64],
     sizes: &mut [f64],
 ) -> CheckAnswer
-    ensures { λ r. ⌜ GapsHeld (gapsLent rows (length (now (gaps .entry))) && passes3 kind rows bodies (tableLengths (now (numbers .entry)) (now (words .entry)) (now (masses .entry)) (now (beside .entry)) (now (multipliers .entry)) (now («rule_words» .entry)) (now («rule_tolerances» .entry)) (now («rule_numbers» .entry))) (workLengths (memoryOf (now (jacobians .entry)) (now (links .entry)) (now («mass_sizes» .entry)) (now («multiplier_sizes» .entry)) (now (impulses .entry)) (now (values .entry)) (now (sizes .entry)))))
+    ensures { λ r. ⌜ GapsHeld (gapsLent rows (length (now (gaps .entry))) && passes3 kind rows bodies (tableLengths (now (numbers .entry)) (now (words .entry)) (now (masses .entry)) (now (beside .entry)) (now (multipliers .entry)) (now («rule_words» .entry)) (now («rule_tolerances» .entry)) (now («rule_numbers» .entry))) (workLengths (memoryOf (now (impulses .entry)) (now («size_impulses» .entry)) (now (values .entry)) (now (sizes .entry)))))
         (rulesIn (now («rule_words» .entry)) (now («rule_tolerances» .entry)))
         (closingIn kind rows bodies (now (numbers .entry)) (now (words .entry)) (now (masses .entry)) (now (beside .entry)) (now (multipliers .entry)) (rulesIn (now («rule_words» .entry)) (now («rule_tolerances» .entry)))) r (now («rule_numbers» .entry)) (now («rule_numbers» .exit))
-        (memoryOf (now (jacobians .entry)) (now (links .entry)) (now («mass_sizes» .entry)) (now («multiplier_sizes» .entry)) (now (impulses .entry)) (now (values .entry)) (now (sizes .entry)))
-        (memoryOf (now (jacobians .exit)) (now (links .exit)) (now («mass_sizes» .exit)) (now («multiplier_sizes» .exit)) (now (impulses .exit)) (now (values .exit)) (now (sizes .exit)))
+        (memoryOf (now (impulses .entry)) (now («size_impulses» .entry)) (now (values .entry)) (now (sizes .entry)))
+        (memoryOf (now (impulses .exit)) (now («size_impulses» .exit)) (now (values .exit)) (now (sizes .exit)))
         (now (gaps .entry)) (now (gaps .exit)) ⌝ }
 {
     let table = TableLengths {
@@ -57,11 +54,8 @@ pub fn gaps_prepared(
         rule_numbers: rule_numbers.len(),
     };
     let work = WorkLengths {
-        jacobians: jacobians.len(),
-        links: links.len(),
-        mass_sizes: mass_sizes.len(),
-        multiplier_sizes: multiplier_sizes.len(),
         impulses: impulses.len(),
+        size_impulses: size_impulses.len(),
         values: values.len(),
         sizes: sizes.len(),
     };
@@ -83,23 +77,12 @@ pub fn gaps_prepared(
         rule_tolerances,
         placed,
         rule_numbers,
-        jacobians,
-        links,
-        mass_sizes,
-        multiplier_sizes,
         impulses,
+        size_impulses,
         values,
         sizes,
     );
     keep_gaps(answer, values, gaps);
-    clear_work(
-        jacobians,
-        links,
-        mass_sizes,
-        multiplier_sizes,
-        impulses,
-        values,
-        sizes,
-    );
+    clear_work(impulses, size_impulses, values, sizes);
     answer
 }

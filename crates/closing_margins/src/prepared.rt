@@ -30,20 +30,17 @@ fn margins_with(
     margin_rows: &mut [u32],
     margins: &mut [f64],
     gaps: &mut [f64],
-    jacobians: &mut [f64],
-    links: &mut [u32],
-    mass_sizes: &mut [f64],
-    multiplier_sizes: &mut [f64],
     impulses: &mut [f64],
+    size_impulses: &mut [f64],
     values: &mut [f64],
     sizes: &mut [f64],
 ) -> CheckAnswer
     requires { ⌜ (rows ≤ 512) × (marginsLent rows (length (now «margin_rows»)) (length (now margins)) ≡ true) × (length (now gaps) ≡ rows) ⌝ }
-    ensures { λ r. ⌜ MarginsHeld (marginsLent rows (length (now («margin_rows» .entry))) (length (now (margins .entry))) && passes3 kind rows bodies (tableLengths (now (numbers .entry)) (now (words .entry)) (now (masses .entry)) (now (beside .entry)) (now (multipliers .entry)) (now («rule_words» .entry)) (now («rule_tolerances» .entry)) (now («rule_numbers» .entry))) (workLengths (memoryOf (now (jacobians .entry)) (now (links .entry)) (now («mass_sizes» .entry)) (now («multiplier_sizes» .entry)) (now (impulses .entry)) (now (values .entry)) (now (sizes .entry)))))
+    ensures { λ r. ⌜ MarginsHeld (marginsLent rows (length (now («margin_rows» .entry))) (length (now (margins .entry))) && passes3 kind rows bodies (tableLengths (now (numbers .entry)) (now (words .entry)) (now (masses .entry)) (now (beside .entry)) (now (multipliers .entry)) (now («rule_words» .entry)) (now («rule_tolerances» .entry)) (now («rule_numbers» .entry))) (workLengths (memoryOf (now (impulses .entry)) (now («size_impulses» .entry)) (now (values .entry)) (now (sizes .entry)))))
         (rulesIn (now («rule_words» .entry)) (now («rule_tolerances» .entry)))
         (closingIn kind rows bodies (now (numbers .entry)) (now (words .entry)) (now (masses .entry)) (now (beside .entry)) (now (multipliers .entry)) (rulesIn (now («rule_words» .entry)) (now («rule_tolerances» .entry)))) r (now («rule_numbers» .entry)) (now («rule_numbers» .exit))
-        (memoryOf (now (jacobians .entry)) (now (links .entry)) (now («mass_sizes» .entry)) (now («multiplier_sizes» .entry)) (now (impulses .entry)) (now (values .entry)) (now (sizes .entry)))
-        (memoryOf (now (jacobians .exit)) (now (links .exit)) (now («mass_sizes» .exit)) (now («multiplier_sizes» .exit)) (now (impulses .exit)) (now (values .exit)) (now (sizes .exit)))
+        (memoryOf (now (impulses .entry)) (now («size_impulses» .entry)) (now (values .entry)) (now (sizes .entry)))
+        (memoryOf (now (impulses .exit)) (now («size_impulses» .exit)) (now (values .exit)) (now (sizes .exit)))
         (now («margin_rows» .entry)) (now (margins .entry)) (now («margin_rows» .exit)) (now (margins .exit)) ⌝ }
 {
     let answer = gaps_prepared(
@@ -59,11 +56,8 @@ fn margins_with(
         rule_tolerances,
         rule_numbers,
         gaps,
-        jacobians,
-        links,
-        mass_sizes,
-        multiplier_sizes,
         impulses,
+        size_impulses,
         values,
         sizes,
     );
@@ -86,19 +80,16 @@ pub fn margins_prepared(
     rule_numbers: &mut [u32],
     margin_rows: &mut [u32],
     margins: &mut [f64],
-    jacobians: &mut [f64],
-    links: &mut [u32],
-    mass_sizes: &mut [f64],
-    multiplier_sizes: &mut [f64],
     impulses: &mut [f64],
+    size_impulses: &mut [f64],
     values: &mut [f64],
     sizes: &mut [f64],
 ) -> CheckAnswer
-    ensures { λ r. ⌜ MarginsHeld (marginsLent rows (length (now («margin_rows» .entry))) (length (now (margins .entry))) && passes3 kind rows bodies (tableLengths (now (numbers .entry)) (now (words .entry)) (now (masses .entry)) (now (beside .entry)) (now (multipliers .entry)) (now («rule_words» .entry)) (now («rule_tolerances» .entry)) (now («rule_numbers» .entry))) (workLengths (memoryOf (now (jacobians .entry)) (now (links .entry)) (now («mass_sizes» .entry)) (now («multiplier_sizes» .entry)) (now (impulses .entry)) (now (values .entry)) (now (sizes .entry)))))
+    ensures { λ r. ⌜ MarginsHeld (marginsLent rows (length (now («margin_rows» .entry))) (length (now (margins .entry))) && passes3 kind rows bodies (tableLengths (now (numbers .entry)) (now (words .entry)) (now (masses .entry)) (now (beside .entry)) (now (multipliers .entry)) (now («rule_words» .entry)) (now («rule_tolerances» .entry)) (now («rule_numbers» .entry))) (workLengths (memoryOf (now (impulses .entry)) (now («size_impulses» .entry)) (now (values .entry)) (now (sizes .entry)))))
         (rulesIn (now («rule_words» .entry)) (now («rule_tolerances» .entry)))
         (closingIn kind rows bodies (now (numbers .entry)) (now (words .entry)) (now (masses .entry)) (now (beside .entry)) (now (multipliers .entry)) (rulesIn (now («rule_words» .entry)) (now («rule_tolerances» .entry)))) r (now («rule_numbers» .entry)) (now («rule_numbers» .exit))
-        (memoryOf (now (jacobians .entry)) (now (links .entry)) (now («mass_sizes» .entry)) (now («multiplier_sizes» .entry)) (now (impulses .entry)) (now (values .entry)) (now (sizes .entry)))
-        (memoryOf (now (jacobians .exit)) (now (links .exit)) (now («mass_sizes» .exit)) (now («multiplier_sizes» .exit)) (now (impulses .exit)) (now (values .exit)) (now (sizes .exit)))
+        (memoryOf (now (impulses .entry)) (now («size_impulses» .entry)) (now (values .entry)) (now (sizes .entry)))
+        (memoryOf (now (impulses .exit)) (now («size_impulses» .exit)) (now (values .exit)) (now (sizes .exit)))
         (now («margin_rows» .entry)) (now (margins .entry)) (now («margin_rows» .exit)) (now (margins .exit)) ⌝ }
 {
     if !(lists_fit(rows, margin_rows.len(), margins.len()) & (rows <= 512)) {
@@ -121,11 +112,8 @@ pub fn margins_prepared(
         margin_rows,
         margins,
         &mut gaps[..n],
-        jacobians,
-        links,
-        mass_sizes,
-        multiplier_sizes,
         impulses,
+        size_impulses,
         values,
         sizes,
     )

@@ -81,11 +81,8 @@ fn verdict(
 ) -> u32 {
     let mut told: [u32; 1] = [0; 1];
     let mut rule_numbers: [u32; 8] = [0; 8];
-    let mut jacobians: [f64; 96] = [0.0; 96];
-    let mut links: [u32; 16] = [0; 16];
-    let mut mass_sizes: [f64; 40] = [0.0; 40];
-    let mut multiplier_sizes: [f64; 8] = [0.0; 8];
     let mut impulses: [f64; 24] = [0.0; 24];
+    let mut size_impulses: [f64; 24] = [0.0; 24];
     let mut values: [f64; 8] = [0.0; 8];
     let mut sizes: [f64; 8] = [0.0; 8];
     let refusal = kapitsa_closing_check(
@@ -101,11 +98,8 @@ fn verdict(
         &mut rule_numbers,
         &mut told,
         gap,
-        &mut jacobians,
-        &mut links,
-        &mut mass_sizes,
-        &mut multiplier_sizes,
         &mut impulses,
+        &mut size_impulses,
         &mut values,
         &mut sizes,
     );

@@ -53,7 +53,7 @@ pub fn tell_verdict(answer: CheckAnswer, verdict: &mut [u32], gap: &mut [f64]) -
 
 // For n rows, b bodies and t rules, at most 64: numbers 27n, words 8n, masses 10b, centres 3b, rule_words 3t (dimension, first key, last key), rule_tolerances t, multipliers n;
 // rule_numbers n (the rule of each row), verdict 1 (1 closed, 0 open) and gap 2 (the largest reach of linear and of angular rows), written where 0 is returned and nowhere else;
-// jacobians 12n, links 2n, mass_sizes 10b, multiplier_sizes n, impulses 6b, values n, sizes n: this work memory is 0 afterwards, except after 3, which writes nothing.
+// impulses 6b, size_impulses 6b, values n, sizes n: this work memory is 0 afterwards, except after 3, which writes nothing.
 #[no_mangle]
 pub extern "C" fn kapitsa_closing_check(
     numbers: &[f64],
@@ -68,20 +68,17 @@ pub extern "C" fn kapitsa_closing_check(
     rule_numbers: &mut [u32],
     verdict: &mut [u32],
     gap: &mut [f64],
-    jacobians: &mut [f64],
-    links: &mut [u32],
-    mass_sizes: &mut [f64],
-    multiplier_sizes: &mut [f64],
     impulses: &mut [f64],
+    size_impulses: &mut [f64],
     values: &mut [f64],
     sizes: &mut [f64],
 ) -> u32
-    ensures { λ r. ⌜ CheckTold (verdictFits (now (verdict .entry)) (now (gap .entry)) && passes3 Position rows bodies (tableLengths (now (numbers .entry)) (now (words .entry)) (now (masses .entry)) (now (centres .entry)) (now (multipliers .entry)) (now («rule_words» .entry)) (now («rule_tolerances» .entry)) (now («rule_numbers» .entry))) (workLengths (memoryOf (now (jacobians .entry)) (now (links .entry)) (now («mass_sizes» .entry)) (now («multiplier_sizes» .entry)) (now (impulses .entry)) (now (values .entry)) (now (sizes .entry)))))
+    ensures { λ r. ⌜ CheckTold (verdictFits (now (verdict .entry)) (now (gap .entry)) && passes3 Position rows bodies (tableLengths (now (numbers .entry)) (now (words .entry)) (now (masses .entry)) (now (centres .entry)) (now (multipliers .entry)) (now («rule_words» .entry)) (now («rule_tolerances» .entry)) (now («rule_numbers» .entry))) (workLengths (memoryOf (now (impulses .entry)) (now («size_impulses» .entry)) (now (values .entry)) (now (sizes .entry)))))
         (rulesIn (now («rule_words» .entry)) (now («rule_tolerances» .entry)))
         (closingOf (tableOf rows bodies (now (numbers .entry)) (now (words .entry)) (now (masses .entry))) (coefficients (now (multipliers .entry))) (rulesIn (now («rule_words» .entry)) (now («rule_tolerances» .entry))) (centresFinite (centresIn bodies (now (centres .entry)))))
         (now (verdict .entry)) (now (gap .entry)) record { number = r; verdict = now (verdict .exit); gap = now (gap .exit) } (now («rule_numbers» .entry)) (now («rule_numbers» .exit))
-        (memoryOf (now (jacobians .entry)) (now (links .entry)) (now («mass_sizes» .entry)) (now («multiplier_sizes» .entry)) (now (impulses .entry)) (now (values .entry)) (now (sizes .entry)))
-        (memoryOf (now (jacobians .exit)) (now (links .exit)) (now («mass_sizes» .exit)) (now («multiplier_sizes» .exit)) (now (impulses .exit)) (now (values .exit)) (now (sizes .exit))) ⌝ }
+        (memoryOf (now (impulses .entry)) (now («size_impulses» .entry)) (now (values .entry)) (now (sizes .entry)))
+        (memoryOf (now (impulses .exit)) (now («size_impulses» .exit)) (now (values .exit)) (now (sizes .exit))) ⌝ }
 {
     if !verdict_fits(verdict, gap) {
         return 3;
@@ -97,11 +94,8 @@ pub extern "C" fn kapitsa_closing_check(
         rule_words,
         rule_tolerances,
         rule_numbers,
-        jacobians,
-        links,
-        mass_sizes,
-        multiplier_sizes,
         impulses,
+        size_impulses,
         values,
         sizes,
     );

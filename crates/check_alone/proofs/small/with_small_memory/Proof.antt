@@ -12,27 +12,15 @@ pub with-small-memory-spec : {M : Type 1} → statement M
 with-small-memory-spec =
     tie.close
     (tie.spec
-    (λ c. omega (arith, (c .before .before .before .before .before .before .before .before) .pre .1))  -- mul-row-numbers
-    (λ c. omega (arith, (c .before .before .before .before .before .before .before .before) .pre .1))  -- mul-row-links
-    (λ c. omega (arith, (c .before .before .before .before .before .before .before .before) .pre .1))  -- mul-mass-numbers
     (λ c. omega (arith, (c .before .before .before .before .before .before .before .before) .pre .1))  -- mul-body-numbers
-    (λ c. omega (arith, (c .before .before .before .before .before .before .before .before .before) .pre .1))  -- array-borrow-prefix-jacobians
+    (λ c. omega (arith, (c .before .before .before .before .before .before .before .before .before) .pre .1))  -- array-borrow-prefix-impulses
     (λ c. sym (length-take-le _ _ (omega (arith, (c .before .before .before .before .before .before .before .before .before .before) .pre .1))))  -- slice-aggregate-closing-check
-    (λ c. omega (arith, (c .before .before .before .before .before .before .before .before .before .before) .pre .1))  -- array-borrow-prefix-links
+    (λ c. omega (arith, (c .before .before .before .before .before .before .before .before .before .before) .pre .1))  -- array-borrow-prefix-size-impulses
     (λ c. sym (length-take-le _ _ (omega (arith, (c .before .before .before .before .before .before .before .before .before .before .before) .pre .1))))  -- slice-aggregate-closing-check-2
-    (λ c. omega (arith, (c .before .before .before .before .before .before .before .before .before .before .before) .pre .1))  -- array-borrow-prefix-mass-sizes
+    (λ c. omega (arith, (c .before .before .before .before .before .before .before .before .before .before .before) .pre .1))  -- array-borrow-prefix-values
     (λ c. sym (length-take-le _ _ (omega (arith, (c .before .before .before .before .before .before .before .before .before .before .before .before) .pre .1))))  -- slice-aggregate-closing-check-3
-    (λ c. omega (arith, (c .before .before .before .before .before .before .before .before .before .before .before .before) .pre .1))  -- array-borrow-prefix-multiplier-sizes
+    (λ c. omega (arith, (c .before .before .before .before .before .before .before .before .before .before .before .before) .pre .1))  -- array-borrow-prefix-sizes
     (λ c. sym (length-take-le _ _ (omega (arith, (c .before .before .before .before .before .before .before .before .before .before .before .before .before) .pre .1))))  -- slice-aggregate-closing-check-4
-    (λ c. omega (arith, (c .before .before .before .before .before .before .before .before .before .before .before .before .before) .pre .1))  -- array-borrow-prefix-impulses
-    (λ c. sym (length-take-le _ _ (omega (arith, (c .before .before .before .before .before .before .before .before .before .before .before .before .before .before) .pre .1))))  -- slice-aggregate-closing-check-5
-    (λ c. omega (arith, (c .before .before .before .before .before .before .before .before .before .before .before .before .before .before) .pre .1))  -- array-borrow-prefix-values
-    (λ c. sym (length-take-le _ _ (omega (arith, (c .before .before .before .before .before .before .before .before .before .before .before .before .before .before .before) .pre .1))))  -- slice-aggregate-closing-check-6
-    (λ c. omega (arith, (c .before .before .before .before .before .before .before .before .before .before .before .before .before .before .before) .pre .1))  -- array-borrow-prefix-sizes
-    (λ c. sym (length-take-le _ _ (omega (arith, (c .before .before .before .before .before .before .before .before .before .before .before .before .before .before .before .before) .pre .1))))  -- slice-aggregate-closing-check-7
     (λ c κs. search needs)  -- closing-check-requires
-    (λ c. (c .before .before .before .before .before .before .before .before .rule-numbers) .given)  -- same-length
-    (λ c.
-    let at-closing-check = c .before .before .before .before .before .before .before .before .before in
-    let start = at-closing-check .before .before .before .before .before .before .before .before .before .before .before .before .before .before .before .before .before in
-    alone Position _ (start .pre .0) (taken 128 64 _ _ _ _ _ _ _ (start .pre .1 .0) (start .pre .1 .1) refl refl refl refl refl refl refl) ((at-closing-check .closing-check) .ensures)))  -- returns
+    (λ c. (c .before .before .before .before .before .rule-numbers) .given)  -- same-length
+    (λ c. alone Position _ ((c .before .before .before .before .before .before .before .before .before .before .before .before .before .before .before .before .before .before .before .before) .pre .0) (taken 128 64 _ _ _ _ ((c .before .before .before .before .before .before .before .before .before .before .before .before .before .before .before .before .before .before .before .before) .pre .1 .0) ((c .before .before .before .before .before .before .before .before .before .before .before .before .before .before .before .before .before .before .before .before) .pre .1 .1) refl refl refl refl) ((c .before .before .before .before .before .before .closing-check) .ensures)))  -- returns

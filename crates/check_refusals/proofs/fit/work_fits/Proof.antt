@@ -12,6 +12,4 @@ work-fits-spec =
     (tie.spec
     (λ c. search needs)  -- mul-result
     (λ c. search needs)  -- mul-result-2
-    (λ c. search needs)  -- mul-result-3
-    (λ c. search needs)  -- mul-result-4
     (λ c. refl))  -- returns

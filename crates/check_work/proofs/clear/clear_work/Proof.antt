@@ -8,17 +8,11 @@ clear-work-spec =
     tie.close
     (tie.spec
     (λ c κs. search needs)  -- clear-requires
-    (λ c κs. search needs)  -- clear-words-requires
     (λ c κs. search needs)  -- clear-requires-2
     (λ c κs. search needs)  -- clear-requires-3
     (λ c κs. search needs)  -- clear-requires-4
-    (λ c κs. search needs)  -- clear-requires-5
-    (λ c κs. search needs)  -- clear-requires-6
-    (λ c. (c .before .before .before .before .before .before .before .before .before .before .before .before .before .before .before .before .before .before .before .before .before .before .before .before .before .jacobians) .given)  -- same-length
-    (λ c. (c .before .before .before .before .before .before .before .before .before .before .before .before .before .before .before .before .before .before .before .before .before .links) .given)  -- same-length-2
-    (λ c. (c .before .before .before .before .before .before .before .before .before .before .before .before .before .before .before .before .before .mass-sizes) .given)  -- same-length-3
-    (λ c. (c .before .before .before .before .before .before .before .before .before .before .before .before .before .multiplier-sizes) .given)  -- same-length-4
-    (λ c. (c .before .before .before .before .before .before .before .before .before .impulses) .given)  -- same-length-5
-    (λ c. (c .before .before .before .before .before .values) .given)  -- same-length-6
-    (λ c. (c .before .sizes) .given)  -- same-length-7
-    (λ c. rw ((c .before .before .before .before .before .before .before .before .before .before .before .before .before .before .before .before .before .before .before .before .before .before .before .before .before .before .clear) .ensures, (c .before .before .before .before .before .before .before .before .before .before .before .before .before .before .before .before .before .before .before .before .before .before .clear-words) .ensures, (c .before .before .before .before .before .before .before .before .before .before .before .before .before .before .before .before .before .before .clear2) .ensures, (c .before .before .before .before .before .before .before .before .before .before .before .before .before .before .clear3) .ensures, (c .before .before .before .before .before .before .before .before .before .before .clear4) .ensures, (c .before .before .before .before .before .before .clear5) .ensures, (c .before .before .clear6) .ensures)))  -- returns
+    (λ c. (c .before .before .before .before .before .before .before .before .before .before .before .before .before .impulses) .given)  -- same-length
+    (λ c. (c .before .before .before .before .before .before .before .before .before .size-impulses) .given)  -- same-length-2
+    (λ c. (c .before .before .before .before .before .values) .given)  -- same-length-3
+    (λ c. (c .before .sizes) .given)  -- same-length-4
+    (λ c. rw ((c .before .before .before .before .before .before .before .before .before .before .before .before .before .before .clear) .ensures, (c .before .before .before .before .before .before .before .before .before .before .clear2) .ensures, (c .before .before .before .before .before .before .clear3) .ensures, (c .before .before .clear4) .ensures)))  -- returns

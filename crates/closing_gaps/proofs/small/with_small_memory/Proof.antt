@@ -15,25 +15,16 @@ pub with-small-memory-spec : {M : Type 1} → statement M
 with-small-memory-spec =
     tie.close
     (tie.spec
-    (λ c. omega (arith, (c .before .before .before .before .before .before .before .before .before) .pre .1))  -- mul-row-numbers
-    (λ c. omega (arith, (c .before .before .before .before .before .before .before .before .before) .pre .1))  -- mul-row-links
-    (λ c. omega (arith, (c .before .before .before .before .before .before .before .before .before) .pre .1))  -- mul-mass-numbers
     (λ c. omega (arith, (c .before .before .before .before .before .before .before .before .before) .pre .1))  -- mul-body-numbers
-    (λ c. omega (arith, (c .before .before .before .before .before .before .before .before .before .before .before) .pre .1))  -- array-borrow-prefix-jacobians
+    (λ c. omega (arith, (c .before .before .before .before .before .before .before .before .before .before .before) .pre .1))  -- array-borrow-prefix-impulses
     (λ c. sym (length-take-le _ _ (omega (arith, (c .before .before .before .before .before .before .before .before .before .before .before .before) .pre .1))))  -- slice-aggregate-closing-gaps
-    (λ c. omega (arith, (c .before .before .before .before .before .before .before .before .before .before .before .before) .pre .1))  -- array-borrow-prefix-links
+    (λ c. omega (arith, (c .before .before .before .before .before .before .before .before .before .before .before .before) .pre .1))  -- array-borrow-prefix-size-impulses
     (λ c. sym (length-take-le _ _ (omega (arith, (c .before .before .before .before .before .before .before .before .before .before .before .before .before) .pre .1))))  -- slice-aggregate-closing-gaps-2
-    (λ c. omega (arith, (c .before .before .before .before .before .before .before .before .before .before .before .before .before) .pre .1))  -- array-borrow-prefix-mass-sizes
+    (λ c. omega (arith, (c .before .before .before .before .before .before .before .before .before .before .before .before .before) .pre .1))  -- array-borrow-prefix-values
     (λ c. sym (length-take-le _ _ (omega (arith, (c .before .before .before .before .before .before .before .before .before .before .before .before .before .before) .pre .1))))  -- slice-aggregate-closing-gaps-3
-    (λ c. omega (arith, (c .before .before .before .before .before .before .before .before .before .before .before .before .before .before) .pre .1))  -- array-borrow-prefix-multiplier-sizes
+    (λ c. omega (arith, (c .before .before .before .before .before .before .before .before .before .before .before .before .before .before) .pre .1))  -- array-borrow-prefix-sizes
     (λ c. sym (length-take-le _ _ (omega (arith, (c .before .before .before .before .before .before .before .before .before .before .before .before .before .before .before) .pre .1))))  -- slice-aggregate-closing-gaps-4
-    (λ c. omega (arith, (c .before .before .before .before .before .before .before .before .before .before .before .before .before .before .before) .pre .1))  -- array-borrow-prefix-impulses
-    (λ c. sym (length-take-le _ _ (omega (arith, (c .before .before .before .before .before .before .before .before .before .before .before .before .before .before .before .before) .pre .1))))  -- slice-aggregate-closing-gaps-5
-    (λ c. omega (arith, (c .before .before .before .before .before .before .before .before .before .before .before .before .before .before .before .before) .pre .1))  -- array-borrow-prefix-values
-    (λ c. sym (length-take-le _ _ (omega (arith, (c .before .before .before .before .before .before .before .before .before .before .before .before .before .before .before .before .before) .pre .1))))  -- slice-aggregate-closing-gaps-6
-    (λ c. omega (arith, (c .before .before .before .before .before .before .before .before .before .before .before .before .before .before .before .before .before) .pre .1))  -- array-borrow-prefix-sizes
-    (λ c. sym (length-take-le _ _ (omega (arith, (c .before .before .before .before .before .before .before .before .before .before .before .before .before .before .before .before .before .before) .pre .1))))  -- slice-aggregate-closing-gaps-7
     (λ c κs. search needs)  -- closing-gaps-requires
-    (λ c. (c .before .before .before .before .before .before .before .before .before .before .rule-numbers) .given)  -- same-length
-    (λ c. (c .before .before .before .before .before .before .before .before .gaps) .given)  -- same-length-2
-    (λ c. gaps-alone Position (gapsLent ((c .before .before .before .before .before .before .before .before .before .before .before .before .before .before .before .before .before .before .before .before .before .before .before .before .before .before .before .before .before .before) .args .n) (length ((c .before .before .before .before .before .before .before .before .before .before .before .before .before .before .before .before .before .before .before .before .before .before .before .before .before .before .before .before .before .before) .args .gaps .now))) _ ((c .before .before .before .before .before .before .before .before .before .before .before .before .before .before .before .before .before .before .before .before .before .before .before .before .before .before .before .before .before .before) .pre .0) (taken 128 64 _ _ _ _ _ _ _ ((c .before .before .before .before .before .before .before .before .before .before .before .before .before .before .before .before .before .before .before .before .before .before .before .before .before .before .before .before .before .before) .pre .1 .0) ((c .before .before .before .before .before .before .before .before .before .before .before .before .before .before .before .before .before .before .before .before .before .before .before .before .before .before .before .before .before .before) .pre .1 .1) refl refl refl refl refl refl refl) ((c .before .before .before .before .before .before .before .before .before .before .before .closing-gaps) .ensures)))  -- returns
+    (λ c. (c .before .before .before .before .before .before .before .rule-numbers) .given)  -- same-length
+    (λ c. (c .before .before .before .before .before .gaps) .given)  -- same-length-2
+    (λ c. gaps-alone Position (gapsLent ((c .before .before .before .before .before .before .before .before .before .before .before .before .before .before .before .before .before .before .before .before .before .before .before .before) .args .n) (length ((c .before .before .before .before .before .before .before .before .before .before .before .before .before .before .before .before .before .before .before .before .before .before .before .before) .args .gaps .now))) _ ((c .before .before .before .before .before .before .before .before .before .before .before .before .before .before .before .before .before .before .before .before .before .before .before .before) .pre .0) (taken 128 64 _ _ _ _ ((c .before .before .before .before .before .before .before .before .before .before .before .before .before .before .before .before .before .before .before .before .before .before .before .before) .pre .1 .0) ((c .before .before .before .before .before .before .before .before .before .before .before .before .before .before .before .before .before .before .before .before .before .before .before .before) .pre .1 .1) refl refl refl refl) ((c .before .before .before .before .before .before .before .before .closing-gaps) .ensures)))  -- returns

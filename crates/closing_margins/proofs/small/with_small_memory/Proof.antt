@@ -15,26 +15,17 @@ pub with-small-memory-spec : {M : Type 1} → statement M
 with-small-memory-spec =
     tie.close
     (tie.spec
-    (λ c. omega (arith, (c .before .before .before .before .before .before .before .before .before .before) .pre .1))  -- mul-row-numbers
-    (λ c. omega (arith, (c .before .before .before .before .before .before .before .before .before .before) .pre .1))  -- mul-row-links
-    (λ c. omega (arith, (c .before .before .before .before .before .before .before .before .before .before) .pre .1))  -- mul-mass-numbers
     (λ c. omega (arith, (c .before .before .before .before .before .before .before .before .before .before) .pre .1))  -- mul-body-numbers
-    (λ c. omega (arith, (c .before .before .before .before .before .before .before .before .before .before .before .before .before) .pre .1))  -- array-borrow-prefix-jacobians
+    (λ c. omega (arith, (c .before .before .before .before .before .before .before .before .before .before .before .before .before) .pre .1))  -- array-borrow-prefix-impulses
     (λ c. sym (length-take-le _ _ (omega (arith, (c .before .before .before .before .before .before .before .before .before .before .before .before .before .before) .pre .1))))  -- slice-aggregate-closing-margins
-    (λ c. omega (arith, (c .before .before .before .before .before .before .before .before .before .before .before .before .before .before) .pre .1))  -- array-borrow-prefix-links
+    (λ c. omega (arith, (c .before .before .before .before .before .before .before .before .before .before .before .before .before .before) .pre .1))  -- array-borrow-prefix-size-impulses
     (λ c. sym (length-take-le _ _ (omega (arith, (c .before .before .before .before .before .before .before .before .before .before .before .before .before .before .before) .pre .1))))  -- slice-aggregate-closing-margins-2
-    (λ c. omega (arith, (c .before .before .before .before .before .before .before .before .before .before .before .before .before .before .before) .pre .1))  -- array-borrow-prefix-mass-sizes
+    (λ c. omega (arith, (c .before .before .before .before .before .before .before .before .before .before .before .before .before .before .before) .pre .1))  -- array-borrow-prefix-values
     (λ c. sym (length-take-le _ _ (omega (arith, (c .before .before .before .before .before .before .before .before .before .before .before .before .before .before .before .before) .pre .1))))  -- slice-aggregate-closing-margins-3
-    (λ c. omega (arith, (c .before .before .before .before .before .before .before .before .before .before .before .before .before .before .before .before) .pre .1))  -- array-borrow-prefix-multiplier-sizes
+    (λ c. omega (arith, (c .before .before .before .before .before .before .before .before .before .before .before .before .before .before .before .before) .pre .1))  -- array-borrow-prefix-sizes
     (λ c. sym (length-take-le _ _ (omega (arith, (c .before .before .before .before .before .before .before .before .before .before .before .before .before .before .before .before .before) .pre .1))))  -- slice-aggregate-closing-margins-4
-    (λ c. omega (arith, (c .before .before .before .before .before .before .before .before .before .before .before .before .before .before .before .before .before) .pre .1))  -- array-borrow-prefix-impulses
-    (λ c. sym (length-take-le _ _ (omega (arith, (c .before .before .before .before .before .before .before .before .before .before .before .before .before .before .before .before .before .before) .pre .1))))  -- slice-aggregate-closing-margins-5
-    (λ c. omega (arith, (c .before .before .before .before .before .before .before .before .before .before .before .before .before .before .before .before .before .before) .pre .1))  -- array-borrow-prefix-values
-    (λ c. sym (length-take-le _ _ (omega (arith, (c .before .before .before .before .before .before .before .before .before .before .before .before .before .before .before .before .before .before .before) .pre .1))))  -- slice-aggregate-closing-margins-6
-    (λ c. omega (arith, (c .before .before .before .before .before .before .before .before .before .before .before .before .before .before .before .before .before .before .before) .pre .1))  -- array-borrow-prefix-sizes
-    (λ c. sym (length-take-le _ _ (omega (arith, (c .before .before .before .before .before .before .before .before .before .before .before .before .before .before .before .before .before .before .before .before) .pre .1))))  -- slice-aggregate-closing-margins-7
     (λ c κs. search needs)  -- closing-margins-requires
-    (λ c. (c .before .before .before .before .before .before .before .before .before .before .before .before .rule-numbers) .given)  -- same-length
-    (λ c. (c .before .before .before .before .before .before .before .before .before .before .margin-rows) .given)  -- same-length-2
-    (λ c. (c .before .before .before .before .before .before .before .before .margins) .given)  -- same-length-3
-    (λ c. margins-alone Position (marginsLent ((c .before .before .before .before .before .before .before .before .before .before .before .before .before .before .before .before .before .before .before .before .before .before .before .before .before .before .before .before .before .before .before .before .before .before) .args .n) (length ((c .before .before .before .before .before .before .before .before .before .before .before .before .before .before .before .before .before .before .before .before .before .before .before .before .before .before .before .before .before .before .before .before .before .before) .args .margin-rows .now)) (length ((c .before .before .before .before .before .before .before .before .before .before .before .before .before .before .before .before .before .before .before .before .before .before .before .before .before .before .before .before .before .before .before .before .before .before) .args .margins .now))) _ ((c .before .before .before .before .before .before .before .before .before .before .before .before .before .before .before .before .before .before .before .before .before .before .before .before .before .before .before .before .before .before .before .before .before .before) .pre .0) (taken 128 64 _ _ _ _ _ _ _ ((c .before .before .before .before .before .before .before .before .before .before .before .before .before .before .before .before .before .before .before .before .before .before .before .before .before .before .before .before .before .before .before .before .before .before) .pre .1 .0) ((c .before .before .before .before .before .before .before .before .before .before .before .before .before .before .before .before .before .before .before .before .before .before .before .before .before .before .before .before .before .before .before .before .before .before) .pre .1 .1) refl refl refl refl refl refl refl) ((c .before .before .before .before .before .before .before .before .before .before .before .before .before .closing-margins) .ensures)))  -- returns
+    (λ c. (c .before .before .before .before .before .before .before .before .before .rule-numbers) .given)  -- same-length
+    (λ c. (c .before .before .before .before .before .before .before .margin-rows) .given)  -- same-length-2
+    (λ c. (c .before .before .before .before .before .margins) .given)  -- same-length-3
+    (λ c. margins-alone Position (marginsLent ((c .before .before .before .before .before .before .before .before .before .before .before .before .before .before .before .before .before .before .before .before .before .before .before .before .before .before .before .before) .args .n) (length ((c .before .before .before .before .before .before .before .before .before .before .before .before .before .before .before .before .before .before .before .before .before .before .before .before .before .before .before .before) .args .margin-rows .now)) (length ((c .before .before .before .before .before .before .before .before .before .before .before .before .before .before .before .before .before .before .before .before .before .before .before .before .before .before .before .before) .args .margins .now))) _ ((c .before .before .before .before .before .before .before .before .before .before .before .before .before .before .before .before .before .before .before .before .before .before .before .before .before .before .before .before) .pre .0) (taken 128 64 _ _ _ _ ((c .before .before .before .before .before .before .before .before .before .before .before .before .before .before .before .before .before .before .before .before .before .before .before .before .before .before .before .before) .pre .1 .0) ((c .before .before .before .before .before .before .before .before .before .before .before .before .before .before .before .before .before .before .before .before .before .before .before .before .before .before .before .before) .pre .1 .1) refl refl refl refl) ((c .before .before .before .before .before .before .before .before .before .before .closing-margins) .ensures)))  -- returns

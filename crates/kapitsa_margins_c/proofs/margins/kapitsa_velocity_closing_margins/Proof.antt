@@ -15,22 +15,19 @@ kapitsa-velocity-closing-margins-spec =
     (λ c. search needs)  -- same-length-2
     (λ c. unlisted kinds.Velocity _ _ _ _ _ _ _ _ _ _ _ _ ((c .before .verdict-fits) .ensures) ((c .if1) .taken))  -- returns
     (λ c κs. search needs)  -- velocity-closing-margins-requires
-    (λ c κs. told-lengths _ _ ((c .before .before .before .before .before .before .before .before .before .before .before .before .before .before .before .before .before .before .before .before .before .before .before .before .before .before .before .before .before .before .before .before .before .before .verdict-fits) .ensures) ((c .before .before .before .before .before .before .before .before .before .before .before .before .before .before .before .before .before .before .before .before .before .before .before .before .before .before .before .before .before .before .before .before .before .if1) .left))  -- tell-verdict-requires
-    (λ c. (c .before .before .before .before .before .before .before .before .before .before .before .before .before .before .before .before .before .before .before .before .before .before .before .before .before .before .rule-numbers) .given)  -- same-length-3
-    (λ c. (c .before .before .before .before .before .before .before .before .before .before .before .before .before .before .before .before .before .before .before .before .before .before .before .before .margin-rows) .given)  -- same-length-4
-    (λ c. (c .before .before .before .before .before .before .before .before .before .before .before .before .before .before .before .before .before .before .before .before .before .before .margins) .given)  -- same-length-5
+    (λ c κs. told-lengths _ _ ((c .before .before .before .before .before .before .before .before .before .before .before .before .before .before .before .before .before .before .before .before .before .before .before .before .before .verdict-fits) .ensures) ((c .before .before .before .before .before .before .before .before .before .before .before .before .before .before .before .before .before .before .before .before .before .before .before .before .if1) .left))  -- tell-verdict-requires
+    (λ c. (c .before .before .before .before .before .before .before .before .before .before .before .before .before .before .before .before .before .before .before .before .rule-numbers) .given)  -- same-length-3
+    (λ c. (c .before .before .before .before .before .before .before .before .before .before .before .before .before .before .before .before .before .before .margin-rows) .given)  -- same-length-4
+    (λ c. (c .before .before .before .before .before .before .before .before .before .before .before .before .before .before .before .before .margins) .given)  -- same-length-5
     (λ c. (c .before .before .before .verdict) .given)  -- same-length-6
     (λ c. (c .before .gap) .given)  -- same-length-7
-    (λ c. (c .before .before .before .before .before .before .before .before .before .before .before .before .before .before .before .before .before .before .before .before .jacobians) .given)  -- same-length-8
-    (λ c. (c .before .before .before .before .before .before .before .before .before .before .before .before .before .before .before .before .before .before .links) .given)  -- same-length-9
-    (λ c. (c .before .before .before .before .before .before .before .before .before .before .before .before .before .before .before .before .mass-sizes) .given)  -- same-length-10
-    (λ c. (c .before .before .before .before .before .before .before .before .before .before .before .before .before .before .multiplier-sizes) .given)  -- same-length-11
-    (λ c. (c .before .before .before .before .before .before .before .before .before .before .before .before .impulses) .given)  -- same-length-12
-    (λ c. (c .before .before .before .before .before .before .before .before .before .before .values) .given)  -- same-length-13
-    (λ c. (c .before .before .before .before .before .before .before .before .sizes) .given)  -- same-length-14
+    (λ c. (c .before .before .before .before .before .before .before .before .before .before .before .before .before .before .impulses) .given)  -- same-length-8
+    (λ c. (c .before .before .before .before .before .before .before .before .before .before .before .before .size-impulses) .given)  -- same-length-9
+    (λ c. (c .before .before .before .before .before .before .before .before .before .before .values) .given)  -- same-length-10
+    (λ c. (c .before .before .before .before .before .before .before .before .sizes) .given)  -- same-length-11
     (λ c.
     listed-on kinds.Velocity _ _ _ _ _ _ _ _ _ _ _ _
-    ((c .before .before .before .before .before .before .before .before .before .before .before .before .before .before .before .before .before .before .before .before .before .before .before .before .before .before .before .before .before .before .before .before .before .before .before .before .before .before .before .verdict-fits) .ensures)
-    ((c .before .before .before .before .before .before .before .before .before .before .before .before .before .before .before .before .before .before .before .before .before .before .before .before .before .before .before .before .before .before .before .before .before .before .before .before .before .before .if1) .left)
-    ((c .before .before .before .before .before .before .before .before .before .before .before .before .before .before .before .before .before .before .before .before .before .before .before .before .before .before .before .velocity-closing-margins) .ensures)
+    ((c .before .before .before .before .before .before .before .before .before .before .before .before .before .before .before .before .before .before .before .before .before .before .before .before .before .before .before .before .before .before .verdict-fits) .ensures)
+    ((c .before .before .before .before .before .before .before .before .before .before .before .before .before .before .before .before .before .before .before .before .before .before .before .before .before .before .before .before .before .if1) .left)
+    ((c .before .before .before .before .before .before .before .before .before .before .before .before .before .before .before .before .before .before .before .before .before .velocity-closing-margins) .ensures)
     ((c .before .before .before .before .tell-verdict) .ensures)))  -- returns-2
