@@ -29,7 +29,7 @@ int main(void)
         0.0, solution, 1, impulses, 12, new_centres, 6, rule_numbers, 1, counts, maxima, doubles, d, more, w);
     if (refusal == 0)
         refusal = kapitsa_check_in(numbers, 27, words, 8, masses, 20, centres, 6, rules, 6, tolerances, 2, 1, 2,
-                                   solution, 1, rule_numbers, 1, &verdict, gap, doubles, d, more, w);
+                                   solution, 1, rule_numbers, 1, &verdict, gap, doubles, d);
     if (refusal != 0)
         return fprintf(stderr, "%s %s\n", kapitsa_refusal_text(refusal), kapitsa_refusal_advice(refusal)), 1;
     printf("%s, gap at most %g m\n", verdict == KAPITSA_CLOSED ? "closed" : "open", gap[0]);

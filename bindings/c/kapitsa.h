@@ -71,8 +71,9 @@
    what happens in one does not touch another. group_numbers has n words, group_answers 3 n and
    group_maxima 2 n, as there are at most n groups.
 
-   WORK MEMORY is lent as one piece of doubles and one of words; kapitsa_solve_doubles and its like
-   say how much. It is 0 after every call but one refused by 3, which writes nothing at all. */
+   WORK MEMORY is lent as one piece of doubles and one of words, to a check as doubles alone;
+   kapitsa_solve_doubles and its like say how much. It is 0 after every call but one refused by 3,
+   which writes nothing at all. */
 #ifndef KAPITSA_H
 #define KAPITSA_H
 
@@ -178,12 +179,9 @@ enum kapitsa_place {
     WORDS(order, KAPITSA_BY_MODE(0, n + 2 * p, 0))                 \
     DOUBLES(values, KAPITSA_BY_MODE(0, p, 36 * n))
 
-#define KAPITSA_CHECK_WORK(DOUBLES, WORDS)                         \
-    DOUBLES(jacobians, 12 * n)                                     \
-    WORDS(links, 2 * n)                                            \
-    DOUBLES(mass_sizes, 10 * b)                                    \
-    DOUBLES(multiplier_sizes, n)                                   \
+#define KAPITSA_CHECK_WORK(DOUBLES)                                \
     DOUBLES(impulses, 6 * b)                                       \
+    DOUBLES(size_impulses, 6 * b)                                  \
     DOUBLES(values, n)                                             \
     DOUBLES(sizes, n)
 
@@ -265,7 +263,7 @@ KAPITSA_MUST_USE uint32_t kapitsa_closing_check(
     uint32_t rows, uint32_t bodies, const double *multipliers, size_t multipliers_len,
     uint32_t *rule_numbers, size_t rule_numbers_len,
     uint32_t *verdict, size_t verdict_len, double *gap, size_t gap_len
-    KAPITSA_CHECK_WORK(KAPITSA_TAKES_DOUBLES, KAPITSA_TAKES_WORDS));
+    KAPITSA_CHECK_WORK(KAPITSA_TAKES_DOUBLES));
 
 /* Refusals 3, 25, 4, 27, 28, 5, 6, 20 and 7 to 17, judged in this order, where all rows pass 7
    before 8 and 9 judge the first. The factor of modes 1 and 2 is built before the tolerance is
@@ -332,7 +330,7 @@ KAPITSA_MUST_USE uint32_t kapitsa_velocity_closing_check(
     uint32_t rows, uint32_t bodies, const double *multipliers, size_t multipliers_len,
     uint32_t *rule_numbers, size_t rule_numbers_len,
     uint32_t *verdict, size_t verdict_len, double *gap, size_t gap_len
-    KAPITSA_CHECK_WORK(KAPITSA_TAKES_DOUBLES, KAPITSA_TAKES_WORDS));
+    KAPITSA_CHECK_WORK(KAPITSA_TAKES_DOUBLES));
 
 /* kapitsa_closing_check, which answers and is refused as ever, and where it says closed the list of
    what would open the joint: margin_rows has every row once, and margins beside each the smallest
@@ -351,7 +349,7 @@ KAPITSA_MUST_USE uint32_t kapitsa_closing_margins(
     uint32_t *rule_numbers, size_t rule_numbers_len,
     uint32_t *margin_rows, size_t margin_rows_len, double *margins, size_t margins_len,
     uint32_t *verdict, size_t verdict_len, double *gap, size_t gap_len
-    KAPITSA_CHECK_WORK(KAPITSA_TAKES_DOUBLES, KAPITSA_TAKES_WORDS));
+    KAPITSA_CHECK_WORK(KAPITSA_TAKES_DOUBLES));
 
 /* The same of kapitsa_velocity_closing_check; the numbers are in m/s and rad/s. */
 KAPITSA_MUST_USE uint32_t kapitsa_velocity_closing_margins(
@@ -363,7 +361,7 @@ KAPITSA_MUST_USE uint32_t kapitsa_velocity_closing_margins(
     uint32_t *rule_numbers, size_t rule_numbers_len,
     uint32_t *margin_rows, size_t margin_rows_len, double *margins, size_t margins_len,
     uint32_t *verdict, size_t verdict_len, double *gap, size_t gap_len
-    KAPITSA_CHECK_WORK(KAPITSA_TAKES_DOUBLES, KAPITSA_TAKES_WORDS));
+    KAPITSA_CHECK_WORK(KAPITSA_TAKES_DOUBLES));
 
 /* kapitsa_closing_check, which answers and is refused as ever, and each row's measured gap, closed or
    open: gaps has for each row the smallest tolerance at which it closes, from +0.0, so that its exact gap
@@ -376,7 +374,7 @@ KAPITSA_MUST_USE uint32_t kapitsa_closing_gaps(
     uint32_t rows, uint32_t bodies, const double *multipliers, size_t multipliers_len,
     uint32_t *rule_numbers, size_t rule_numbers_len, double *gaps, size_t gaps_len,
     uint32_t *verdict, size_t verdict_len, double *gap, size_t gap_len
-    KAPITSA_CHECK_WORK(KAPITSA_TAKES_DOUBLES, KAPITSA_TAKES_WORDS));
+    KAPITSA_CHECK_WORK(KAPITSA_TAKES_DOUBLES));
 
 /* The same of kapitsa_velocity_closing_check; the numbers are in m/s and rad/s. */
 KAPITSA_MUST_USE uint32_t kapitsa_velocity_closing_gaps(
@@ -387,7 +385,7 @@ KAPITSA_MUST_USE uint32_t kapitsa_velocity_closing_gaps(
     uint32_t rows, uint32_t bodies, const double *multipliers, size_t multipliers_len,
     uint32_t *rule_numbers, size_t rule_numbers_len, double *gaps, size_t gaps_len,
     uint32_t *verdict, size_t verdict_len, double *gap, size_t gap_len
-    KAPITSA_CHECK_WORK(KAPITSA_TAKES_DOUBLES, KAPITSA_TAKES_WORDS));
+    KAPITSA_CHECK_WORK(KAPITSA_TAKES_DOUBLES));
 
 /* Of a solve that this number turned back, given what the solve was given: place (2) gets what the refusal
    is about and which, the first row for 4, 5, 7, 8, 9, 11 and 28, the first body for 6, the first rule for
@@ -415,15 +413,15 @@ KAPITSA_MUST_USE uint32_t kapitsa_inverse_spd(
          ? (size_t)(rows) * ((size_t)(rows) - 1) / 2                                 \
          : (size_t)KAPITSA_MAX_PAIRS)
 #define KAPITSA_WORK_DOUBLES(rows, bodies)                                           \
-    (18 * (size_t)(rows) + 16 * (size_t)(bodies)                                     \
+    (18 * (size_t)(rows) + 12 * (size_t)(bodies)                                     \
      + (36 * (size_t)(rows) > KAPITSA_WORK_PAIRS(rows) ? 36 * (size_t)(rows)         \
                                                        : KAPITSA_WORK_PAIRS(rows)))
 #define KAPITSA_WORK_WORDS(rows) (4 * (size_t)(rows) + 1 + 3 * KAPITSA_WORK_PAIRS(rows))
 
 /* ---- how much work memory a call needs, exactly, the same for positions and for velocities, for a
-   proposal as for a solve, and for a check with its list of margins as for a check: more may be
-   lent, less is refused by 3. 0 too where a count or the mode is beyond the limits: whatever is
-   lent, such a call is refused. */
+   proposal as for a solve, and for a check with its gaps or its list of margins as for a check, which
+   needs no words: more may be lent, less is refused by 3. 0 too where a count or the mode is beyond the
+   limits: whatever is lent, such a call is refused. */
 
 static inline int kapitsa_within(uint32_t rows, uint32_t bodies, uint32_t mode)
 {
@@ -458,19 +456,11 @@ static inline size_t kapitsa_check_doubles(uint32_t rows, uint32_t bodies)
     size_t n = rows, b = bodies;
     if (!kapitsa_within(rows, bodies, 0))
         return 0;
-    return 0 KAPITSA_CHECK_WORK(KAPITSA_ADD, KAPITSA_SKIP);
+    return 0 KAPITSA_CHECK_WORK(KAPITSA_ADD);
 }
 
-static inline size_t kapitsa_check_words(uint32_t rows, uint32_t bodies)
-{
-    size_t n = rows;
-    if (!kapitsa_within(rows, bodies, 0))
-        return 0;
-    return 0 KAPITSA_CHECK_WORK(KAPITSA_SKIP, KAPITSA_ADD);
-}
-
-/* ---- the same functions with one piece of memory for the doubles and one for the words, in any
-   floating-point mode: the control word is KAPITSA_CONTROL during the call, and afterwards what
+/* ---- the same functions with one piece of memory for the doubles and one for the words, if any, in
+   any floating-point mode: the control word is KAPITSA_CONTROL during the call, and afterwards what
    it was, its flags too; flags that the call raises are dropped. They are not inlined, since a
    compiler may move its caller's arithmetic past a change of the control word. */
 
@@ -505,10 +495,9 @@ static inline uint32_t *kapitsa_carve_words(uint32_t **rest, size_t length)
 #define KAPITSA_CHECK_ROOM                                                \
     size_t n = rows, b = bodies;                                          \
     if (!kapitsa_within(rows, bodies, 0)                                  \
-        || work_doubles_len < kapitsa_check_doubles(rows, bodies)         \
-        || work_words_len < kapitsa_check_words(rows, bodies))            \
+        || work_doubles_len < kapitsa_check_doubles(rows, bodies))        \
         return KAPITSA_REFUSED_LENGTH;                                    \
-    KAPITSA_CHECK_WORK(KAPITSA_CARVE_DOUBLES, KAPITSA_CARVE_WORDS)
+    KAPITSA_CHECK_WORK(KAPITSA_CARVE_DOUBLES)
 
 /* What each check lends on, up to its answer; beside is centres or residuals. */
 #define KAPITSA_CHECK_GIVEN(beside)                                       \
@@ -649,12 +638,12 @@ KAPITSA_APART uint32_t kapitsa_check_in(
     const double *rule_tolerances, size_t rule_tolerances_len,
     uint32_t rows, uint32_t bodies, const double *multipliers, size_t multipliers_len,
     uint32_t *rule_numbers, size_t rule_numbers_len, uint32_t *verdict, double gap[2],
-    double *work_doubles, size_t work_doubles_len, uint32_t *work_words, size_t work_words_len)
+    double *work_doubles, size_t work_doubles_len)
 {
     KAPITSA_CHECK_ROOM
     KAPITSA_RETURN_CONTROLLED(kapitsa_closing_check(
         KAPITSA_CHECK_GIVEN(centres), verdict, 1, gap, 2
-        KAPITSA_CHECK_WORK(KAPITSA_LEND, KAPITSA_LEND)))
+        KAPITSA_CHECK_WORK(KAPITSA_LEND)))
 }
 
 KAPITSA_APART uint32_t kapitsa_check_velocity_in(
@@ -664,12 +653,12 @@ KAPITSA_APART uint32_t kapitsa_check_velocity_in(
     const double *rule_tolerances, size_t rule_tolerances_len,
     uint32_t rows, uint32_t bodies, const double *multipliers, size_t multipliers_len,
     uint32_t *rule_numbers, size_t rule_numbers_len, uint32_t *verdict, double gap[2],
-    double *work_doubles, size_t work_doubles_len, uint32_t *work_words, size_t work_words_len)
+    double *work_doubles, size_t work_doubles_len)
 {
     KAPITSA_CHECK_ROOM
     KAPITSA_RETURN_CONTROLLED(kapitsa_velocity_closing_check(
         KAPITSA_CHECK_GIVEN(residuals), verdict, 1, gap, 2
-        KAPITSA_CHECK_WORK(KAPITSA_LEND, KAPITSA_LEND)))
+        KAPITSA_CHECK_WORK(KAPITSA_LEND)))
 }
 
 /* Read margin_rows and margins only where 0 was returned and *verdict is KAPITSA_CLOSED: otherwise
@@ -683,13 +672,13 @@ KAPITSA_APART uint32_t kapitsa_margins_in(
     uint32_t *rule_numbers, size_t rule_numbers_len,
     uint32_t *margin_rows, size_t margin_rows_len, double *margins, size_t margins_len,
     uint32_t *verdict, double gap[2],
-    double *work_doubles, size_t work_doubles_len, uint32_t *work_words, size_t work_words_len)
+    double *work_doubles, size_t work_doubles_len)
 {
     KAPITSA_CHECK_ROOM
     KAPITSA_RETURN_CONTROLLED(kapitsa_closing_margins(
         KAPITSA_CHECK_GIVEN(centres), margin_rows, margin_rows_len, margins, margins_len,
         verdict, 1, gap, 2
-        KAPITSA_CHECK_WORK(KAPITSA_LEND, KAPITSA_LEND)))
+        KAPITSA_CHECK_WORK(KAPITSA_LEND)))
 }
 
 KAPITSA_APART uint32_t kapitsa_margins_velocity_in(
@@ -701,13 +690,13 @@ KAPITSA_APART uint32_t kapitsa_margins_velocity_in(
     uint32_t *rule_numbers, size_t rule_numbers_len,
     uint32_t *margin_rows, size_t margin_rows_len, double *margins, size_t margins_len,
     uint32_t *verdict, double gap[2],
-    double *work_doubles, size_t work_doubles_len, uint32_t *work_words, size_t work_words_len)
+    double *work_doubles, size_t work_doubles_len)
 {
     KAPITSA_CHECK_ROOM
     KAPITSA_RETURN_CONTROLLED(kapitsa_velocity_closing_margins(
         KAPITSA_CHECK_GIVEN(residuals), margin_rows, margin_rows_len, margins, margins_len,
         verdict, 1, gap, 2
-        KAPITSA_CHECK_WORK(KAPITSA_LEND, KAPITSA_LEND)))
+        KAPITSA_CHECK_WORK(KAPITSA_LEND)))
 }
 
 /* Read gaps only where 0 was returned. */
@@ -719,12 +708,12 @@ KAPITSA_APART uint32_t kapitsa_gaps_in(
     uint32_t rows, uint32_t bodies, const double *multipliers, size_t multipliers_len,
     uint32_t *rule_numbers, size_t rule_numbers_len, double *gaps, size_t gaps_len,
     uint32_t *verdict, double gap[2],
-    double *work_doubles, size_t work_doubles_len, uint32_t *work_words, size_t work_words_len)
+    double *work_doubles, size_t work_doubles_len)
 {
     KAPITSA_CHECK_ROOM
     KAPITSA_RETURN_CONTROLLED(kapitsa_closing_gaps(
         KAPITSA_CHECK_GIVEN(centres), gaps, gaps_len, verdict, 1, gap, 2
-        KAPITSA_CHECK_WORK(KAPITSA_LEND, KAPITSA_LEND)))
+        KAPITSA_CHECK_WORK(KAPITSA_LEND)))
 }
 
 KAPITSA_APART uint32_t kapitsa_gaps_velocity_in(
@@ -735,12 +724,12 @@ KAPITSA_APART uint32_t kapitsa_gaps_velocity_in(
     uint32_t rows, uint32_t bodies, const double *multipliers, size_t multipliers_len,
     uint32_t *rule_numbers, size_t rule_numbers_len, double *gaps, size_t gaps_len,
     uint32_t *verdict, double gap[2],
-    double *work_doubles, size_t work_doubles_len, uint32_t *work_words, size_t work_words_len)
+    double *work_doubles, size_t work_doubles_len)
 {
     KAPITSA_CHECK_ROOM
     KAPITSA_RETURN_CONTROLLED(kapitsa_velocity_closing_gaps(
         KAPITSA_CHECK_GIVEN(residuals), gaps, gaps_len, verdict, 1, gap, 2
-        KAPITSA_CHECK_WORK(KAPITSA_LEND, KAPITSA_LEND)))
+        KAPITSA_CHECK_WORK(KAPITSA_LEND)))
 }
 
 KAPITSA_APART uint32_t kapitsa_first_refused_in(

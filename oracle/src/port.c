@@ -199,9 +199,7 @@ void oracle_solve_velocity_groups(
     numbers, numbers_len, words, words_len, masses, masses_len, beside, beside##_len,           \
         rule_words, rule_words_len, rule_tolerances, rule_tolerances_len, rows, bodies,         \
         multipliers, multipliers_len, rule_numbers, rule_numbers_len
-#define WORK                                                                                    \
-    work_doubles, kapitsa_check_doubles(rows, bodies), work_words,                              \
-        kapitsa_check_words(rows, bodies)
+#define WORK work_doubles, kapitsa_check_doubles(rows, bodies)
 
 /* A check of the port as the driver's. */
 #define CHECK(driven, own, beside)                                                              \

@@ -72,8 +72,8 @@ static uint32_t verdict_of(const struct bench *bench, uint32_t first, struct ans
     if (kapitsa_check_in(
             bench->numbers + 27 * first, 27 * n, bench->words + 8 * first, 8 * n, bench->masses,
             10 * BODIES, bench->centres, 3 * BODIES, RULES, 6, TOLERANCES, 2, n, BODIES,
-            to->solution + first, n, to->rule_numbers + first, n, &verdict, gap, work_doubles, D,
-            work_words, W) != 0)
+            to->solution + first, n, to->rule_numbers + first, n, &verdict, gap,
+            work_doubles, D) != 0)
         return KAPITSA_OPEN;
     return verdict;
 }

@@ -133,8 +133,7 @@ static int told(const struct linkage *linkage, const double *multipliers, const 
     const uint32_t refusal = kapitsa_margins_velocity_in(
         linkage->numbers, 27 * ROWS, linkage->words, 8 * ROWS, linkage->masses, 10 * PARTS,
         linkage->residuals, ROWS, RULES, 6, TOLERANCES, 2, ROWS, PARTS, multipliers, ROWS,
-        rule_numbers, ROWS, margin_rows, ROWS, margins, ROWS, &verdict, gap, work_doubles, DOUBLES,
-        work_words, WORDS);
+        rule_numbers, ROWS, margin_rows, ROWS, margins, ROWS, &verdict, gap, work_doubles, DOUBLES);
     if (refusal != 0) {
         printf("%s: refused by %u\n", when, (unsigned)refusal);
         return 0;

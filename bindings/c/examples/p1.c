@@ -21,13 +21,11 @@ int main(void)
     numbers[21] = INFINITY;  /* max_multiplier */
     masses[0] = masses[10] = 0.5;
 
-    /* Work memory for the longer of the two calls. */
+    /* Work memory for the call that needs more; the check takes no words. */
     size_t doubles_len = kapitsa_solve_doubles(1, 2, KAPITSA_DIAGONAL);
-    size_t words_len = kapitsa_solve_words(1, 2, KAPITSA_DIAGONAL);
+    const size_t words_len = kapitsa_solve_words(1, 2, KAPITSA_DIAGONAL);
     if (doubles_len < kapitsa_check_doubles(1, 2))
         doubles_len = kapitsa_check_doubles(1, 2);
-    if (words_len < kapitsa_check_words(1, 2))
-        words_len = kapitsa_check_words(1, 2);
     double *work_doubles = (double *)calloc(doubles_len, sizeof(double));
     uint32_t *work_words = (uint32_t *)calloc(words_len, sizeof(uint32_t));
     if (!work_doubles || !work_words)
@@ -40,8 +38,7 @@ int main(void)
     if (refusal == 0)
         refusal = kapitsa_check_in(
             numbers, 27, words, 8, masses, 20, centres, 6, rule_words, 6, rule_tolerances, 2, 1, 2,
-            solution, 1, rule_numbers, 1, &verdict, gap, work_doubles, doubles_len, work_words,
-            words_len);
+            solution, 1, rule_numbers, 1, &verdict, gap, work_doubles, doubles_len);
     free(work_doubles);
     free(work_words);
     if (refusal != 0) {

@@ -53,8 +53,7 @@ static int joined(void)
                          KAPITSA_WORK_DOUBLES(1, 2), work_words, KAPITSA_WORK_WORDS(1)) != 0
         || kapitsa_check_in(numbers, 27, words, 8, masses, 20, centres, 6, rule_words, 6,
                             rule_tolerances, 2, 1, 2, solution, 1, rule_numbers, 1, &verdict, gap,
-                            work_doubles, KAPITSA_WORK_DOUBLES(1, 2), work_words,
-                            KAPITSA_WORK_WORDS(1)) != 0)
+                            work_doubles, KAPITSA_WORK_DOUBLES(1, 2)) != 0)
         return 0;
     printf("multiplier %g, %s\n", solution[0], verdict == KAPITSA_CLOSED ? "closed" : "open");
     return counts[0] == 1 && counts[1] == 1 && verdict == KAPITSA_CLOSED;

@@ -59,7 +59,7 @@ static int try_it(uint32_t mode, double shift, uint32_t refused, uint32_t steps)
         refusal = kapitsa_check_in(
             frame.numbers, 27 * ROWS, frame.words, 8 * ROWS, frame.masses, 10 * BODIES,
             frame.centres, 3 * BODIES, RULES, 6, TOLERANCES, 2, ROWS, BODIES, solution, ROWS,
-            rule_numbers, ROWS, &verdict, gap, work_doubles, D, work_words, W);
+            rule_numbers, ROWS, &verdict, gap, work_doubles, D);
     if (refusal != 0) {
         printf("refused by %u\n", (unsigned)refusal);
         return refusal == refused;

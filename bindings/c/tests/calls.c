@@ -77,7 +77,7 @@ struct solved solve(const struct job *job, uint32_t mode, unsigned control, stru
 }
 
 uint32_t check_called(const struct job *job, const double *multipliers, struct checked *to,
-                      size_t doubles_len, size_t words_len)
+                      size_t doubles_len)
 {
     const struct lengths l = lengths_of(job);
     return (speeds ? kapitsa_check_velocity_in : kapitsa_check_in)(
@@ -85,11 +85,11 @@ uint32_t check_called(const struct job *job, const double *multipliers, struct c
         speeds ? job->residuals : job->centres, l.of[speeds ? RESIDUALS : CENTRES],
         job->rules.words, job->rules.words_len, job->rules.tolerances, job->rules.tolerances_len,
         job->rows, job->bodies, multipliers, l.of[SOLUTION], to->rule_numbers, l.rule_numbers,
-        &to->verdict, to->gap, doubles, doubles_len, words, words_len);
+        &to->verdict, to->gap, doubles, doubles_len);
 }
 
-uint32_t margins_called(const struct job *job, const double *multipliers,
-                        struct checked *to, size_t doubles_len, size_t words_len)
+uint32_t margins_called(const struct job *job, const double *multipliers, struct checked *to,
+                        size_t doubles_len)
 {
     const struct lengths l = lengths_of(job);
     return (speeds ? kapitsa_margins_velocity_in : kapitsa_margins_in)(
@@ -98,21 +98,19 @@ uint32_t margins_called(const struct job *job, const double *multipliers,
         job->rules.words, job->rules.words_len, job->rules.tolerances, job->rules.tolerances_len,
         job->rows, job->bodies, multipliers, l.of[SOLUTION], to->rule_numbers, l.rule_numbers,
         to->margin_rows, l.of[MARGIN_ROWS], to->margins, l.of[MARGINS], &to->verdict, to->gap,
-        doubles, doubles_len, words, words_len);
+        doubles, doubles_len);
 }
 
 struct checked checked_by(calls *called, const struct job *job, const double *multipliers,
                           unsigned control, struct lent lent)
 {
-    const uint32_t n = job->rows, b = job->bodies;
-    const size_t doubles_len = length(kapitsa_check_doubles(n, b), lent.more_doubles);
-    const size_t words_len = length(kapitsa_check_words(n, b), lent.more_words);
+    const size_t need = kapitsa_check_doubles(job->rows, job->bodies);
     struct checked to;
     memset(&to, PATTERN, sizeof to);
     fill_work();
     const unsigned before = _mm_getcsr();
     _mm_setcsr(control);
-    to.refusal = called(job, multipliers, &to, doubles_len, words_len);
+    to.refusal = called(job, multipliers, &to, length(need, lent.more_doubles));
     to.control = _mm_getcsr();
     _mm_setcsr(before);
     return to;
@@ -170,8 +168,7 @@ static int listed_well(const struct job *job, const struct checked *found)
 static int check_cleared(const struct job *job, uint32_t refusal)
 {
     const size_t clears = refusal != KAPITSA_REFUSED_LENGTH;
-    return work_clear(clears * kapitsa_check_doubles(job->rows, job->bodies),
-                      clears * kapitsa_check_words(job->rows, job->bodies));
+    return work_clear(clears * kapitsa_check_doubles(job->rows, job->bodies), 0);
 }
 
 /* The check, and beside it the check with its list, which answers alike; the list is of that. */
@@ -222,9 +219,8 @@ uint32_t raw_solve(const struct job *job, unsigned control, double *solution)
 uint32_t raw_check(const struct job *job, const double *multipliers, unsigned control,
                    uint32_t *verdict, size_t verdict_len, double *gap, size_t gap_len)
 {
-    double jacobians[12 * ROWS], mass_sizes[10 * BODIES], multiplier_sizes[ROWS];
-    double impulses[6 * BODIES], values[ROWS], sizes[ROWS];
-    uint32_t rule_numbers[ROWS], links[2 * ROWS];
+    double impulses[6 * BODIES], size_impulses[6 * BODIES], values[ROWS], sizes[ROWS];
+    uint32_t rule_numbers[ROWS];
     const uint32_t n = job->rows, b = job->bodies;
     const unsigned before = _mm_getcsr();
     _mm_setcsr(control);
@@ -233,8 +229,7 @@ uint32_t raw_check(const struct job *job, const double *multipliers, unsigned co
         speeds ? job->residuals : job->centres, speeds ? n : 3 * b,
         job->rules.words, job->rules.words_len, job->rules.tolerances, job->rules.tolerances_len, n,
         b, multipliers, n, rule_numbers, n, verdict, verdict_len, gap, gap_len,
-        jacobians, 12 * n, links, 2 * n, mass_sizes, 10 * b, multiplier_sizes, n, impulses,
-        6 * b, values, n, sizes, n);
+        impulses, 6 * b, size_impulses, 6 * b, values, n, sizes, n);
     _mm_setcsr(before);
     return refusal;
 }
@@ -242,9 +237,7 @@ uint32_t raw_check(const struct job *job, const double *multipliers, unsigned co
 uint32_t raw_margins(const struct job *job, const double *multipliers, struct checked *to,
                      const size_t lengths[RAW_SLICES])
 {
-    double jacobians[12 * ROWS], mass_sizes[10 * BODIES], multiplier_sizes[ROWS];
-    double impulses[6 * BODIES], values[ROWS], sizes[ROWS];
-    uint32_t links[2 * ROWS];
+    double impulses[6 * BODIES], size_impulses[6 * BODIES], values[ROWS], sizes[ROWS];
     const uint32_t n = job->rows, b = job->bodies;
     const unsigned before = _mm_getcsr();
     _mm_setcsr(KAPITSA_CONTROL);
@@ -255,8 +248,7 @@ uint32_t raw_margins(const struct job *job, const double *multipliers, struct ch
         b, multipliers, n, to->rule_numbers, n, to->margin_rows, lengths[RAW_ROWS],
         to->margins, lengths[RAW_MARGINS], &to->verdict, lengths[RAW_VERDICT],
         to->gap, lengths[RAW_GAP],
-        jacobians, 12 * n, links, 2 * n, mass_sizes, 10 * b, multiplier_sizes, n, impulses,
-        6 * b, values, n, sizes, n);
+        impulses, 6 * b, size_impulses, 6 * b, values, n, sizes, n);
     _mm_setcsr(before);
     return refusal;
 }

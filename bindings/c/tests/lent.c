@@ -44,7 +44,6 @@
     X(S_PATTERN, uint32_t, BY_MODE(0, n + 1 + p, n), NULL)                                     \
     X(S_ORDER, uint32_t, BY_MODE(0, n + 2 * p, 0), NULL)                                       \
     X(S_VALUES, double, BY_MODE(0, p, 36 * n), NULL)                                           \
-    X(S_MASS_SIZES, double, 10 * b, NULL)                                                      \
     /* of the functions in _in: answers whose length is not told, and work memory in one piece */ \
     X(S_COUNTS_IN, uint32_t, 2, NULL)                                                          \
     X(S_MAXIMA_IN, double, 2, NULL)                                                            \
@@ -57,8 +56,7 @@
     X(S_INVERSE_IN, double, 9, NULL)                                                           \
     X(S_SOLVE_DOUBLES, double, kapitsa_solve_doubles(t->rows, t->bodies, t->mode), NULL)       \
     X(S_SOLVE_WORDS, uint32_t, kapitsa_solve_words(t->rows, t->bodies, t->mode), NULL)         \
-    X(S_CHECK_DOUBLES, double, kapitsa_check_doubles(t->rows, t->bodies), NULL)                \
-    X(S_CHECK_WORDS, uint32_t, kapitsa_check_words(t->rows, t->bodies), NULL)
+    X(S_CHECK_DOUBLES, double, kapitsa_check_doubles(t->rows, t->bodies), NULL)
 
 #define NAME(kind, type, length, held) kind,
 enum { SLICES_OF_CALLS(NAME) KINDS };
@@ -133,18 +131,13 @@ CALLS(kapitsa_solve_velocity, SOLVES, D(6), D(7), W(8), W(9), D(10), D(11), W(12
       D(16), D(17), D(18), D(19), W(20), W(21), D(22))
 CALLS(kapitsa_solve_groups, SOLVES, D(6), D(7), D(8), W(9), W(10), W(11), D(12), W(13))
 CALLS(kapitsa_solve_velocity_groups, SOLVES, D(6), D(7), W(8), W(9), W(10), D(11), W(12))
-CALLS(kapitsa_closing_check, GIVEN, D(6), W(7), W(8), D(9), D(10), W(11), D(12), D(13), D(14), D(15),
-      D(16))
-CALLS(kapitsa_velocity_closing_check, GIVEN, D(6), W(7), W(8), D(9), D(10), W(11), D(12), D(13), D(14),
-      D(15), D(16))
-CALLS(kapitsa_closing_margins, GIVEN, D(6), W(7), W(8), D(9), W(10), D(11), D(12), W(13), D(14), D(15),
-      D(16), D(17), D(18))
-CALLS(kapitsa_velocity_closing_margins, GIVEN, D(6), W(7), W(8), D(9), W(10), D(11), D(12), W(13), D(14),
-      D(15), D(16), D(17), D(18))
-CALLS(kapitsa_closing_gaps, GIVEN, D(6), W(7), D(8), W(9), D(10), D(11), W(12), D(13), D(14), D(15),
-      D(16), D(17))
-CALLS(kapitsa_velocity_closing_gaps, GIVEN, D(6), W(7), D(8), W(9), D(10), D(11), W(12), D(13), D(14),
-      D(15), D(16), D(17))
+CALLS(kapitsa_closing_check, GIVEN, D(6), W(7), W(8), D(9), D(10), D(11), D(12), D(13))
+CALLS(kapitsa_velocity_closing_check, GIVEN, D(6), W(7), W(8), D(9), D(10), D(11), D(12), D(13))
+CALLS(kapitsa_closing_margins, GIVEN, D(6), W(7), W(8), D(9), W(10), D(11), D(12), D(13), D(14), D(15))
+CALLS(kapitsa_velocity_closing_margins, GIVEN, D(6), W(7), W(8), D(9), W(10), D(11), D(12), D(13), D(14),
+      D(15))
+CALLS(kapitsa_closing_gaps, GIVEN, D(6), W(7), D(8), W(9), D(10), D(11), D(12), D(13), D(14))
+CALLS(kapitsa_velocity_closing_gaps, GIVEN, D(6), W(7), D(8), W(9), D(10), D(11), D(12), D(13), D(14))
 CALLS(kapitsa_inverse_spd, D(0), D(1))
 CALLS(kapitsa_solve_in, SOLVES, D(6), D(7), D(8), W(9), W_AT(10), D_AT(11), D(12), W(13))
 CALLS(kapitsa_propose_in, SOLVES, D(6), D(7), D(8), W(9), W_AT(10), D(11), D_AT(12), D(13), W(14))
@@ -152,12 +145,12 @@ CALLS(kapitsa_commit_in, D(0), t->rows, W_AT(1), D(2), D(3))
 CALLS(kapitsa_solve_velocity_in, SOLVES, D(6), D(7), W(8), W_AT(9), D_AT(10), D(11), W(12))
 CALLS(kapitsa_solve_groups_in, SOLVES, D(6), D(7), D(8), W(9), W(10), W(11), D(12), W_AT(13))
 CALLS(kapitsa_solve_velocity_groups_in, SOLVES, D(6), D(7), W(8), W(9), W(10), D(11), W_AT(12))
-CALLS(kapitsa_check_in, GIVEN, D(6), W(7), W_AT(8), D_AT(9), D(10), W(11))
-CALLS(kapitsa_check_velocity_in, GIVEN, D(6), W(7), W_AT(8), D_AT(9), D(10), W(11))
-CALLS(kapitsa_margins_in, GIVEN, D(6), W(7), W(8), D(9), W_AT(10), D_AT(11), D(12), W(13))
-CALLS(kapitsa_margins_velocity_in, GIVEN, D(6), W(7), W(8), D(9), W_AT(10), D_AT(11), D(12), W(13))
-CALLS(kapitsa_gaps_in, GIVEN, D(6), W(7), D(8), W_AT(9), D_AT(10), D(11), W(12))
-CALLS(kapitsa_gaps_velocity_in, GIVEN, D(6), W(7), D(8), W_AT(9), D_AT(10), D(11), W(12))
+CALLS(kapitsa_check_in, GIVEN, D(6), W(7), W_AT(8), D_AT(9), D(10))
+CALLS(kapitsa_check_velocity_in, GIVEN, D(6), W(7), W_AT(8), D_AT(9), D(10))
+CALLS(kapitsa_margins_in, GIVEN, D(6), W(7), W(8), D(9), W_AT(10), D_AT(11), D(12))
+CALLS(kapitsa_margins_velocity_in, GIVEN, D(6), W(7), W(8), D(9), W_AT(10), D_AT(11), D(12))
+CALLS(kapitsa_gaps_in, GIVEN, D(6), W(7), D(8), W_AT(9), D_AT(10), D(11))
+CALLS(kapitsa_gaps_velocity_in, GIVEN, D(6), W(7), D(8), W_AT(9), D_AT(10), D(11))
 CALLS(kapitsa_inverse_in, D_AT(0), D_AT(1))
 
 #define PLACES S_NUMBERS, S_WORDS, S_MASSES, S_CENTRES, S_RULE_WORDS, S_TOLERANCES
@@ -170,10 +163,8 @@ CALLS(kapitsa_inverse_in, D_AT(0), D_AT(1))
 #define SOLVE_WORK                                                                             \
     S_JACOBIANS, S_LINKS, S_BY_ROW, S_BY_ROW, S_BY_ROW, S_BY_ROW, S_BY_ROW, S_BY_ROW,          \
         S_BODY_IMPULSES, S_PATTERN, S_ORDER, S_VALUES
-#define CHECK_WORK                                                                             \
-    S_JACOBIANS, S_LINKS, S_MASS_SIZES, S_BY_ROW, S_BODY_IMPULSES, S_BY_ROW, S_BY_ROW
+#define CHECK_WORK S_BODY_IMPULSES, S_BODY_IMPULSES, S_BY_ROW, S_BY_ROW
 #define SOLVE_ROOM S_SOLVE_DOUBLES, S_SOLVE_WORDS
-#define CHECK_ROOM S_CHECK_DOUBLES, S_CHECK_WORDS
 
 #define RAW(function, of_speeds, ...) {#function, of_speeds, 0, {__VA_ARGS__, -1}, call_##function}
 #define IN(function, of_speeds, ...) {#function, of_speeds, 1, {__VA_ARGS__, -1}, call_##function}
@@ -198,12 +189,12 @@ const struct function functions[FUNCTIONS] = {
     IN(kapitsa_solve_velocity_in, 1, SPEEDS, PUSHED, S_COUNTS_IN, S_MAXIMA_IN, SOLVE_ROOM),
     IN(kapitsa_solve_groups_in, 0, PLACES, PLACED, GROUPED, S_GROUP_COUNT_IN),
     IN(kapitsa_solve_velocity_groups_in, 1, SPEEDS, PUSHED, GROUPED, S_GROUP_COUNT_IN),
-    IN(kapitsa_check_in, 0, PLACES, JUDGED, S_VERDICT_IN, S_GAP_IN, CHECK_ROOM),
-    IN(kapitsa_check_velocity_in, 1, SPEEDS, JUDGED, S_VERDICT_IN, S_GAP_IN, CHECK_ROOM),
-    IN(kapitsa_margins_in, 0, PLACES, JUDGED, LISTED, S_VERDICT_IN, S_GAP_IN, CHECK_ROOM),
-    IN(kapitsa_margins_velocity_in, 1, SPEEDS, JUDGED, LISTED, S_VERDICT_IN, S_GAP_IN, CHECK_ROOM),
-    IN(kapitsa_gaps_in, 0, PLACES, JUDGED, S_GAPS, S_VERDICT_IN, S_GAP_IN, CHECK_ROOM),
-    IN(kapitsa_gaps_velocity_in, 1, SPEEDS, JUDGED, S_GAPS, S_VERDICT_IN, S_GAP_IN, CHECK_ROOM),
+    IN(kapitsa_check_in, 0, PLACES, JUDGED, S_VERDICT_IN, S_GAP_IN, S_CHECK_DOUBLES),
+    IN(kapitsa_check_velocity_in, 1, SPEEDS, JUDGED, S_VERDICT_IN, S_GAP_IN, S_CHECK_DOUBLES),
+    IN(kapitsa_margins_in, 0, PLACES, JUDGED, LISTED, S_VERDICT_IN, S_GAP_IN, S_CHECK_DOUBLES),
+    IN(kapitsa_margins_velocity_in, 1, SPEEDS, JUDGED, LISTED, S_VERDICT_IN, S_GAP_IN, S_CHECK_DOUBLES),
+    IN(kapitsa_gaps_in, 0, PLACES, JUDGED, S_GAPS, S_VERDICT_IN, S_GAP_IN, S_CHECK_DOUBLES),
+    IN(kapitsa_gaps_velocity_in, 1, SPEEDS, JUDGED, S_GAPS, S_VERDICT_IN, S_GAP_IN, S_CHECK_DOUBLES),
     IN(kapitsa_inverse_in, 2, S_INERTIA_IN, S_INVERSE_IN),
 };
 

@@ -69,8 +69,7 @@ static void arguments(void)
         uint32_t refusal = (speeds ? kapitsa_check_velocity_in : kapitsa_check_in)(
             sheet.numbers, 27, sheet.words, 8, sheet.masses, 20,
             speeds ? sheet.residuals : sheet.centres, speeds ? 1 : 6, sheet.rules.words, 6,
-            tolerances, 2, 1, 2, multiplier, 1, &rule_number, 1, &verdict, gap, doubles, 47, words,
-            2);
+            tolerances, 2, 1, 2, multiplier, 1, &rule_number, 1, &verdict, gap, doubles, 26);
         _mm_setcsr(before);
         expect(refusal == 0 && verdict == up && measures(gap, P1_GAP, 0),
                "a sum as argument", up ? "up" : "to nearest");

@@ -19,8 +19,7 @@ static struct gapped gaps_of(const struct job *job, const double *multipliers, u
         job->numbers, 27 * n, job->words, 8 * n, job->masses, 10 * b,
         speeds ? job->residuals : job->centres, speeds ? n : 3 * b, job->rules.words,
         job->rules.words_len, job->rules.tolerances, job->rules.tolerances_len, n, b, multipliers, n,
-        to.rule_numbers, n, to.gaps, n, &to.verdict, to.gap, doubles, kapitsa_check_doubles(n, b), words,
-        kapitsa_check_words(n, b));
+        to.rule_numbers, n, to.gaps, n, &to.verdict, to.gap, doubles, kapitsa_check_doubles(n, b));
     _mm_setcsr(before);
     return to;
 }

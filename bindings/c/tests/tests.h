@@ -97,7 +97,7 @@ void fill_work(void);
 /* The work memory is 0 as far as it is needed, and nothing is written behind it. */
 int work_clear(size_t need_doubles, size_t need_words);
 
-/* Work memory that is lent: so much more than is needed, or none. */
+/* Work memory that is lent: so much more than is needed, or none. A check takes no words. */
 struct lent {
     int more_doubles, more_words;
 };
@@ -131,7 +131,7 @@ struct checked {
 
 /* A check, alone or with its list. */
 typedef uint32_t calls(const struct job *job, const double *multipliers, struct checked *to,
-                       size_t doubles_len, size_t words_len);
+                       size_t doubles_len);
 
 calls check_called, margins_called;
 

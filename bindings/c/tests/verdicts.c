@@ -18,7 +18,7 @@ static void told(void)
     for (size_t i = 0; i < CONTROLS; i++) {
         found = check(&tiny, no_multipliers, controls[i].word, exactly);
         expect(found.refusal == KAPITSA_REFUSED_RANGE && KEPT(found.verdict) && KEPT(found.gap)
-               && KEPT(found.rule_numbers) && work_clear(47, 2),
+               && KEPT(found.rule_numbers) && work_clear(26, 0),
                "18 for a subnormal error, and no verdict", controls[i].name);
         if (controls[i].word == 0)
             continue; /* the raw check would be ended by an exception */

@@ -105,10 +105,7 @@ unsafe extern "C" {
         multipliers: *const f64, multipliers_len: usize,
         rule_numbers: *mut u32, rule_numbers_len: usize, verdict: *mut u32, verdict_len: usize,
         gap: *mut f64, gap_len: usize,
-        jacobians: *mut f64, jacobians_len: usize, links: *mut u32, links_len: usize,
-        mass_sizes: *mut f64, mass_sizes_len: usize,
-        multiplier_sizes: *mut f64, multiplier_sizes_len: usize,
-        impulses: *mut f64, impulses_len: usize,
+        impulses: *mut f64, impulses_len: usize, size_impulses: *mut f64, size_impulses_len: usize,
         values: *mut f64, values_len: usize, sizes: *mut f64, sizes_len: usize,
     ) -> u32;
 
@@ -120,10 +117,7 @@ unsafe extern "C" {
         multipliers: *const f64, multipliers_len: usize,
         rule_numbers: *mut u32, rule_numbers_len: usize, verdict: *mut u32, verdict_len: usize,
         gap: *mut f64, gap_len: usize,
-        jacobians: *mut f64, jacobians_len: usize, links: *mut u32, links_len: usize,
-        mass_sizes: *mut f64, mass_sizes_len: usize,
-        multiplier_sizes: *mut f64, multiplier_sizes_len: usize,
-        impulses: *mut f64, impulses_len: usize,
+        impulses: *mut f64, impulses_len: usize, size_impulses: *mut f64, size_impulses_len: usize,
         values: *mut f64, values_len: usize, sizes: *mut f64, sizes_len: usize,
     ) -> u32;
 
@@ -136,10 +130,7 @@ unsafe extern "C" {
         rule_numbers: *mut u32, rule_numbers_len: usize,
         margin_rows: *mut u32, margin_rows_len: usize, margins: *mut f64, margins_len: usize,
         verdict: *mut u32, verdict_len: usize, gap: *mut f64, gap_len: usize,
-        jacobians: *mut f64, jacobians_len: usize, links: *mut u32, links_len: usize,
-        mass_sizes: *mut f64, mass_sizes_len: usize,
-        multiplier_sizes: *mut f64, multiplier_sizes_len: usize,
-        impulses: *mut f64, impulses_len: usize,
+        impulses: *mut f64, impulses_len: usize, size_impulses: *mut f64, size_impulses_len: usize,
         values: *mut f64, values_len: usize, sizes: *mut f64, sizes_len: usize,
     ) -> u32;
 
@@ -152,10 +143,7 @@ unsafe extern "C" {
         rule_numbers: *mut u32, rule_numbers_len: usize,
         margin_rows: *mut u32, margin_rows_len: usize, margins: *mut f64, margins_len: usize,
         verdict: *mut u32, verdict_len: usize, gap: *mut f64, gap_len: usize,
-        jacobians: *mut f64, jacobians_len: usize, links: *mut u32, links_len: usize,
-        mass_sizes: *mut f64, mass_sizes_len: usize,
-        multiplier_sizes: *mut f64, multiplier_sizes_len: usize,
-        impulses: *mut f64, impulses_len: usize,
+        impulses: *mut f64, impulses_len: usize, size_impulses: *mut f64, size_impulses_len: usize,
         values: *mut f64, values_len: usize, sizes: *mut f64, sizes_len: usize,
     ) -> u32;
 
@@ -167,10 +155,7 @@ unsafe extern "C" {
         multipliers: *const f64, multipliers_len: usize,
         rule_numbers: *mut u32, rule_numbers_len: usize, gaps: *mut f64, gaps_len: usize,
         verdict: *mut u32, verdict_len: usize, gap: *mut f64, gap_len: usize,
-        jacobians: *mut f64, jacobians_len: usize, links: *mut u32, links_len: usize,
-        mass_sizes: *mut f64, mass_sizes_len: usize,
-        multiplier_sizes: *mut f64, multiplier_sizes_len: usize,
-        impulses: *mut f64, impulses_len: usize,
+        impulses: *mut f64, impulses_len: usize, size_impulses: *mut f64, size_impulses_len: usize,
         values: *mut f64, values_len: usize, sizes: *mut f64, sizes_len: usize,
     ) -> u32;
 
@@ -182,10 +167,7 @@ unsafe extern "C" {
         multipliers: *const f64, multipliers_len: usize,
         rule_numbers: *mut u32, rule_numbers_len: usize, gaps: *mut f64, gaps_len: usize,
         verdict: *mut u32, verdict_len: usize, gap: *mut f64, gap_len: usize,
-        jacobians: *mut f64, jacobians_len: usize, links: *mut u32, links_len: usize,
-        mass_sizes: *mut f64, mass_sizes_len: usize,
-        multiplier_sizes: *mut f64, multiplier_sizes_len: usize,
-        impulses: *mut f64, impulses_len: usize,
+        impulses: *mut f64, impulses_len: usize, size_impulses: *mut f64, size_impulses_len: usize,
         values: *mut f64, values_len: usize, sizes: *mut f64, sizes_len: usize,
     ) -> u32;
 

@@ -47,11 +47,8 @@ macro_rules! check {
                 $rule_numbers.as_mut_ptr(), $rule_numbers.len(),
                 $($list.as_mut_ptr(), $list.len(),)*
                 verdict.as_mut_ptr(), verdict.len(), gap.as_mut_ptr(), gap.len(),
-                work.jacobians.as_mut_ptr(), work.jacobians.len(),
-                work.links.as_mut_ptr(), work.links.len(),
-                work.mass_sizes.as_mut_ptr(), work.mass_sizes.len(),
-                work.multiplier_sizes.as_mut_ptr(), work.multiplier_sizes.len(),
                 work.impulses.as_mut_ptr(), work.impulses.len(),
+                work.size_impulses.as_mut_ptr(), work.size_impulses.len(),
                 work.values.as_mut_ptr(), work.values.len(),
                 work.sizes.as_mut_ptr(), work.sizes.len(),
             )

@@ -27,11 +27,8 @@ pub(super) struct SolveWork<'a> {
 
 /// What a check works in.
 pub(super) struct CheckWork<'a> {
-    pub(super) jacobians: &'a mut [f64],
-    pub(super) links: &'a mut [u32],
-    pub(super) mass_sizes: &'a mut [f64],
-    pub(super) multiplier_sizes: &'a mut [f64],
     pub(super) impulses: &'a mut [f64],
+    pub(super) size_impulses: &'a mut [f64],
     pub(super) values: &'a mut [f64],
     pub(super) sizes: &'a mut [f64],
 }
@@ -60,14 +57,11 @@ impl Work {
 
     /// For n rows and b bodies, which are within the limits.
     pub(super) fn of_check(&mut self, n: usize, b: usize) -> CheckWork<'_> {
-        let (doubles, words) = self.lend(15 * n + 16 * b, 2 * n);
-        let (doubles, words) = (&mut { doubles }, &mut { words });
+        let (doubles, _) = self.lend(12 * b + 2 * n, 0);
+        let doubles = &mut { doubles };
         CheckWork {
-            jacobians: carve(doubles, 12 * n),
-            links: carve(words, 2 * n),
-            mass_sizes: carve(doubles, 10 * b),
-            multiplier_sizes: carve(doubles, n),
             impulses: carve(doubles, 6 * b),
+            size_impulses: carve(doubles, 6 * b),
             values: carve(doubles, n),
             sizes: carve(doubles, n),
         }
