@@ -45,7 +45,7 @@ module _ (s : System) (z z′ : List Float → Run (List Float) ℕ) (f g : ℕ 
   unfolding meetsOf
   meets-same r = every-same (λ i. le (absolute (getD r i nan)) (f i)) (λ i. le (absolute (getD r i nan)) (g i)) (s .rows) (λ i h. rw (same i h))
 
-  same-turn : (k : ℕ) (t : Iterate × Carried) → length (t .0 .residual) ≡ s .rows → turn (stepsBy z s f) k t ≡ turn (stepsBy z′ s g) k t
+  same-turn : (k : ℕ) (t : Iterate × Carried) → length (t .0 .residual) ≡ s .rows → turn (stepsBy z (advanceOf s) (s .rows) f) k t ≡ turn (stepsBy z′ (advanceOf s) (s .rows) g) k t
   unfolding turn on
   same-turn k t long = by (advanceOf s (t .0) (t .1)) refl
     where
@@ -60,7 +60,7 @@ module _ (s : System) (z z′ : List Float → Run (List Float) ℕ) (f g : ℕ 
       by (going v) e = on-step v (advance-long s (t .0) v (t .1) e ∙ long)
       by (ended n) e = refl
 
-  long-turn : (k : ℕ) (t u : Iterate × Carried) → length (t .0 .residual) ≡ s .rows → turn (stepsBy z′ s g) k t ≡ going u → length (u .0 .residual) ≡ s .rows
+  long-turn : (k : ℕ) (t u : Iterate × Carried) → length (t .0 .residual) ≡ s .rows → turn (stepsBy z′ (advanceOf s) (s .rows) g) k t ≡ going u → length (u .0 .residual) ≡ s .rows
   unfolding turn on check
   long-turn k t u long = by (advanceOf s (t .0) (t .1)) refl
     where
@@ -78,11 +78,11 @@ module _ (s : System) (z z′ : List Float → Run (List Float) ℕ) (f g : ℕ 
       by (going v) e q = tested v (meetsOf g (v .residual) (s .rows)) (renewFrom (z′ (v .residual)) (v .residual) (t .1)) (advance-long s (t .0) v (t .1) e ∙ long) q
       by (ended n) e q = unlike (ended n) u q
 
-  pub same-turns : (v : Iterate) (c : Carried) → length (v .residual) ≡ s .rows → (k : ℕ) → turns (turn (stepsBy z s f)) (v, c) k ≡ turns (turn (stepsBy z′ s g)) (v, c) k
+  pub same-turns : (v : Iterate) (c : Carried) → length (v .residual) ≡ s .rows → (k : ℕ) → turns (turn (stepsBy z (advanceOf s) (s .rows) f)) (v, c) k ≡ turns (turn (stepsBy z′ (advanceOf s) (s .rows) g)) (v, c) k
   unfolding turns on
   same-turns v c long zero = refl
-  same-turns v c long (suc k) = ap (λ (r : Turn). next r (turn (stepsBy z s f) k)) (same-turns v c long k) ∙ by (turns (turn (stepsBy z′ s g)) (v, c) k) refl
+  same-turns v c long (suc k) = ap (λ (r : Turn). next r (turn (stepsBy z (advanceOf s) (s .rows) f) k)) (same-turns v c long k) ∙ by (turns (turn (stepsBy z′ (advanceOf s) (s .rows) g)) (v, c) k) refl
     where
-      by : (r : Turn) → turns (turn (stepsBy z′ s g)) (v, c) k ≡ r → next r (turn (stepsBy z s f) k) ≡ next r (turn (stepsBy z′ s g) k)
-      by (going t) e = same-turn k t (turned (turn (stepsBy z′ s g)) (v, c) k (λ _ u. length (u .0 .residual) ≡ s .rows) long (λ i t u _ l q. long-turn i t u l q) k (omega arith) t e)
+      by : (r : Turn) → turns (turn (stepsBy z′ (advanceOf s) (s .rows) g)) (v, c) k ≡ r → next r (turn (stepsBy z (advanceOf s) (s .rows) f) k) ≡ next r (turn (stepsBy z′ (advanceOf s) (s .rows) g) k)
+      by (going t) e = same-turn k t (turned (turn (stepsBy z′ (advanceOf s) (s .rows) g)) (v, c) k (λ _ u. length (u .0 .residual) ≡ s .rows) long (λ i t u _ l q. long-turn i t u l q) k (omega arith) t e)
       by (ended a) e = refl

@@ -19,14 +19,6 @@ module _ (p : Preconditioner) (n bodies : ℕ) (tolerances masses jacobians : Li
   pub linked-fits : Linked links k bodies
   linked-fits = subst (λ (i : ℕ). Linked links i bodies) (sym e) (h .linked)
 
-  -- `take_diagonal_step`
-  pub diagonal-fits : (length (m .diagonal) ≡ k) × (length tolerances ≡ k)
-  diagonal-fits = (h .ready .long ∙ sym e, h .tolerances-long ∙ sym e)
-
-  -- `first`, `renew`
-  pub ready-fits : Ready p k m
-  ready-fits = subst (λ (i : ℕ). Ready p i m) (sym e) (h .ready)
-
-  -- `position_vector_converged`
-  pub tolerances-fit : k ≤ length tolerances
-  tolerances-fit = omega (arith, h .tolerances-long)
+-- `renew`
+pub ready-fits : (p : Preconditioner) (n : ℕ) (m : Memory) (k : ℕ) → k ≡ n → Ready p n m → Ready p k m
+ready-fits p n m k e h = subst (λ (i : ℕ). Ready p i m) (sym e) h

@@ -71,16 +71,16 @@ beginOf p mode =
 unfoldable pub firstOf : Bool → Mode → System → (ℕ → ℕ) → List Float → Iterate → Run Carried ℕ
 firstOf factorThere mode s owner diagonal v = next (factorHere (not factorThere) mode s owner diagonal) (λ _. firstFrom (preconditioned mode s owner diagonal (v .residual)) (v .residual))
 
--- the steps, by the z of a residual
-abbrev pub stepsBy : (List Float → Run (List Float) ℕ) → System → (ℕ → Float) → Recurrence Iterate Carried
-stepsBy z s tolerance = record {
-  advance = advanceOf s;
-  meets = λ v. meetsOf tolerance (v .residual) (s .rows);
+-- the steps of n rows, by how one is made and by the z of a residual
+abbrev pub stepsBy : (List Float → Run (List Float) ℕ) → (Iterate → Carried → Run Iterate ℕ) → ℕ → (ℕ → Float) → Recurrence Iterate Carried
+stepsBy z advance n tolerance = record {
+  advance = advance;
+  meets = λ v. meetsOf tolerance (v .residual) n;
   renew = λ v c. renewFrom (z (v .residual)) (v .residual) c;
 }
 
 abbrev pub stepsOf : Mode → System → (ℕ → ℕ) → List Float → (ℕ → Float) → Recurrence Iterate Carried
-stepsOf mode s owner diagonal tolerance = stepsBy (preconditioned mode s owner diagonal) s tolerance
+stepsOf mode s owner diagonal tolerance = stepsBy (preconditioned mode s owner diagonal) (advanceOf s) (s .rows) tolerance
 
 -- ---- what is delivered: document 01, "Multipliers, solution, impulses", and document 02, d, "the new centre of each link with the impulses"
 pub record Delivered : Type 0 where

@@ -14,7 +14,7 @@ use Rattle.preconditioner.specs.Room.{Memory}
 use Rattle.preconditioner.specs.Apply.{diagonalSolveOf}
 use Rattle.preconditioner.specs.Held.{Ready, zIn}
 use Rattle.preconditioner.specs.declared.apply.Preconditioner.{Preconditioner}
-use Rattle.recurrence.specs.Step.{Iterate, Carried}
+use Rattle.recurrence.specs.Step.{Iterate, Carried, updatedOf, advanceOf}
 use Rattle.steps.specs.Method.{Recurrence}
 use Rattle.steps.specs.Solve.{turn}
 use Rattle.position_iteration.specs.Method.{stepsBy}
@@ -34,11 +34,18 @@ pub record Standing (p : Preconditioner) (n bodies : ℕ) (tolerances masses jac
 
 -- the steps that stand there
 abbrev pub stepsIn : Preconditioner → ℕ → ℕ → List Float → List Float → List Float → List ℕ → Memory → Recurrence Iterate Carried
-stepsIn p n bodies tolerances masses jacobians links m = stepsBy (zIn p n m) (compactSystem n bodies jacobians links masses) (tolerancesIn tolerances)
+stepsIn p n bodies tolerances masses jacobians links m = stepsBy (zIn p n m) (advanceOf (compactSystem n bodies jacobians links masses)) n (tolerancesIn tolerances)
+
+-- a step once its product and alpha are there
+abbrev pub along : List Float → Float → Iterate → Carried → Run Iterate ℕ
+along product alpha v c = updatedOf v (c .direction) product alpha
+
+abbrev pub stepsAlong : Preconditioner → ℕ → List Float → Memory → List Float → Float → Recurrence Iterate Carried
+stepsAlong p n tolerances m product alpha = stepsBy (zIn p n m) (along product alpha) n (tolerancesIn tolerances)
 
 -- in mode 0, where z is the residual by the diagonal
-abbrev pub diagonalStepsIn : ℕ → ℕ → List Float → List Float → List Float → List ℕ → List Float → Recurrence Iterate Carried
-diagonalStepsIn n bodies tolerances masses jacobians links diagonal = stepsBy (λ residual. going (diagonalSolveOf residual diagonal)) (compactSystem n bodies jacobians links masses) (tolerancesIn tolerances)
+abbrev pub diagonalStepsAlong : ℕ → List Float → List Float → List Float → Float → Recurrence Iterate Carried
+diagonalStepsAlong n tolerances diagonal product alpha = stepsBy (λ residual. going (diagonalSolveOf residual diagonal)) (along product alpha) n (tolerancesIn tolerances)
 
 -- ---- what the answers tell: the step stands in pending and residual, what is carried in direction and s
 abbrev pub turnedOut : Turned → ℕ → List Float → List Float → List Float → Run (Iterate × Carried) (Run (ℕ × Iterate) ℕ)

@@ -3,14 +3,11 @@
 ghost use mathlib.Core.Path.{_≡_};
 ghost use Prim.Native.Nat.{_*_};
 ghost use lib.ListN.{length};
-ghost use Rattle.mass_operator.specs.System.{compactSystem};
-ghost use Rattle.recurrence.specs.Parts.{lengthOf};
-ghost use Rattle.recurrence.specs.Answers.{scaleOut, ProductLeft};
-ghost use Rattle.position_iteration.specs.Standing.{Standing, stepsIn, diagonalStepsIn, TurnIs};
+ghost use Rattle.preconditioner.specs.Held.{Ready};
+ghost use Rattle.position_iteration.specs.Standing.{Standing, stepsIn, stepsAlong, diagonalStepsAlong, TurnIs};
 use mass_operator::all_finite;
 use position::position_vector_converged;
 use preconditioner::Preconditioner;
-use recurrence::Advanced;
 use recurrence::Scale;
 use recurrence::advance;
 use recurrence::advance_diagonal;
@@ -24,48 +21,27 @@ pub enum Turned {
     Refused(u32),
 }
 
-// A step of the length found, with a factor: z and s are made where it misses.
+// A step of length alpha along the direction, with a factor: z and s are made where it misses. The product gives way to z.
 fn take_factor_step(
-    found: Scale,
+    alpha: f64,
     tolerances: &[f64],
     preconditioner: Preconditioner,
-    masses: &[f64],
-    bodies: usize,
-    jacobians: &[f64],
-    links: &[u32],
     diagonal: &[f64],
     pattern: &[u32],
     order: &[u32],
     values: &[f64],
     residual_product: f64,
-    body_impulses: &mut [f64],
     product: &mut [f64],
     pending: &mut [f64],
     residual: &mut [f64],
     direction: &mut [f64],
 ) -> Turned
-    requires { ⌜ Standing preconditioner (length (now tolerances)) bodies (now tolerances) (now masses) (now jacobians) (now links) record { diagonal = now diagonal; pattern = now pattern; order = now order; values = now values } ⌝ }
+    requires { ⌜ Ready preconditioner (length (now tolerances)) record { diagonal = now diagonal; pattern = now pattern; order = now order; values = now values } ⌝ }
     requires { ⌜ (length (now product) ≡ length (now tolerances)) × (length (now pending) ≡ length (now tolerances)) × (length (now residual) ≡ length (now tolerances)) × (length (now direction) ≡ length (now tolerances)) ⌝ }
-    requires { ⌜ (lengthOf (compactSystem (length (now direction)) bodies (now jacobians) (now links) (now masses)) record { direction = now direction; s = «residual_product» } ≡ scaleOut found) × ProductLeft (compactSystem (length (now direction)) bodies (now jacobians) (now links) (now masses)) (now direction) (now «body_impulses») (now product) ⌝ }
-    ensures { λ r. ⌜ TurnIs (stepsIn preconditioner (length (now (tolerances .entry))) bodies (now (tolerances .entry)) (now (masses .entry)) (now (jacobians .entry)) (now (links .entry)) record { diagonal = now (diagonal .entry); pattern = now (pattern .entry); order = now (order .entry); values = now (values .entry) }) (record { solution = now (pending .entry); residual = now (residual .entry) }, record { direction = now (direction .entry); s = «residual_product» }) r (now (pending .exit)) (now (residual .exit)) (now (direction .exit)) ⌝ }
+    ensures { λ r. ⌜ TurnIs (stepsAlong preconditioner (length (now (tolerances .entry))) (now (tolerances .entry)) record { diagonal = now (diagonal .entry); pattern = now (pattern .entry); order = now (order .entry); values = now (values .entry) } (now (product .entry)) alpha) (record { solution = now (pending .entry); residual = now (residual .entry) }, record { direction = now (direction .entry); s = «residual_product» }) r (now (pending .exit)) (now (residual .exit)) (now (direction .exit)) ⌝ }
 {
-    match advance(
-        found,
-        jacobians,
-        links,
-        masses,
-        bodies,
-        direction,
-        residual_product,
-        body_impulses,
-        product,
-        pending,
-        residual,
-    ) {
-        Advanced::Done => {}
-        Advanced::Refused(number) => {
-            return Turned::Refused(number);
-        }
+    if !advance(alpha, direction, product, pending, residual) {
+        return Turned::Refused(16);
     }
     if position_vector_converged(tolerances, residual) {
         if !all_finite(residual) {
@@ -91,38 +67,19 @@ fn take_factor_step(
 
 // The same in mode 0: z and s come with the step.
 fn take_diagonal_step(
-    found: Scale,
+    alpha: f64,
     tolerances: &[f64],
-    masses: &[f64],
-    bodies: usize,
-    jacobians: &[f64],
-    links: &[u32],
     diagonal: &[f64],
     residual_product: f64,
-    body_impulses: &mut [f64],
     product: &mut [f64],
     pending: &mut [f64],
     residual: &mut [f64],
     direction: &mut [f64],
 ) -> Turned
-    requires { ⌜ (length (now diagonal) ≡ length (now direction)) × (length (now product) ≡ length (now direction)) × (length (now pending) ≡ length (now direction)) × (length (now residual) ≡ length (now direction)) × (length (now tolerances) ≡ length (now direction)) ⌝ }
-    requires { ⌜ (lengthOf (compactSystem (length (now direction)) bodies (now jacobians) (now links) (now masses)) record { direction = now direction; s = «residual_product» } ≡ scaleOut found) × ProductLeft (compactSystem (length (now direction)) bodies (now jacobians) (now links) (now masses)) (now direction) (now «body_impulses») (now product) ⌝ }
-    ensures { λ r. ⌜ TurnIs (diagonalStepsIn (length (now (direction .entry))) bodies (now (tolerances .entry)) (now (masses .entry)) (now (jacobians .entry)) (now (links .entry)) (now (diagonal .entry))) (record { solution = now (pending .entry); residual = now (residual .entry) }, record { direction = now (direction .entry); s = «residual_product» }) r (now (pending .exit)) (now (residual .exit)) (now (direction .exit)) ⌝ }
+    requires { ⌜ (length (now diagonal) ≡ length (now tolerances)) × (length (now product) ≡ length (now tolerances)) × (length (now pending) ≡ length (now tolerances)) × (length (now residual) ≡ length (now tolerances)) × (length (now direction) ≡ length (now tolerances)) ⌝ }
+    ensures { λ r. ⌜ TurnIs (diagonalStepsAlong (length (now (tolerances .entry))) (now (tolerances .entry)) (now (diagonal .entry)) (now (product .entry)) alpha) (record { solution = now (pending .entry); residual = now (residual .entry) }, record { direction = now (direction .entry); s = «residual_product» }) r (now (pending .exit)) (now (residual .exit)) (now (direction .exit)) ⌝ }
 {
-    match advance_diagonal(
-        found,
-        jacobians,
-        links,
-        masses,
-        bodies,
-        diagonal,
-        direction,
-        residual_product,
-        body_impulses,
-        product,
-        pending,
-        residual,
-    ) {
+    match advance_diagonal(alpha, direction, diagonal, product, pending, residual) {
         Scale::Value(next) => {
             if position_vector_converged(tolerances, residual) {
                 if !all_finite(residual) {
@@ -161,7 +118,7 @@ pub fn take_step(
     requires { ⌜ (length (now «body_impulses») ≡ 6 * bodies) × (length (now product) ≡ length (now tolerances)) × (length (now pending) ≡ length (now tolerances)) × (length (now residual) ≡ length (now tolerances)) × (length (now direction) ≡ length (now tolerances)) ⌝ }
     ensures { λ r. ⌜ TurnIs (stepsIn preconditioner (length (now (tolerances .entry))) bodies (now (tolerances .entry)) (now (masses .entry)) (now (jacobians .entry)) (now (links .entry)) record { diagonal = now (diagonal .entry); pattern = now (pattern .entry); order = now (order .entry); values = now (values .entry) }) (record { solution = now (pending .entry); residual = now (residual .entry) }, record { direction = now (direction .entry); s = «residual_product» }) r (now (pending .exit)) (now (residual .exit)) (now (direction .exit)) ⌝ }
 {
-    let found = step_length(
+    match step_length(
         jacobians,
         links,
         masses,
@@ -170,41 +127,35 @@ pub fn take_step(
         residual_product,
         body_impulses,
         product,
-    );
-    if let Preconditioner::Diagonal = preconditioner {
-        return take_diagonal_step(
-            found,
-            tolerances,
-            masses,
-            bodies,
-            jacobians,
-            links,
-            diagonal,
-            residual_product,
-            body_impulses,
-            product,
-            pending,
-            residual,
-            direction,
-        );
+    ) {
+        Scale::Value(alpha) => {
+            if let Preconditioner::Diagonal = preconditioner {
+                return take_diagonal_step(
+                    alpha,
+                    tolerances,
+                    diagonal,
+                    residual_product,
+                    product,
+                    pending,
+                    residual,
+                    direction,
+                );
+            }
+            take_factor_step(
+                alpha,
+                tolerances,
+                preconditioner,
+                diagonal,
+                pattern,
+                order,
+                values,
+                residual_product,
+                product,
+                pending,
+                residual,
+                direction,
+            )
+        }
+        Scale::Refused(number) => Turned::Refused(number),
     }
-    take_factor_step(
-        found,
-        tolerances,
-        preconditioner,
-        masses,
-        bodies,
-        jacobians,
-        links,
-        diagonal,
-        pattern,
-        order,
-        values,
-        residual_product,
-        body_impulses,
-        product,
-        pending,
-        residual,
-        direction,
-    )
 }

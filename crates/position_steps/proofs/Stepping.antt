@@ -17,7 +17,7 @@ use Rattle.preconditioner.specs.declared.apply.Preconditioner.{Preconditioner}
 use Rattle.preconditioner.specs.declared.prepare.Prepared.{Prepared}
 use Rattle.preconditioner.specs.declared.prepare.Prepared.the-variants as prepared
 use Rattle.preconditioner.proofs.Means.{holds-same}
-use Rattle.recurrence.specs.Step.{Iterate, Carried, firstFrom}
+use Rattle.recurrence.specs.Step.{Iterate, Carried, advanceOf, firstFrom}
 use Rattle.recurrence.specs.Answers.{carriedOut}
 use Rattle.recurrence.specs.declared.ratio.Scale.{Scale}
 use Rattle.recurrence.specs.declared.ratio.Scale.the-variants as scales
@@ -50,7 +50,7 @@ module _ (z : List Float → Run (List Float) ℕ) (s : System) (tolerance : ℕ
   unfolding steppingBy
   stepping-refused k e = on-ended _ _ _ (called ∙ rw e)
 
-  pub stepping-on : (t : Float) {o : Steps} → q ≡ scales.Value t → afterLoop limit (turns (turn (stepsBy z s tolerance)) (iterate x r, carried d t) limit) ≡ o → steppingBy z s tolerance limit (iterate x r) ≡ o
+  pub stepping-on : (t : Float) {o : Steps} → q ≡ scales.Value t → afterLoop limit (turns (turn (stepsBy z (advanceOf s) (s .rows) tolerance)) (iterate x r, carried d t) limit) ≡ o → steppingBy z s tolerance limit (iterate x r) ≡ o
   unfolding steppingBy loopingBy
   stepping-on t e h = on-going _ _ _ {s = carried d t} (called ∙ rw e) ∙ h
 
@@ -62,7 +62,7 @@ module _ (s : System) (z z′ : List Float → Run (List Float) ℕ) (f g : ℕ 
   pub stepping-same : steppingBy z s f limit v ≡ steppingBy z′ s g limit v
   unfolding steppingBy loopingBy
   stepping-same =
-      ap (λ (y : Run (List Float) ℕ). next (firstFrom y (v .residual)) (λ c. afterLoop limit (turns (turn (stepsBy z s f)) (v, c) limit))) (agree (v .residual) long)
+      ap (λ (y : Run (List Float) ℕ). next (firstFrom y (v .residual)) (λ c. afterLoop limit (turns (turn (stepsBy z (advanceOf s) (s .rows) f)) (v, c) limit))) (agree (v .residual) long)
       ∙ next-same (firstFrom (z′ (v .residual)) (v .residual)) _ _ (λ c. ap (afterLoop limit) (same-turns s z z′ f g agree same v c long limit))
 
 -- ---- other tolerances that agree on the rows

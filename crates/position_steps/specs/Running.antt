@@ -10,7 +10,7 @@ use Rattle.preconditioner.specs.Factor.{factorJudged}
 use Rattle.preconditioner.specs.Apply.{preconditioned}
 use Rattle.preconditioner.specs.Room.{Memory}
 use Rattle.preconditioner.specs.declared.mode.Mode.{Mode}
-use Rattle.recurrence.specs.Step.{Iterate, Carried, firstFrom}
+use Rattle.recurrence.specs.Step.{Iterate, Carried, advanceOf, firstFrom}
 use Rattle.position.specs.Residual.{meetsOf}
 use Rattle.steps.specs.Solve.{turn, afterLoop}
 use Rattle.position_iteration.specs.Method.{stepsBy}
@@ -21,7 +21,7 @@ Steps = Run (Bool × ℕ × Iterate) ℕ
 
 -- from what is carried; z is that of a residual
 unfoldable pub loopingBy : (List Float → Run (List Float) ℕ) → System → (ℕ → Float) → ℕ → Iterate → Carried → Steps
-loopingBy z s tolerance limit v c = afterLoop limit (turns (turn (stepsBy z s tolerance)) (v, c) limit)
+loopingBy z s tolerance limit v c = afterLoop limit (turns (turn (stepsBy z (advanceOf s) (s .rows) tolerance)) (v, c) limit)
 
 -- with the factor there
 unfoldable pub steppingBy : (List Float → Run (List Float) ℕ) → System → (ℕ → Float) → ℕ → Iterate → Steps

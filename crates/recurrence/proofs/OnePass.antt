@@ -29,9 +29,12 @@ use Rattle.recurrence.specs.declared.ratio.Scale.{Scale}
 use Rattle.recurrence.specs.declared.ratio.Scale.the-variants as scales
 use Rattle.recurrence.proofs.Tested.{Tested, tested-none, tested-more, tested-end}
 use Rattle.recurrence.proofs.Sums.{gains, loses, gained, lost}
-use Rattle.recurrence.proofs.Turns.{update-bad, update-is}
+use Rattle.recurrence.proofs.Turns.{advance-bad, advance-is}
 
 -- ---- a row
+pub in-each : {i n x r p y d : ℕ} → i < n → x ≡ n → r ≡ n → p ≡ n → y ≡ n → d ≡ n → (i < x) × (i < r) × (i < p) × (i < y) × (i < d)
+in-each l ex er ep ey ed = (omega arith, omega arith, omega arith, omega arith, omega arith)
+
 pub one-row : (a : Float) (y d : List Float) (i : ℕ) (x r p : List Float) (all b : Bool) (s : Float) → b ≡ finite (add binary64 (getD x i nan) (mul binary64 a (getD y i nan)))
     → rowOf a y d i (record { solution = x; residual = r; product = p; all = all; sum = s })
     ≡ record {
@@ -158,10 +161,10 @@ module _ (a : Float) (y d x₀ r₀ p₀ : List Float) (er : length r₀ ≡ len
     solved = gained x₀ y (p .solution) a (length x₀) (p .all) (m .solution-made) (omega arith)
 
     passed-bad : p .all ≡ false → step ≡ ended 16
-    passed-bad t = on-ended _ _ _ (update-bad x₀ r₀ y p₀ a (p .solution) (p .all) solved (tested-end (m .solution-made) (omega arith)) (rw t))
+    passed-bad t = on-ended _ _ _ (advance-bad x₀ r₀ y p₀ a (p .solution) (p .all) solved (tested-end (m .solution-made) (omega arith)) (rw t))
 
     passed-is : p .all ≡ true → step ≡ going (record { solution = p .solution; residual = p .residual }, p .product, p .sum)
-    passed-is t = on-going _ _ _ (update-is x₀ r₀ y p₀ a (p .solution) (p .all) solved (tested-end (m .solution-made) (omega arith)) (p .residual) made-r (rw t)) ∙ rw (made-s, made-z)
+    passed-is t = on-going _ _ _ (advance-is x₀ r₀ y p₀ a (p .solution) (p .all) solved (tested-end (m .solution-made) (omega arith)) (p .residual) made-r (rw t)) ∙ rw (made-s, made-z)
 
     passed-told : (q : Scale) → next (test (p .all) 16) (λ _. going (p .sum)) ≡ scaleOut q → step ≡ diagonalOut q (p .solution) (p .residual) (p .product)
     unfolding test check on

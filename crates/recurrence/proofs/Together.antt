@@ -14,7 +14,7 @@ use Rattle.mass_operator.specs.Applied.{allFiniteOf}
 use Rattle.preconditioner.specs.Apply.{diagonalSolveOf}
 use Rattle.recurrence.specs.Vectors.{dotProductOf, plusScaled, lessScaled}
 use Rattle.recurrence.specs.Step.{Iterate, Carried, alphaOf, updatedOf, advanceOf, renewFrom}
-use Rattle.recurrence.specs.Parts.{lengthOf, movedOf, steppedOf, withDiagonal, nextFrom}
+use Rattle.recurrence.specs.Parts.{lengthOf, movedOf, withDiagonal, nextFrom}
 
 -- the residual: 16
 abbrev residualFit : Iterate → Run Iterate ℕ
@@ -30,31 +30,41 @@ updated-is : (v : Iterate) (direction product : List Float) (alpha : Float) → 
 unfolding updatedOf movedOf
 updated-is v direction product alpha = let x = plusScaled (v .solution) alpha direction in both-tests (record { solution = x; residual = lessScaled (v .residual) alpha product }) (allFiniteOf x)
 
-advance-is : (s : System) (v : Iterate) (c : Carried) → advanceOf s v c ≡ next (steppedOf s v c) residualFit
-unfolding advanceOf steppedOf lengthOf on
-advance-is s v c = by (test (allFiniteOf product) 16) (alphaOf (c .s) (dotProductOf (c .direction) product))
-  where
-    product : List Float
-    product = productOf s (coefficients (c .direction))
+-- ---- of a step as it is moved
+module _ (v : Iterate) (direction product : List Float) (alpha : Float) where
+  pub moved-refused : (n : ℕ) → movedOf v direction product alpha ≡ ended n → updatedOf v direction product alpha ≡ ended n
+  moved-refused n h = updated-is v direction product alpha ∙ on-ended _ _ _ h
 
-    by : (t : Run Unit ℕ) (a : Run Float ℕ) → next t (λ _. next a (updatedOf v (c .direction) product)) ≡ next (next (next t (λ _. a)) (movedOf v (c .direction) product)) residualFit
-    by (going _) (going alpha) = updated-is v (c .direction) product alpha
-    by (going _) (ended n) = refl
-    by (ended n) a = refl
+  module _ (w : Iterate) (h : movedOf v direction product alpha ≡ going w) where
+    pub moved-finite : allFiniteOf (w .residual) ≡ true → updatedOf v direction product alpha ≡ going w
+    unfolding test check
+    moved-finite f = updated-is v direction product alpha ∙ on-going _ _ _ {s = w} h ∙ on-going _ _ _ (rw f)
 
--- ---- of a step as it is made
+    pub moved-overflow : allFiniteOf (w .residual) ≡ false → updatedOf v direction product alpha ≡ ended 16
+    unfolding test check
+    moved-overflow f = updated-is v direction product alpha ∙ on-going _ _ _ {s = w} h ∙ on-ended _ _ _ {a = 16} (rw f)
+
+-- ---- from its length on
 module _ (s : System) (v : Iterate) (c : Carried) where
-  pub stepped-refused : (n : ℕ) → steppedOf s v c ≡ ended n → advanceOf s v c ≡ ended n
-  stepped-refused n h = advance-is s v c ∙ on-ended _ _ _ h
+  abbrev made : List Float
+  made = productOf s (coefficients (c .direction))
 
-  module _ (w : Iterate) (h : steppedOf s v c ≡ going w) where
-    pub stepped-finite : allFiniteOf (w .residual) ≡ true → advanceOf s v c ≡ going w
-    unfolding test check
-    stepped-finite f = advance-is s v c ∙ on-going _ _ _ {s = w} h ∙ on-going _ _ _ (rw f)
+  advance-is : advanceOf s v c ≡ next (lengthOf s c) (updatedOf v (c .direction) made)
+  unfolding advanceOf lengthOf on
+  advance-is = by (test (allFiniteOf made) 16)
+    where
+      alpha : Run Float ℕ
+      alpha = alphaOf (c .s) (dotProductOf (c .direction) made)
 
-    pub stepped-overflow : allFiniteOf (w .residual) ≡ false → advanceOf s v c ≡ ended 16
-    unfolding test check
-    stepped-overflow f = advance-is s v c ∙ on-going _ _ _ {s = w} h ∙ on-ended _ _ _ {a = 16} (rw f)
+      by : (t : Run Unit ℕ) → next t (λ _. next alpha (updatedOf v (c .direction) made)) ≡ next (next t (λ _. alpha)) (updatedOf v (c .direction) made)
+      by (going _) = refl
+      by (ended n) = refl
+
+  pub advance-refused : (n : ℕ) → lengthOf s c ≡ ended n → advanceOf s v c ≡ ended n
+  advance-refused n h = advance-is ∙ on-ended _ _ _ h
+
+  pub advance-along : (alpha : Float) (product : List Float) → lengthOf s c ≡ going alpha → product ≡ made → advanceOf s v c ≡ updatedOf v (c .direction) product alpha
+  advance-along alpha product h e = advance-is ∙ on-going _ _ _ {s = alpha} h ∙ rw (← e)
 
 -- ---- from z and its s on
 pub renewed : (residual z : List Float) (c : Carried) (s : Float) {o : Run Carried ℕ} → s ≡ dotProductOf residual z → nextFrom z c s ≡ o → renewFrom (going z) residual c ≡ o

@@ -21,7 +21,7 @@ use Rattle.triangular.specs.declared.substitution.Solved.{Solved}
 use Rattle.triangular.specs.declared.substitution.Solved.the-variants as solves
 use Rattle.recurrence.specs.Vectors.{dotProductOf, plusScaled, lessScaled}
 use Rattle.recurrence.specs.Step.{Iterate, Carried, alphaOf, productFit, firstFrom, betaOf, turnedOf, renewFrom}
-use Rattle.recurrence.specs.Parts.{lengthOf, movedOf, steppedOf, withDiagonal, nextFrom}
+use Rattle.recurrence.specs.Parts.{lengthOf, movedOf, nextFrom}
 use Rattle.recurrence.specs.Answers.{scaleOut, carriedOut, standing, ProductLeft, AdvanceLeft, DiagonalLeft, CarriedLeft}
 use Rattle.recurrence.specs.declared.ratio.Scale.{Scale}
 use Rattle.recurrence.specs.declared.ratio.Scale.the-variants as scales
@@ -29,15 +29,21 @@ use Rattle.recurrence.proofs.Together.{renewed}
 use Rattle.loops.proofs.Judge.{test-pass, test-fail}
 use Rattle.loops.proofs.Tabulate.{length-tabulate}
 
--- ---- `update`
+-- ---- `advance`
 module _ (x₀ r₀ direction product : List Float) (a : Float) (x : List Float) (t : Bool) (ex : x ≡ plusScaled x₀ a direction) (et : t ≡ allFiniteOf x) where
-  pub update-bad : not t ≡ true → movedOf record { solution = x₀; residual = r₀ } direction product a ≡ ended 16
+  pub advance-bad : not t ≡ true → movedOf record { solution = x₀; residual = r₀ } direction product a ≡ ended 16
   unfolding movedOf
-  update-bad h = rw (← ex) (test-fail _ _ _ et h)
+  advance-bad h = rw (← ex) (test-fail _ _ _ et h)
 
-  pub update-is : (r : List Float) → r ≡ lessScaled r₀ a product → not t ≡ false → movedOf record { solution = x₀; residual = r₀ } direction product a ≡ going record { solution = x; residual = r }
+  pub advance-is : (r : List Float) → r ≡ lessScaled r₀ a product → not t ≡ false → movedOf record { solution = x₀; residual = r₀ } direction product a ≡ going record { solution = x; residual = r }
   unfolding movedOf
-  update-is r er h = rw (← ex, ← er) (test-pass _ _ _ et h refl)
+  advance-is r er h = rw (← ex, ← er) (test-pass _ _ _ et h refl)
+
+pub advance-left : {solution₀ solution residual₀ residual : List Float} → length solution ≡ length solution₀ → length residual ≡ length residual₀ → AdvanceLeft solution₀ solution residual₀ residual
+advance-left x r = record { solution-left = free x; residual-left = free r }
+
+pub diagonal-left : {product₀ product solution₀ solution residual₀ residual : List Float} → length product ≡ length product₀ → length solution ≡ length solution₀ → length residual ≡ length residual₀ → DiagonalLeft product₀ product solution₀ solution residual₀ residual
+diagonal-left p x r = record { product-left = free p; step-left = advance-left x r }
 
 -- ---- `step_length`
 alpha-sixteen : (s d : Float) → finite d ≡ false → alphaOf s d ≡ ended 16
@@ -67,29 +73,6 @@ length-is system direction s d responses product m rows h = rw (← m .multiplie
 -- what the operator works in stands after a refusal too
 pub product-left : (system : System) (direction : List Float) (d : Float) (responses product : List Float) → Multiplied system direction d responses product → ProductLeft system direction responses product
 product-left system direction d responses product m = record { responded = m .responded; multiplied = m .multiplied }
-
--- ---- `advance`
-module _ (system : System) (x₀ r₀ direction : List Float) (s : Float) (q : Scale) (responses product : List Float) (long : lengthOf system record { direction = direction; s = s } ≡ scaleOut q) (left : ProductLeft system direction responses product) where
-  pub advance-refused : (number : ℕ) → q ≡ scales.Refused number → steppedOf system record { solution = x₀; residual = r₀ } record { direction = direction; s = s } ≡ ended number
-  unfolding steppedOf
-  advance-refused number t = on-ended _ _ _ (long ∙ rw t)
-
-  pub advance-on : (a : Float) {o : Run Iterate ℕ} → q ≡ scales.Value a → movedOf record { solution = x₀; residual = r₀ } direction product a ≡ o → steppedOf system record { solution = x₀; residual = r₀ } record { direction = direction; s = s } ≡ o
-  unfolding steppedOf
-  advance-on a t h = on-going _ _ _ {s = a} (long ∙ rw t) ∙ rw (← left .multiplied) h
-
-  -- with z and s, in mode 0
-  pub diagonal-refused : (diagonal : List Float) (number : ℕ) → q ≡ scales.Refused number → next (steppedOf system record { solution = x₀; residual = r₀ } record { direction = direction; s = s }) (withDiagonal diagonal) ≡ ended number
-  diagonal-refused diagonal number t = on-ended _ _ _ (advance-refused number t)
-
-  pub diagonal-on : (diagonal : List Float) (a : Float) {o : Run (Iterate × List Float × Float) ℕ} → q ≡ scales.Value a → next (movedOf record { solution = x₀; residual = r₀ } direction product a) (withDiagonal diagonal) ≡ o → next (steppedOf system record { solution = x₀; residual = r₀ } record { direction = direction; s = s }) (withDiagonal diagonal) ≡ o
-  diagonal-on diagonal a t h = ap (λ (v : Run Iterate ℕ). next v (withDiagonal diagonal)) (advance-on a t refl) ∙ h
-
-pub advance-left : (system : System) (direction responses product solution₀ solution residual₀ residual : List Float) → ProductLeft system direction responses product → length solution ≡ length solution₀ → length residual ≡ length residual₀ → AdvanceLeft system direction responses product solution₀ solution residual₀ residual
-advance-left system direction responses product solution₀ solution residual₀ residual m x r = record { product-left = m; solution-left = free x; residual-left = free r }
-
-pub diagonal-left : (system : System) (direction responses product product₀ product₁ solution₀ solution residual₀ residual : List Float) → ProductLeft system direction responses product → length product₁ ≡ length product₀ → length solution ≡ length solution₀ → length residual ≡ length residual₀ → DiagonalLeft system direction responses product₀ product₁ solution₀ solution residual₀ residual
-diagonal-left system direction responses product product₀ product₁ solution₀ solution residual₀ residual m p x r = record { responded = m .responded; product-left = free p; solution-left = free x; residual-left = free r }
 
 -- ---- `first_direction`
 pub first-is : (residual z d : List Float) (s : Float) (q : Scale) → d ≡ z → s ≡ dotProductOf residual z → productFit s ≡ scaleOut q → firstFrom (going z) residual ≡ carriedOut q d

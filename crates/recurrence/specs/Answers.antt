@@ -1,6 +1,7 @@
 -- What the answers of the recurrence tell, and what its vectors then hold.
 use Prim.Native.Nat.{ℕ}
 use mathlib.Core.Path.{_≡_}
+use mathlib.Core.Bool.{Bool, true, false}
 use mathlib.Core.List.{List}
 use lib.Ieee.{Float}
 use Rattle.loops.specs.Run.{Run, going, ended, on}
@@ -12,16 +13,15 @@ use Rattle.mass_operator.specs.Lent.{Paired}
 use Rattle.recurrence.specs.Step.{Iterate, Carried}
 use Rattle.recurrence.specs.declared.ratio.Scale.{Scale}
 use Rattle.recurrence.specs.declared.ratio.Scale.the-variants as scales
-use Rattle.recurrence.specs.declared.step.Advanced.{Advanced}
-use Rattle.recurrence.specs.declared.step.Advanced.the-variants as steps
 
 abbrev pub scaleOut : Scale → Run Float ℕ
 scaleOut (scales.Value x) = going x
 scaleOut (scales.Refused number) = ended number
 
-abbrev pub advancedOut : Advanced → List Float → List Float → Run Iterate ℕ
-advancedOut steps.Done solution residual = going (record { solution = solution; residual = residual })
-advancedOut (steps.Refused number) solution residual = ended number
+-- the answer is whether the solution is finite
+abbrev pub advancedOut : Bool → List Float → List Float → Run Iterate ℕ
+advancedOut true solution residual = going (record { solution = solution; residual = residual })
+advancedOut false solution residual = ended 16
 
 -- the answer is s, and z stands beside the step
 abbrev pub diagonalOut : Scale → List Float → List Float → List Float → Run (Iterate × List Float × Float) ℕ
@@ -45,17 +45,14 @@ pub record ProductLeft (s : System) (direction impulses product : List Float) : 
   pub multiplied : product ≡ productOf s (coefficients direction)
 
 -- `advance`: after a refusal solution and residual are free
-pub record AdvanceLeft (s : System) (direction impulses product solution₀ solution residual₀ residual : List Float) : Type 0 where
-  pub product-left : ProductLeft s direction impulses product
+pub record AdvanceLeft (solution₀ solution residual₀ residual : List Float) : Type 0 where
   pub solution-left : Free solution₀ solution
   pub residual-left : Free residual₀ residual
 
--- `advance_diagonal`: after a refusal solution, residual and product are free
-pub record DiagonalLeft (s : System) (direction impulses product₀ product solution₀ solution residual₀ residual : List Float) : Type 0 where
-  pub responded : Paired (responseAt s (coefficients direction)) (s .bodies) impulses
+-- `advance_diagonal`: the product too
+pub record DiagonalLeft (product₀ product solution₀ solution residual₀ residual : List Float) : Type 0 where
   pub product-left : Free product₀ product
-  pub solution-left : Free solution₀ solution
-  pub residual-left : Free residual₀ residual
+  pub step-left : AdvanceLeft solution₀ solution residual₀ residual
 
 -- `first` and `renew`: z as its solve leaves it, refused or not. After a refusal the direction is free.
 pub record CarriedLeft (solve : Run (List Float) (List Float)) (z direction₀ direction : List Float) : Type 0 where

@@ -21,10 +21,6 @@ movedOf v direction product alpha =
     let x = plusScaled (v .solution) alpha direction in
     next (test (allFiniteOf x) 16) (λ _. going (record { solution = x; residual = lessScaled (v .residual) alpha product }))
 
--- a step's solution and residual
-unfoldable pub steppedOf : System → Iterate → Carried → Run Iterate ℕ
-steppedOf s v c = next (lengthOf s c) (movedOf v (c .direction) (productOf s (coefficients (c .direction))))
-
 -- mode 0: with z, the residual by the diagonal, and s = residual · z
 abbrev pub withDiagonal : List Float → Iterate → Run (Iterate × List Float × Float) ℕ
 withDiagonal diagonal w = let z = diagonalSolveOf (w .residual) diagonal in going (w, z, dotProductOf (w .residual) z)

@@ -5,10 +5,9 @@ ghost use Prim.Native.Nat.{_+_, _<_};
 ghost use lib.ListN.{length};
 ghost use Rattle.loops.specs.Run.{going, next};
 ghost use Rattle.loops.specs.Judge.{test};
-ghost use Rattle.mass_operator.specs.System.{compactSystem};
-ghost use Rattle.recurrence.specs.Parts.{lengthOf, movedOf, steppedOf, withDiagonal};
+ghost use Rattle.recurrence.specs.Parts.{movedOf, withDiagonal};
 ghost use Rattle.recurrence.specs.Pass.{rowOf, passOut};
-ghost use Rattle.recurrence.specs.Answers.{scaleOut, diagonalOut, DiagonalLeft, ProductLeft};
+ghost use Rattle.recurrence.specs.Answers.{scaleOut, diagonalOut, DiagonalLeft};
 use crate::ratio::Scale;
 
 // Of the rows passed: whether their solution is finite, and their share of s.
@@ -87,17 +86,19 @@ fn passed_product(passed: Passed) -> Scale
     Scale::Value(passed.sum)
 }
 
-fn update_diagonal(
-    solution: &mut [f64],
-    residual: &mut [f64],
-    product: &mut [f64],
+// The answer is the new s, not tested yet. After a refusal solution, residual and product are left free.
+pub fn advance_diagonal(
     alpha: f64,
     direction: &[f64],
     diagonal: &[f64],
+    product: &mut [f64],
+    solution: &mut [f64],
+    residual: &mut [f64],
 ) -> Scale
     requires { ⌜ (length (now residual) ≡ length (now solution)) × (length (now product) ≡ length (now solution)) × (length (now direction) ≡ length (now solution)) × (length (now diagonal) ≡ length (now solution)) ⌝ }
     ensures { λ r. ⌜ next (movedOf record { solution = now (solution .entry); residual = now (residual .entry) } (now (direction .entry)) (now (product .entry)) alpha) (withDiagonal (now (diagonal .entry)))
         ≡ diagonalOut r (now (solution .exit)) (now (residual .exit)) (now (product .exit)) ⌝ }
+    ensures { λ _. ⌜ DiagonalLeft (now (product .entry)) (now (product .exit)) (now (solution .entry)) (now (solution .exit)) (now (residual .entry)) (now (residual .exit)) ⌝ }
 {
     let n = solution.len();
     let mut passed = Passed {
@@ -132,41 +133,4 @@ fn update_diagonal(
         return passed_product(last);
     }
     passed_product(passed)
-}
-
-// `found` is the answer of `step_length` for these lists. What it was found from is here for the contract alone.
-// The answer is the new s, not tested yet. After a refusal solution, residual and product are left free.
-pub fn advance_diagonal(
-    found: Scale,
-    jacobians: &[f64],
-    links: &[u32],
-    masses: &[f64],
-    bodies: usize,
-    diagonal: &[f64],
-    direction: &[f64],
-    residual_product: f64,
-    body_impulses: &mut [f64],
-    product: &mut [f64],
-    solution: &mut [f64],
-    residual: &mut [f64],
-) -> Scale
-    requires { ⌜ (length (now diagonal) ≡ length (now direction)) × (length (now product) ≡ length (now direction)) × (length (now solution) ≡ length (now direction)) × (length (now residual) ≡ length (now direction)) ⌝ }
-    requires { ⌜ (lengthOf (compactSystem (length (now direction)) bodies (now jacobians) (now links) (now masses)) record { direction = now direction; s = «residual_product» } ≡ scaleOut found) × ProductLeft (compactSystem (length (now direction)) bodies (now jacobians) (now links) (now masses)) (now direction) (now «body_impulses») (now product) ⌝ }
-    ensures { λ r. ⌜ next (steppedOf (compactSystem (length (now (direction .entry))) bodies (now (jacobians .entry)) (now (links .entry)) (now (masses .entry)))
-        record { solution = now (solution .entry); residual = now (residual .entry) } record { direction = now (direction .entry); s = «residual_product» }) (withDiagonal (now (diagonal .entry)))
-        ≡ diagonalOut r (now (solution .exit)) (now (residual .exit)) (now (product .exit)) ⌝ }
-    ensures { λ _. ⌜ DiagonalLeft (compactSystem (length (now (direction .entry))) bodies (now (jacobians .entry)) (now (links .entry)) (now (masses .entry))) (now (direction .entry))
-        (now («body_impulses» .exit)) (now (product .entry)) (now (product .exit)) (now (solution .entry)) (now (solution .exit)) (now (residual .entry)) (now (residual .exit)) ⌝ }
-{
-    match found {
-        Scale::Value(alpha) => update_diagonal(
-            solution,
-            residual,
-            product,
-            alpha,
-            direction,
-            diagonal,
-        ),
-        Scale::Refused(number) => Scale::Refused(number),
-    }
 }

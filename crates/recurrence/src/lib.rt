@@ -12,6 +12,5 @@ pub use direction::next_direction;
 pub use direction::renew;
 pub use length::step_length;
 pub use ratio::Scale;
-pub use step::Advanced;
 pub use step::advance;
 pub use vector::dot_product;
