@@ -14,7 +14,7 @@ use Rattle.joint_refusals.specs.Counts.{countsFit}
 use Rattle.rules.specs.Rules.{Rules}
 use Rattle.preconditioner.specs.Mode.{modeOf}
 use Rattle.work_memory.specs.Lengths.{tableFits}
-use Rattle.pcg.specs.Ruled.{rulesLent, residualLent, centresLent}
+use Rattle.solve_by_rules.specs.Ruled.{rulesLent, residualLent, centresLent}
 use Rattle.position.specs.Kinds.{GivenRoom}
 use Rattle.position.specs.Problem.{Problem}
 use Rattle.position_iteration.specs.Position.{solveFor}

@@ -14,7 +14,7 @@ use Rattle.position_delivery.specs.Outcome.{Lent, Outcome, Answer, proposalOf, 
 use Rattle.position_delivery.specs.declared.answer.PositionPcg.{PositionPcg}
 use Rattle.position_delivery.specs.declared.answer.PositionPcg.the-variants as answers
 use Rattle.position_delivery.proofs.Answered.{entry-means}
-use Rattle.pcg.specs.Ruled.{namedBy}
+use Rattle.solve_by_rules.specs.Ruled.{namedBy}
 use Rattle.position_solve.specs.Job.{JobSolved}
 use Rattle.group_step.specs.Group.{chosen}
 

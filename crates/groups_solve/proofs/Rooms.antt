@@ -22,8 +22,8 @@ use Rattle.joint_refusals.proofs.Valid.{valid-bodies}
 use Rattle.rules.specs.Rules.{Rules, ruleLengthsFit}
 use Rattle.work_memory.specs.Lengths.{tableFits}
 use Rattle.work_memory.proofs.Lengths.{table-lengths}
-use Rattle.pcg.specs.Ruled.{rulesLent, besideLent}
-use Rattle.pcg.proofs.Naming.{lent-beside, lent-numbers}
+use Rattle.solve_by_rules.specs.Ruled.{rulesLent, besideLent}
+use Rattle.solve_by_rules.proofs.Naming.{lent-beside, lent-numbers}
 use Rattle.position.specs.Kinds.{GivenRoom}
 use Rattle.position.specs.Problem.{Problem}
 use Rattle.position_iteration.specs.Position.{solveFor}

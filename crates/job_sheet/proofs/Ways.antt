@@ -22,7 +22,7 @@ use Rattle.preconditioner.specs.Mode.{modeOf}
 use Rattle.joint_refusals.specs.Counts.{tableCountsFit, countsFit}
 use Rattle.joint_refusals.specs.Tolerances.{passes26}
 use Rattle.rules.specs.Rules.{ruleLengthsFit, twoRules}
-use Rattle.pcg.specs.Ruled.{rulesLent, centresLent}
+use Rattle.solve_by_rules.specs.Ruled.{rulesLent, centresLent}
 use Rattle.work_memory.specs.Lengths as lengths
 use Rattle.position_solve.specs.Job.{jobFits, JobSolved}
 use Rattle.kapitsa_joint.specs.Table.{tableOf}

@@ -22,7 +22,7 @@ use Rattle.position_delivery.specs.declared.answer.PositionPcg.the-variants as 
 use Rattle.position_delivery.specs.declared.answer.PositionPcgResult.{PositionPcgResult}
 use Rattle.work_memory.specs.Work.{WorkMemory, After}
 use Rattle.rules.specs.Rules.{Rules, Ruled}
-use Rattle.pcg.specs.Ruled.{namedBy, SolveRuled}
+use Rattle.solve_by_rules.specs.Ruled.{namedBy, SolveRuled}
 use Rattle.position_delivery.proofs.Answered.{entry-means, entry-refused}
 use Rattle.loops.specs.Run.{Goes, going, ended}
 use Rattle.loops.proofs.Inverse.{apart as apart-runs}

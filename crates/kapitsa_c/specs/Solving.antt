@@ -18,7 +18,7 @@ use Rattle.position_delivery.specs.Outcome.{Lent, outcomeAt, MeaningAt}
 use Rattle.position_delivery.specs.declared.answer.PositionPcg.{PositionPcg}
 use Rattle.position_delivery.specs.declared.answer.PositionPcg.the-variants as answers
 use Rattle.rules.specs.Rules.{Rules, Ruled}
-use Rattle.pcg.specs.Ruled.{namedBy}
+use Rattle.solve_by_rules.specs.Ruled.{namedBy}
 use Rattle.work_memory.specs.Work.{WorkMemory, After}
 
 pub record Told : Type 0 where

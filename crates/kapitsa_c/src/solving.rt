@@ -7,7 +7,7 @@ ghost use Rattle.preconditioner.specs.Mode.{modeOf};
 ghost use Rattle.position_iteration.specs.Position.{positionOf};
 ghost use Rattle.work_memory.specs.Work.{workMemory};
 ghost use Rattle.work_memory.specs.Lengths.{passes3};
-ghost use Rattle.pcg.specs.Ruled.{rulesLent, centresLent};
+ghost use Rattle.solve_by_rules.specs.Ruled.{rulesLent, centresLent};
 ghost use Rattle.kapitsa_c.specs.Solving.{toldOf, toldFits, SolveTold};
 use pcg::solve_position_pcg_prepared;
 use position_delivery::PositionPcg;

@@ -7,7 +7,7 @@ ghost use Rattle.preconditioner.specs.Mode.{modeOf};
 ghost use Rattle.position_iteration.specs.Position.{velocityOf};
 ghost use Rattle.work_memory.specs.Work.{workMemory};
 ghost use Rattle.work_memory.specs.Lengths.{passes3};
-ghost use Rattle.pcg.specs.Ruled.{rulesLent, residualLent};
+ghost use Rattle.solve_by_rules.specs.Ruled.{rulesLent, residualLent};
 ghost use Rattle.kapitsa_c.specs.Solving.{toldFits, SolveTold};
 use kapitsa_c::solving::tell;
 use kapitsa_c::solving::told_fits;

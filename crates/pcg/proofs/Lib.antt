@@ -1,4 +1,2 @@
--- Laws of the position solve.
-pub mod Entry
-pub mod Naming
+-- Laws of the solves over lent tables.
 pub mod Moving

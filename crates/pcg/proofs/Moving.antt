@@ -12,7 +12,7 @@ use Rattle.position.specs.Problem.{Problem}
 use Rattle.position_delivery.specs.Outcome.{Lent}
 use Rattle.position_delivery.specs.declared.answer.PositionPcg.{PositionPcg}
 use Rattle.work_memory.specs.Work.{WorkMemory}
-use Rattle.pcg.specs.Ruled.{residualLent, centresLent, SolveRuled}
+use Rattle.solve_by_rules.specs.Ruled.{residualLent, centresLent, SolveRuled}
 
 no-centre : (a x b : Bool) → ((a && (x && centresLent 0 0 0)) && b) ≡ ((a && x) && b)
 unfolding centresLent

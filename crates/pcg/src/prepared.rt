@@ -1,103 +1,22 @@
 // The position solve over lent tables, by lent rules: the entry.
 ghost use mathlib.Core.Path.{_≡_};
-ghost use mathlib.Core.Bool.{_&&_, true};
-ghost use Prim.Native.Nat.{_*_, _≤_};
+ghost use mathlib.Core.Bool.{_&&_};
 ghost use lib.ListN.{length};
-ghost use Rattle.rules.specs.Rows.{rulesIn, ruleIn};
+ghost use Rattle.rules.specs.Rows.{rulesIn};
 ghost use Rattle.preconditioner.specs.Mode.{modeOf};
-ghost use Rattle.kapitsa_joint.specs.Kind.{byKind, placeOf};
+ghost use Rattle.kapitsa_joint.specs.Kind.{placeOf};
 ghost use Rattle.position_iteration.specs.Position.{positionOf, solveFor};
 ghost use Rattle.work_memory.specs.Work.{workMemory};
 ghost use Rattle.work_memory.specs.Lengths.{passes3};
-ghost use Rattle.pcg.specs.Ruled.{rulesLent, residualLent, centresLent, besideLent, NamingRoom, NamingRuled, namedBy, SolveRuled};
-use crate::solve::propose_by_rules;
+ghost use Rattle.solve_by_rules.specs.Ruled.{rulesLent, centresLent, besideLent, SolveRuled};
 use kapitsa_joint::Kind;
 use kapitsa_joint::place_of;
-use kapitsa_joint::placed_of;
-use loops::wide;
 use position_delivery::PositionPcg;
 use position_delivery::commit;
-use rules::name_only_rules;
-use rules::name_rules;
-use rules::rule_lengths_fit;
-
-// Refusal 3, of the rules and of what takes each row's: true where it does not apply;
-pub fn rules_lent(rows: u32, words: usize, tolerances: usize, numbers: usize) -> bool
-    ensures { λ r. ⌜ r ≡ rulesLent rows words tolerances numbers ⌝ }
-{
-    rule_lengths_fit(words, tolerances) & (numbers == wide(rows))
-}
-
-// of the centres before and after,
-pub fn centres_lent(bodies: u32, centres: usize, new_centres: usize) -> bool
-    ensures { λ r. ⌜ r ≡ centresLent bodies centres «new_centres» ⌝ }
-{
-    (centres == 3 * wide(bodies)) & (new_centres == 3 * wide(bodies))
-}
-
-// of the residual, which positions do not look at,
-fn residual_lent(kind: Kind, rows: u32, given: usize) -> bool
-    ensures { λ r. ⌜ r ≡ byKind kind true (residualLent rows given) ⌝ }
-{
-    match kind {
-        Kind::Position => true,
-        Kind::Velocity => given == wide(rows),
-    }
-}
-
-// and of what is lent beside the table: of positions the centres, of velocities the residual and no centre.
-pub fn beside_lent(
-    kind: Kind,
-    rows: u32,
-    bodies: u32,
-    centres: usize,
-    new_centres: usize,
-    given: usize,
-) -> bool
-    ensures { λ r. ⌜ r ≡ besideLent kind rows bodies centres «new_centres» given ⌝ }
-{
-    residual_lent(kind, rows, given) & centres_lent(placed_of(kind, bodies), centres, new_centres)
-}
-
-// The rule of each row, where the answer is accepted.
-pub fn name_accepted(
-    answer: PositionPcg,
-    words: &[u32],
-    rule_words: &[u32],
-    rule_tolerances: &[f64],
-    rule_numbers: &mut [u32],
-)
-    requires { ⌜ (3 * length (now «rule_tolerances») ≤ length (now «rule_words»)) × (length (now «rule_tolerances») ≤ 64) ⌝ }
-    requires { ⌜ NamingRoom answer (length (now «rule_numbers»)) (length (now words)) ⌝ }
-    ensures { λ _. ⌜ now («rule_numbers» .exit) ≡ namedBy answer (ruleIn (rulesIn (now («rule_words» .entry)) (now («rule_tolerances» .entry))) (now (words .entry))) (length (now («rule_numbers» .entry))) (now («rule_numbers» .entry)) ⌝ }
-{
-    match answer {
-        PositionPcg::Accepted(result) => {
-            name_rules(words, rule_words, rule_tolerances, rule_numbers);
-        }
-        PositionPcg::Refused(number) => {}
-    }
-}
-
-// The same where each row is known to be under one rule and no second.
-fn name_ruled(
-    answer: PositionPcg,
-    words: &[u32],
-    rule_words: &[u32],
-    rule_tolerances: &[f64],
-    rule_numbers: &mut [u32],
-)
-    requires { ⌜ (3 * length (now «rule_tolerances») ≤ length (now «rule_words»)) × (length (now «rule_tolerances») ≤ 64) ⌝ }
-    requires { ⌜ NamingRuled answer (rulesIn (now «rule_words») (now «rule_tolerances»)) (now words) (length (now «rule_numbers»)) ⌝ }
-    ensures { λ _. ⌜ now («rule_numbers» .exit) ≡ namedBy answer (ruleIn (rulesIn (now («rule_words» .entry)) (now («rule_tolerances» .entry))) (now (words .entry))) (length (now («rule_numbers» .entry))) (now («rule_numbers» .entry)) ⌝ }
-{
-    match answer {
-        PositionPcg::Accepted(result) => {
-            name_only_rules(words, rule_words, rule_tolerances, rule_numbers);
-        }
-        PositionPcg::Refused(number) => {}
-    }
-}
+use solve_by_rules::beside_lent;
+use solve_by_rules::name_ruled;
+use solve_by_rules::propose_by_rules;
+use solve_by_rules::rules_lent;
 
 // Of either kind, proposed and committed: solution, impulses, centres, the accumulated numbers and each row's rule are written only where the answer is accepted; the work memory is +0.0 (integers 0) afterwards, except after refusal 3, which writes nothing.
 pub fn solve_prepared(

@@ -7,7 +7,7 @@ ghost use Rattle.preconditioner.specs.Mode.{modeOf};
 ghost use Rattle.position_iteration.specs.Position.{velocityOf};
 ghost use Rattle.work_memory.specs.Work.{workMemory};
 ghost use Rattle.work_memory.specs.Lengths.{passes3};
-ghost use Rattle.pcg.specs.Ruled.{rulesLent, residualLent, SolveRuled};
+ghost use Rattle.solve_by_rules.specs.Ruled.{rulesLent, residualLent, SolveRuled};
 use crate::prepared::solve_prepared;
 use kapitsa_joint::Kind;
 use position_delivery::PositionPcg;

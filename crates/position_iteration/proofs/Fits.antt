@@ -1,6 +1,6 @@
 -- What the calls of a step ask of lent memory, where `Standing` says what stands there for n rows and k are as many. Assumes nothing.
 use Prim.Native.Nat.{ℕ, _*_, _≤_}
-use mathlib.Core.Path.{_≡_, sym, subst, _∙_}
+use mathlib.Core.Path.{_≡_, sym, subst}
 use mathlib.Core.List.{List}
 use native.Mathlib.Omega.{arith}
 use lib.ListN.{length}
@@ -19,6 +19,6 @@ module _ (p : Preconditioner) (n bodies : ℕ) (tolerances masses jacobians : Li
   pub linked-fits : Linked links k bodies
   linked-fits = subst (λ (i : ℕ). Linked links i bodies) (sym e) (h .linked)
 
--- `renew`
+-- `first`, `renew`
 pub ready-fits : (p : Preconditioner) (n : ℕ) (m : Memory) (k : ℕ) → k ≡ n → Ready p n m → Ready p k m
 ready-fits p n m k e h = subst (λ (i : ℕ). Ready p i m) (sym e) h

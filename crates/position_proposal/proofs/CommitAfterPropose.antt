@@ -32,8 +32,8 @@ use Rattle.position_delivery.specs.declared.answer.PositionPcgResult.{PositionP
 use Rattle.work_memory.specs.Work.{WorkMemory}
 use Rattle.work_memory.specs.Lengths.{tableFits, vectorsFit, factorFits, passes3}
 use Rattle.work_memory.proofs.Lengths.{rows-room, lent-room}
-use Rattle.pcg.specs.Ruled.{SolveRuled, namedBy}
-use Rattle.pcg.proofs.Naming.{accepted-tests}
+use Rattle.solve_by_rules.specs.Ruled.{SolveRuled, namedBy}
+use Rattle.solve_by_rules.proofs.Naming.{accepted-tests}
 use Rattle.proposals.specs.Proposal.{ProposalMemory, Proposing, wordsBy, startedBy}
 use Rattle.proposals.specs.Commit.{commitLent, bitsNow, bitsThen, sameMultipliers, commitTests, Committing, committingBy, committing}
 use Rattle.proposals.proofs.Judging.{committed-of}

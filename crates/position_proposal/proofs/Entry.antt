@@ -20,9 +20,9 @@ use Rattle.position_delivery.specs.Outcome.{Lent, Outcome}
 use Rattle.position_delivery.specs.declared.answer.PositionPcg.{PositionPcg}
 use Rattle.position_delivery.specs.declared.answer.PositionPcg.the-variants as answers
 use Rattle.work_memory.specs.Work.{WorkMemory}
-use Rattle.pcg.specs.Ruled.{rulesLent, centresLent, SolveRuled}
-use Rattle.pcg.specs.SolveHeld.{SolveHeld}
-use Rattle.pcg.proofs.Naming.{accepted-tests, lent-beside, lent-numbers, lent-rules}
+use Rattle.solve_by_rules.specs.Ruled.{rulesLent, centresLent, SolveRuled}
+use Rattle.solve_by_rules.specs.SolveHeld.{SolveHeld}
+use Rattle.solve_by_rules.proofs.Naming.{accepted-tests, lent-beside, lent-numbers, lent-rules}
 use Rattle.proposals.specs.Proposal.{ProposalMemory, Proposing, wordsBy, startedBy, NotingRoom}
 use Rattle.position_proposal.specs.Proposed.{proposalLent, lentBy, Proposed}
 

@@ -19,7 +19,7 @@ use Rattle.position_delivery.specs.declared.answer.PositionPcg.{PositionPcg}
 use Rattle.position_delivery.specs.declared.answer.PositionPcg.the-variants as answers
 use Rattle.position_delivery.specs.declared.answer.PositionPcgResult.{PositionPcgResult}
 use Rattle.work_memory.specs.Work.{WorkMemory, After}
-use Rattle.pcg.specs.Ruled.{namedBy}
+use Rattle.solve_by_rules.specs.Ruled.{namedBy}
 use Rattle.proposals.specs.Proposal.{ProposalMemory, proposing}
 
 -- 3, of the words and of the multipliers it started from

@@ -25,7 +25,7 @@ use Rattle.work_memory.specs.Work.{WorkMemory, workMemory}
 use Rattle.joint_refusals.specs.Counts.{countsFit}
 use Rattle.work_memory.specs.Lengths.{tableFits, vectorsFit, factorFits, passes3, WorkRoom}
 use Rattle.rules.specs.Rules.{Rules}
-use Rattle.pcg.specs.Ruled.{rulesLent, besideLent, SolveRuled}
+use Rattle.solve_by_rules.specs.Ruled.{rulesLent, besideLent, SolveRuled}
 use Rattle.position_solve.specs.Job.{jobFits, JobSolved, FactorRoom}
 
 -- the counts of what has passed

@@ -17,7 +17,7 @@ use Rattle.position_delivery.specs.Outcome.{Lent, outcomeAt, MeaningAt}
 use Rattle.position_delivery.specs.declared.answer.PositionPcg.{PositionPcg}
 use Rattle.position_delivery.specs.declared.answer.PositionPcg.the-variants as answers
 use Rattle.position_delivery.specs.declared.answer.PositionPcgResult.{PositionPcgResult}
-use Rattle.pcg.specs.Ruled.{rulesLent, besideLent, namedBy}
+use Rattle.solve_by_rules.specs.Ruled.{rulesLent, besideLent, namedBy}
 use Rattle.joint_refusals.specs.Counts.{countsFit}
 use Rattle.work_memory.specs.Lengths.{tableFits}
 

@@ -3,8 +3,8 @@ ghost use mathlib.Core.Path.{_≡_};
 ghost use Rattle.position_solve.specs.Job.{jobFits};
 use joint_refusals::counts_fit;
 use kapitsa_joint::Kind;
-use pcg::beside_lent;
-use pcg::rules_lent;
+use solve_by_rules::beside_lent;
+use solve_by_rules::rules_lent;
 use work_memory::table_fits;
 
 pub fn job_fits(

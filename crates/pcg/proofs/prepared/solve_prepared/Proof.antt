@@ -6,7 +6,7 @@ use Rattle.rules.specs.Rows.{rulesIn}
 use Rattle.preconditioner.specs.Mode.{modeOf}
 use Rattle.position_delivery.specs.Outcome.{Lent}
 use Rattle.work_memory.proofs.Lengths.{lent-room, rows-room}
-use Rattle.pcg.proofs.Naming.{commit-room, committed-held, lent-tests, lent-beside, lent-numbers, lent-rules, naming-ruled, ruled-on, ruled-three}
+use Rattle.solve_by_rules.proofs.Naming.{commit-room, committed-held, lent-tests, lent-beside, lent-numbers, lent-rules, naming-ruled, ruled-on, ruled-three}
 use Rattle.pcg.proofs.prepared.solve_prepared.Statement.{statement}
 use Rattle.pcg.proofs.prepared.solve_prepared.Tie as tie
 

@@ -3,7 +3,7 @@ use lib.ListN.{length}
 use Rattle.loops.proofs.Loop.{loops}
 use Rattle.work_memory.specs.Work.{workMemory}
 use Rattle.work_memory.specs.Lengths.{passes3}
-use Rattle.pcg.specs.Ruled.{rulesLent}
+use Rattle.solve_by_rules.specs.Ruled.{rulesLent}
 use Rattle.pcg.proofs.Moving.{moving-ruled}
 use Rattle.pcg.proofs.velocity.solve_velocity_pcg_prepared.Statement.{statement}
 use Rattle.pcg.proofs.velocity.solve_velocity_pcg_prepared.Tie as tie

@@ -5,7 +5,7 @@ use Rattle.loops.proofs.Loop.{loops}
 use Rattle.rules.specs.Rows.{rulesIn}
 use Rattle.preconditioner.specs.Mode.{modeOf}
 use Rattle.work_memory.proofs.Lengths.{rows-room}
-use Rattle.pcg.proofs.Naming.{naming-room, ruled-on, ruled-three}
+use Rattle.solve_by_rules.proofs.Naming.{naming-room, ruled-on, ruled-three}
 use Rattle.position_proposal.proofs.Entry.{fitting, noting-room, proposed-of, unproposed}
 use Rattle.position_proposal.proofs.propose.propose_position.Statement.{statement}
 use Rattle.position_proposal.proofs.propose.propose_position.Tie as tie

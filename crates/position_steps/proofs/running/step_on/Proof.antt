@@ -12,7 +12,7 @@ pub step-on-spec : {M : Type 1} → statement M
 step-on-spec =
     tie.close
     (tie.spec
-    (λ c κs. (ready-fits _ _ _ _ _ _ _ _ ((c .before .before .before .before .before .before .before .before .before .before .before .before .before .before .before .before) .pre .0) _ ((c .before .before .before .before .before .before .before .before .before .before .before .before .before .before .before .before) .pre .1 .3), ((c .before .before .before .before .before .before .before .before .before .before .before .before .before .before .before .before) .pre .1 .1 ∙ sym ((c .before .before .before .before .before .before .before .before .before .before .before .before .before .before .before .before) .pre .1 .3), (c .before .before .before .before .before .before .before .before .before .before .before .before .before .before .before .before) .pre .1 .4 ∙ sym ((c .before .before .before .before .before .before .before .before .before .before .before .before .before .before .before .before) .pre .1 .3))))  -- first-requires
+    (λ c κs. (ready-fits _ _ _ _ ((c .before .before .before .before .before .before .before .before .before .before .before .before .before .before .before .before) .pre .1 .3) ((c .before .before .before .before .before .before .before .before .before .before .before .before .before .before .before .before) .pre .0 .ready), ((c .before .before .before .before .before .before .before .before .before .before .before .before .before .before .before .before) .pre .1 .1 ∙ sym ((c .before .before .before .before .before .before .before .before .before .before .before .before .before .before .before .before) .pre .1 .3), (c .before .before .before .before .before .before .before .before .before .before .before .before .before .before .before .before) .pre .1 .4 ∙ sym ((c .before .before .before .before .before .before .before .before .before .before .before .before .before .before .before .before) .pre .1 .3))))  -- first-requires
     (λ c. search known)  -- enum-known-s
     (λ c κs. ((c .before .before .before .before .before .before .before .before .before .before .before .before .before .before .before .before .before .before .before .before .before .before .before .before .before .before .before .before .before) .pre .0, ((c .before .before .before .before .before .before .before .before .before .before .before .before .before .before .before .before .before .before .before .before .before .before .before .before .before .before .before .before .before) .pre .1 .0, (c .before .before .before .before .before .before .before .before .before .before .before .product) .given ∙ (c .before .before .before .before .before .before .before .before .before .before .before .before .before .before .before .before .before .before .before .before .before .before .before .before .before .before .before .before .before) .pre .1 .1, (c .before .before .before .before .before .before .before .before .before .before .before .before .before .before .before .before .before .before .before .before .before .before .before .before .before .before .before .before .before) .pre .1 .2, (c .before .before .before .before .before .before .before .before .before .before .before .before .before .before .before .before .before .before .before .before .before .before .before .before .before .before .before .before .before) .pre .1 .3, (c .before .before .before .before .before .before .before .before .before .direction) .given ∙ (c .before .before .before .before .before .before .before .before .before .before .before .before .before .before .before .before .before .before .before .before .before .before .before .before .before .before .before .before .before) .pre .1 .4)))  -- iterate-requires
     (λ c. search known)  -- enum-known-number

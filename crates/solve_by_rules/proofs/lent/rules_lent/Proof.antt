@@ -1,8 +1,8 @@
--- `pcg::prepared::rules_lent` meets its contract. Assumes nothing.
+-- `solve_by_rules::lent::rules_lent` meets its contract. Assumes nothing.
 use Rattle.loops.proofs.Loop.{loops}
-use Rattle.pcg.specs.Ruled.{rulesLent}
-use Rattle.pcg.proofs.prepared.rules_lent.Statement.{statement}
-use Rattle.pcg.proofs.prepared.rules_lent.Tie as tie
+use Rattle.solve_by_rules.specs.Ruled.{rulesLent}
+use Rattle.solve_by_rules.proofs.lent.rules_lent.Statement.{statement}
+use Rattle.solve_by_rules.proofs.lent.rules_lent.Tie as tie
 
 pub rules-lent-spec : {M : Type 1} → statement M
 unfolding rulesLent

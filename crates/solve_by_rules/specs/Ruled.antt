@@ -17,7 +17,7 @@ use Rattle.position_delivery.specs.declared.answer.PositionPcg.{PositionPcg}
 use Rattle.position_delivery.specs.declared.answer.PositionPcg.the-variants as answers
 use Rattle.position_delivery.specs.declared.answer.PositionPcgResult.{PositionPcgResult}
 use Rattle.work_memory.specs.Work.{WorkMemory}
-use Rattle.pcg.specs.SolveHeld.{SolveHeld}
+use Rattle.solve_by_rules.specs.SolveHeld.{SolveHeld}
 
 -- 3, of the rules' lengths and of the slice that takes the rows' rules
 unfoldable pub rulesLent : ℕ → ℕ → ℕ → ℕ → Bool

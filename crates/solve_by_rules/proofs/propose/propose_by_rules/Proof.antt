@@ -1,4 +1,4 @@
--- `pcg::solve::propose_by_rules` meets its contract: what has passed refusal 3 is judged, counted and proposed. Assumes nothing.
+-- `solve_by_rules::propose::propose_by_rules` meets its contract: what has passed refusal 3 is judged, counted and proposed. Assumes nothing.
 use mathlib.Core.Path.{_∙_}
 use native.Mathlib.Omega.{arith}
 use Rattle.loops.proofs.Loop.{loops}
@@ -9,9 +9,9 @@ use Rattle.work_memory.specs.Work.{workMemory}
 use Rattle.work_memory.proofs.Cleared.{table-since}
 use Rattle.work_memory.proofs.Lengths.{fits-three, rows-room, lent-room, work-room, table-room-same}
 use Rattle.position_steps.proofs.Openings.{opened-ruled}
-use Rattle.pcg.proofs.Entry.{fits-true, placing, solve-apart, proposed-three, solved-kind}
-use Rattle.pcg.proofs.solve.propose_by_rules.Statement.{statement}
-use Rattle.pcg.proofs.solve.propose_by_rules.Tie as tie
+use Rattle.solve_by_rules.proofs.Entry.{fits-true, placing, solve-apart, proposed-three, solved-kind}
+use Rattle.solve_by_rules.proofs.propose.propose_by_rules.Statement.{statement}
+use Rattle.solve_by_rules.proofs.propose.propose_by_rules.Tie as tie
 
 pub propose-by-rules-spec : {M : Type 1} → statement M
 propose-by-rules-spec =

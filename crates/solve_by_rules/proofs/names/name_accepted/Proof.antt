@@ -1,8 +1,8 @@
--- `pcg::prepared::name_accepted` meets its contract. Assumes nothing.
+-- `solve_by_rules::names::name_accepted` meets its contract. Assumes nothing.
 use Rattle.loops.proofs.Loop.{loops}
-use Rattle.pcg.proofs.Naming.{named-accepted, named-refused}
-use Rattle.pcg.proofs.prepared.name_accepted.Statement.{statement}
-use Rattle.pcg.proofs.prepared.name_accepted.Tie as tie
+use Rattle.solve_by_rules.proofs.Naming.{named-accepted, named-refused}
+use Rattle.solve_by_rules.proofs.names.name_accepted.Statement.{statement}
+use Rattle.solve_by_rules.proofs.names.name_accepted.Tie as tie
 
 pub name-accepted-spec : {M : Type 1} → statement M
 name-accepted-spec =

@@ -34,9 +34,9 @@ use Rattle.position_delivery.specs.declared.answer.PositionPcg.the-variants as 
 use Rattle.position_delivery.specs.declared.answer.PositionPcgResult.{PositionPcgResult}
 use Rattle.steps.specs.Solve.{solve}
 use Rattle.work_memory.specs.Work.{WorkMemory}
-use Rattle.pcg.specs.SolveHeld.{SolveHeld}
-use Rattle.pcg.specs.Ruled.{rulesLent, residualLent, centresLent, besideLent, NamingRoom, NamingRuled, namedBy, SolveRuled}
-use Rattle.pcg.proofs.Entry.{solve-apart, solved-three}
+use Rattle.solve_by_rules.specs.SolveHeld.{SolveHeld}
+use Rattle.solve_by_rules.specs.Ruled.{rulesLent, residualLent, centresLent, besideLent, NamingRoom, NamingRuled, namedBy, SolveRuled}
+use Rattle.solve_by_rules.proofs.Entry.{solve-apart, solved-three}
 
 -- ---- an accepted answer has passed what is judged before step 0
 module _ (fits : Bool) (p : Problem) (mode : Mode) (limit place n : ℕ) (before after : Lent) {answer : PositionPcg} (answered : outcomeAt place n before (solve (methodOf fits p mode) limit) ≡ record { answer = answer; lent = after }) (r : PositionPcgResult)

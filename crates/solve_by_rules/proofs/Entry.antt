@@ -40,7 +40,7 @@ use Rattle.position_delivery.proofs.Accumulated.{delivered-in}
 use Rattle.position_delivery.proofs.Answered.{delivered-of, entry-refused, entry-on, entry-means}
 use Rattle.work_memory.specs.Work.{WorkMemory, StepMemory, clearedSteps, clearedTable}
 use Rattle.work_memory.proofs.Cleared.{work-cleared, after-three, after-cleared}
-use Rattle.pcg.specs.SolveHeld.{SolveHeld}
+use Rattle.solve_by_rules.specs.SolveHeld.{SolveHeld}
 
 -- what has passed 3
 pub fits-true : (b fits : Bool) → b ≡ fits → not b ≡ false → fits ≡ true

@@ -10,7 +10,7 @@ ghost use Rattle.position_iteration.specs.Position.{solveFor};
 ghost use Rattle.work_memory.specs.Work.{workMemory};
 ghost use Rattle.work_memory.specs.Lengths.{passes3};
 ghost use Rattle.position_delivery.specs.Delivery.{committedBy};
-ghost use Rattle.pcg.specs.SolveHeld.{SolveHeld};
+ghost use Rattle.solve_by_rules.specs.SolveHeld.{SolveHeld};
 use joint_refusals::centres_finite;
 use joint_refusals::counts_fit;
 use kapitsa_joint::Kind;

@@ -1,8 +1,8 @@
--- `pcg::prepared::residual_lent` meets its contract. Assumes nothing.
+-- `solve_by_rules::lent::residual_lent` meets its contract. Assumes nothing.
 use borrow.Author.Needs.{needs}
-use Rattle.pcg.specs.Ruled.{residualLent}
-use Rattle.pcg.proofs.prepared.residual_lent.Statement.{statement}
-use Rattle.pcg.proofs.prepared.residual_lent.Tie as tie
+use Rattle.solve_by_rules.specs.Ruled.{residualLent}
+use Rattle.solve_by_rules.proofs.lent.residual_lent.Statement.{statement}
+use Rattle.solve_by_rules.proofs.lent.residual_lent.Tie as tie
 
 pub residual-lent-spec : {M : Type 1} → statement M
 unfolding residualLent

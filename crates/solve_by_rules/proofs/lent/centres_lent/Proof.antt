@@ -1,8 +1,8 @@
--- `pcg::prepared::centres_lent` meets its contract. Assumes nothing.
+-- `solve_by_rules::lent::centres_lent` meets its contract. Assumes nothing.
 use Rattle.loops.proofs.Loop.{loops}
-use Rattle.pcg.specs.Ruled.{centresLent}
-use Rattle.pcg.proofs.prepared.centres_lent.Statement.{statement}
-use Rattle.pcg.proofs.prepared.centres_lent.Tie as tie
+use Rattle.solve_by_rules.specs.Ruled.{centresLent}
+use Rattle.solve_by_rules.proofs.lent.centres_lent.Statement.{statement}
+use Rattle.solve_by_rules.proofs.lent.centres_lent.Tie as tie
 
 pub centres-lent-spec : {M : Type 1} → statement M
 unfolding centresLent

@@ -1,8 +1,8 @@
--- `pcg::prepared::name_ruled` meets its contract. Assumes nothing.
+-- `solve_by_rules::names::name_ruled` meets its contract. Assumes nothing.
 use Rattle.loops.proofs.Loop.{loops}
-use Rattle.pcg.proofs.Naming.{named-accepted, named-refused}
-use Rattle.pcg.proofs.prepared.name_ruled.Statement.{statement}
-use Rattle.pcg.proofs.prepared.name_ruled.Tie as tie
+use Rattle.solve_by_rules.proofs.Naming.{named-accepted, named-refused}
+use Rattle.solve_by_rules.proofs.names.name_ruled.Statement.{statement}
+use Rattle.solve_by_rules.proofs.names.name_ruled.Tie as tie
 
 pub name-ruled-spec : {M : Type 1} → statement M
 name-ruled-spec =

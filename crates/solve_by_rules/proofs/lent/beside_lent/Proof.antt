@@ -1,7 +1,7 @@
--- `pcg::prepared::beside_lent` meets its contract. Assumes nothing.
+-- `solve_by_rules::lent::beside_lent` meets its contract. Assumes nothing.
 use Rattle.loops.proofs.Loop.{loops}
-use Rattle.pcg.proofs.prepared.beside_lent.Statement.{statement}
-use Rattle.pcg.proofs.prepared.beside_lent.Tie as tie
+use Rattle.solve_by_rules.proofs.lent.beside_lent.Statement.{statement}
+use Rattle.solve_by_rules.proofs.lent.beside_lent.Tie as tie
 
 pub beside-lent-spec : {M : Type 1} → statement M
 beside-lent-spec =
