@@ -23,16 +23,16 @@ use Rattle.joint_refusals.specs.Refusals.{wordsFitOf, massFiniteOf, passes4, pa
 use Rattle.rules.specs.Rules.{Rules, ruleCount, ruleFits, ruleOf, passes27, passes28}
 use Rattle.position.specs.Problem.{Problem}
 use Rattle.position.specs.Prepare.{rowJudged, rowsJudged, diagonals}
-use Rattle.position_iteration.specs.Method.{passes5, openingOf, factorHere, beginOf, firstOf, ownerOf, Delivered, methodOf}
-use Rattle.position_iteration.specs.Places.{positionPlaces}
-use Rattle.position_iteration.proofs.InPlace.{position-in-place}
+use Rattle.solve_method.specs.Method.{passes5, openingOf, factorHere, beginOf, firstOf, ownerOf, Delivered, methodOf}
+use Rattle.solve_method.specs.Places.{positionPlaces}
+use Rattle.solve_method.proofs.InPlace.{position-in-place}
 use Rattle.preconditioner.specs.Shift.{passes25}
 use Rattle.preconditioner.specs.declared.mode.Mode.{Mode}
 use Rattle.preconditioner.specs.Factor.{factorJudged}
 use Rattle.preconditioner.specs.Apply.{preconditioned}
 use Rattle.preconditioner.proofs.Numbers.{z-numbers}
 use Rattle.recurrence.specs.Step.{Iterate, Carried, firstFrom}
-use Rattle.position_iteration.proofs.Parts.{first-numbers}
+use Rattle.solve_method.proofs.Parts.{first-numbers}
 use Rattle.mass_operator.specs.System.{systemOf}
 use Rattle.block_factor.specs.Blocks.{onePair}
 use Rattle.block_jacobi.specs.Runs.{begins, runLength}
@@ -41,7 +41,7 @@ use Rattle.steps.specs.Method.{Method}
 use Rattle.steps.specs.Steps.{stepAt}
 use Rattle.steps.specs.Solve.{solve}
 use Rattle.steps.specs.InPlace.{InPlace}
-use Rattle.position_iteration.specs.Position.{positionOf}
+use Rattle.solve_method.specs.Position.{positionOf}
 use Rattle.first_refusal.specs.Place.{givenIn, bodyFits, rowPasses, runFits, passesAt, countOf, placeOf}
 use Rattle.first_refusal.specs.declared.place.Place.{Place}
 use Rattle.first_refusal.specs.declared.place.Place.the-variants as places

@@ -18,8 +18,8 @@ use Rattle.position.specs.Problem.{Problem}
 use Rattle.position.specs.Prepare.{rowJudged}
 use Rattle.block_factor.specs.Blocks.{onePair}
 use Rattle.block_jacobi.specs.Runs.{begins, leading, runLength}
-use Rattle.position_iteration.specs.Method.{ownerOf}
-use Rattle.position_iteration.specs.Position.{kindOf}
+use Rattle.solve_method.specs.Method.{ownerOf}
+use Rattle.solve_method.specs.Position.{kindOf}
 use Rattle.first_refusal.specs.declared.place.Place.{Place}
 use Rattle.first_refusal.specs.declared.place.Place.the-variants as places
 

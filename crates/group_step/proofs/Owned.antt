@@ -17,7 +17,7 @@ use Rattle.work_memory.specs.Lengths.{tableFits}
 use Rattle.solve_by_rules.specs.Ruled.{rulesLent, residualLent, centresLent}
 use Rattle.position.specs.Kinds.{GivenRoom}
 use Rattle.position.specs.Problem.{Problem}
-use Rattle.position_iteration.specs.Position.{solveFor}
+use Rattle.solve_method.specs.Position.{solveFor}
 use Rattle.position_delivery.specs.Outcome.{Lent}
 use Rattle.position_delivery.specs.declared.answer.PositionPcg.{PositionPcg}
 use Rattle.position_solve.specs.Job.{jobFits, JobSolved}

@@ -9,7 +9,7 @@ use Rattle.rules.specs.Rules.{Rules}
 use Rattle.preconditioner.specs.declared.mode.Mode.{Mode}
 use Rattle.steps.specs.Solve.{solve}
 use Rattle.position.specs.Problem.{Problem}
-use Rattle.position_iteration.specs.Method.{methodOf}
+use Rattle.solve_method.specs.Method.{methodOf}
 use Rattle.position_delivery.specs.Outcome.{Lent, Outcome, Answer, proposalOf, committedOf, outcomeAt, MeaningAt}
 use Rattle.position_delivery.specs.declared.answer.PositionPcg.{PositionPcg}
 use Rattle.position_delivery.specs.declared.answer.PositionPcg.the-variants as answers

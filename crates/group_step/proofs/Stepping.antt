@@ -9,7 +9,7 @@ use lib.Ieee.{Float, nan}
 use Rattle.kapitsa_joint.specs.Kind.{placeOf, placedOf}
 use Rattle.kapitsa_joint.specs.declared.kind.Kind.{Kind}
 use Rattle.preconditioner.specs.Mode.{modeOf}
-use Rattle.position_iteration.specs.Position.{solveFor}
+use Rattle.solve_method.specs.Position.{solveFor}
 use Rattle.position_delivery.specs.Outcome.{Lent}
 use Rattle.position_delivery.specs.declared.answer.PositionPcg.{PositionPcg}
 use Rattle.position_delivery.specs.declared.answer.PositionPcg.the-variants as answers

@@ -7,7 +7,7 @@ use Rattle.kapitsa_joint.specs.Table.{Table, tableOf}
 use Rattle.kapitsa_joint.specs.declared.kind.Kind.{Kind}
 use Rattle.rules.specs.Rules.{Rules}
 use Rattle.position.specs.Problem.{Problem}
-use Rattle.position_iteration.specs.Position.{solveFor}
+use Rattle.solve_method.specs.Position.{solveFor}
 use Rattle.position_delivery.specs.Outcome.{Lent}
 use Rattle.group_table.specs.Pick.{pickRows}
 

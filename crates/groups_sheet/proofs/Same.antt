@@ -15,7 +15,7 @@ use Rattle.preconditioner.specs.Shift.{passes25}
 use Rattle.rules.specs.Rules.{twoRules}
 use Rattle.rules.proofs.Two.{two-fit, two-ruled}
 use Rattle.position.specs.Problem.{Problem}
-use Rattle.position_iteration.specs.Position.{solveFor}
+use Rattle.solve_method.specs.Position.{solveFor}
 use Rattle.groups_solve.specs.Judged as bench
 use Rattle.job_file.specs.File.{trailerOf}
 use Rattle.job_file.specs.Job.{Job, tests, jobOf, jobWith, fileNumbers, fileWords, fileMasses, fileCentres}

@@ -19,8 +19,8 @@ use Rattle.preconditioner.specs.Mode.{modeOf}
 use Rattle.preconditioner.specs.declared.mode.Mode.{Mode}
 use Rattle.steps.specs.Solve.{solve}
 use Rattle.position.specs.Problem.{Problem}
-use Rattle.position_iteration.specs.Method.{methodOf}
-use Rattle.position_iteration.specs.Position.{solveFor}
+use Rattle.solve_method.specs.Method.{methodOf}
+use Rattle.solve_method.specs.Position.{solveFor}
 use Rattle.position_delivery.specs.Outcome.{Lent, Outcome, outcomeAt}
 use Rattle.position_delivery.specs.declared.answer.PositionPcg.{PositionPcg}
 use Rattle.position_delivery.specs.declared.answer.PositionPcg.the-variants as answers

@@ -26,7 +26,7 @@ use Rattle.solve_by_rules.specs.Ruled.{rulesLent, besideLent}
 use Rattle.solve_by_rules.proofs.Naming.{lent-beside, lent-numbers}
 use Rattle.position.specs.Kinds.{GivenRoom}
 use Rattle.position.specs.Problem.{Problem}
-use Rattle.position_iteration.specs.Position.{solveFor}
+use Rattle.solve_method.specs.Position.{solveFor}
 use Rattle.position_solve.specs.Job.{jobFits}
 use Rattle.position_solve.proofs.Lending.{counts-within}
 use Rattle.groups.specs.Together.{linksIn, Linked}

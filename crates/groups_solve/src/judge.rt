@@ -6,7 +6,7 @@ ghost use Rattle.loops.specs.Judge.{judge};
 ghost use Rattle.kapitsa_joint.specs.Kind.{placedOf};
 ghost use Rattle.rules.specs.Rows.{rulesIn};
 ghost use Rattle.position_steps.specs.Opening.{givenFits};
-ghost use Rattle.position_iteration.specs.Position.{solveFor};
+ghost use Rattle.solve_method.specs.Position.{solveFor};
 ghost use Rattle.position.specs.Kinds.{GivenRoom};
 ghost use Rattle.groups_solve.specs.Judged.{benchTests, groupsLent, centresPass, wholeOut};
 use joint_refusals::centres_finite;

@@ -17,7 +17,7 @@ use Rattle.position_delivery.specs.declared.answer.PositionPcgResult.{PositionP
 use Rattle.position_delivery.specs.declared.answer.PositionPcg.{PositionPcg}
 use Rattle.position_delivery.specs.declared.answer.PositionPcg.the-variants as answers
 use Rattle.loops.specs.Cleared.{plusZero}
-use Rattle.position_iteration.specs.Position.{positionOf}
+use Rattle.solve_method.specs.Position.{positionOf}
 use Rattle.preconditioner.specs.Mode.{modeOf}
 use Rattle.joint_refusals.specs.Counts.{tableCountsFit, countsFit}
 use Rattle.joint_refusals.specs.Tolerances.{passes26}

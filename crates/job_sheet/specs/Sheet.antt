@@ -19,8 +19,8 @@ use Rattle.mass_operator.specs.Flat.{coefficients}
 use Rattle.preconditioner.specs.Mode.{modeOf}
 use Rattle.steps.specs.Solve.{solve}
 use Rattle.loops.specs.Cleared.{plusZero}
-use Rattle.position_iteration.specs.Position.{positionOf}
-use Rattle.position_iteration.specs.Method.{methodOf}
+use Rattle.solve_method.specs.Position.{positionOf}
+use Rattle.solve_method.specs.Method.{methodOf}
 use Rattle.position_delivery.specs.Outcome.{Answer, resultOf, withMultipliers}
 use Rattle.position_delivery.specs.declared.answer.PositionPcgResult.{PositionPcgResult}
 use Rattle.check_range.specs.Closing.{Closing, closingOf}

@@ -13,9 +13,9 @@ use borrow.Author.Tests.{not-true, not-false, eqb-true}
 use Rattle.preconditioner.specs.declared.mode.Mode.{Mode}
 use Rattle.steps.specs.Solve.{solve}
 use Rattle.position.specs.Problem.{Problem}
-use Rattle.position_iteration.specs.Method.{methodOf}
-use Rattle.position_iteration.specs.Places.{Apart}
-use Rattle.position_iteration.proofs.InPlace.{problem-in-place, problem-not-zero}
+use Rattle.solve_method.specs.Method.{methodOf}
+use Rattle.solve_method.specs.Places.{Apart}
+use Rattle.solve_method.proofs.InPlace.{problem-in-place, problem-not-zero}
 use Rattle.position_delivery.specs.Outcome.{Answer, Lent, Outcome, resultOf, proposalOf, outcomeAt, MeaningAt}
 use Rattle.position_delivery.specs.declared.answer.PositionPcg.{PositionPcg}
 use Rattle.position_delivery.specs.declared.answer.PositionPcg.the-variants as answers

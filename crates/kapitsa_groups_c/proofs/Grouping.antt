@@ -16,7 +16,7 @@ use Rattle.loops.proofs.Ranges.{Among, Listed, among-judge}
 use Rattle.kapitsa_joint.specs.declared.kind.Kind.{Kind}
 use Rattle.kapitsa_joint.specs.declared.kind.Kind.the-variants.{Position, Velocity}
 use Rattle.rules.specs.Rules.{Rules}
-use Rattle.position_iteration.specs.Position.{solveFor}
+use Rattle.solve_method.specs.Position.{solveFor}
 use Rattle.group_step.specs.Bench.{Bench, Lending, benchProblem}
 use Rattle.groups_solve.specs.Judged.{wholeTests, groupingOut}
 use Rattle.groups_solve.specs.Solved.{GroupsSolved}

@@ -15,9 +15,9 @@ use Rattle.rules.specs.Rules.{Rules}
 use Rattle.preconditioner.specs.declared.mode.Mode.{Mode}
 use Rattle.position.specs.Problem.{Problem}
 use Rattle.steps.specs.Solve.{solve}
-use Rattle.position_iteration.specs.Method.{methodOf}
-use Rattle.position_iteration.specs.Places.{Apart}
-use Rattle.position_iteration.proofs.InPlace.{problem-not-zero}
+use Rattle.solve_method.specs.Method.{methodOf}
+use Rattle.solve_method.specs.Places.{Apart}
+use Rattle.solve_method.proofs.InPlace.{problem-not-zero}
 use Rattle.position_delivery.specs.Outcome.{Answer, proposalOf}
 use Rattle.position_delivery.specs.declared.answer.PositionPcg.{PositionPcg}
 use Rattle.position_delivery.specs.declared.answer.PositionPcg.the-variants as answers

@@ -5,7 +5,7 @@ ghost use lib.ListN.{length};
 ghost use Rattle.rules.specs.Rows.{rulesIn};
 ghost use Rattle.preconditioner.specs.Mode.{modeOf};
 ghost use Rattle.kapitsa_joint.specs.Kind.{placeOf};
-ghost use Rattle.position_iteration.specs.Position.{positionOf, solveFor};
+ghost use Rattle.solve_method.specs.Position.{positionOf, solveFor};
 ghost use Rattle.work_memory.specs.Work.{workMemory};
 ghost use Rattle.work_memory.specs.Lengths.{passes3};
 ghost use Rattle.solve_by_rules.specs.Ruled.{rulesLent, centresLent, besideLent, SolveRuled};

@@ -17,7 +17,7 @@ use Rattle.kapitsa_joint.specs.Kind.{placeOf, placedOf}
 use Rattle.position.specs.Multipliers.{accumulatedIn}
 use Rattle.kapitsa_joint.specs.declared.kind.Kind.{Kind}
 use Rattle.kapitsa_joint.specs.declared.kind.Kind.the-variants as kinds
-use Rattle.position_iteration.specs.Position.{solveFor}
+use Rattle.solve_method.specs.Position.{solveFor}
 use Rattle.position_delivery.specs.Delivery.{finishedOf}
 use Rattle.position_delivery.specs.Outcome.{Answer, Lent, Outcome, outcomeAt}
 

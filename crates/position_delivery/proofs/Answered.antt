@@ -17,10 +17,10 @@ use Rattle.steps.specs.Solve.{counting, deliver, solve}
 use Rattle.steps.proofs.Answer.{means}
 use Rattle.position.specs.Problem.{Problem, withTests}
 use Rattle.position.specs.Prepare.{rowJudged, validJudged, diagonalsJudged, rowsJudged}
-use Rattle.position_iteration.specs.Method.{openingOf, beginOf, methodOf, Delivered}
+use Rattle.solve_method.specs.Method.{openingOf, beginOf, methodOf, Delivered}
 use Rattle.position_delivery.specs.Delivery.{finishedOf}
 use Rattle.position_delivery.specs.Outcome.{Lent, Outcome, Answer, proposalOf, committedOf, outcomeAt, MeaningAt}
-use Rattle.position_iteration.specs.Counting.{countedOf}
+use Rattle.solve_method.specs.Counting.{countedOf}
 use Rattle.position_delivery.specs.declared.answer.PositionPcg.{PositionPcg}
 use Rattle.position_delivery.specs.declared.answer.PositionPcg.the-variants as answers
 

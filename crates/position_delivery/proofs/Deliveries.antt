@@ -35,7 +35,7 @@ use Rattle.mass_operator.specs.declared.finite.Applied.the-variants as applied
 use Rattle.position.specs.Multipliers.{accumulatedIn, gainOf, gainsFinite, gained}
 use Rattle.position.specs.Centres.{movedBy}
 use Rattle.position.proofs.Moved.{moved-finite-same, moved-flat-same}
-use Rattle.position_iteration.specs.Method.{gainsOf, maximaIn, impulseBy, finishOf, Delivered}
+use Rattle.solve_method.specs.Method.{gainsOf, maximaIn, impulseBy, finishOf, Delivered}
 use Rattle.position_delivery.specs.Outcome.{withAccumulated, resultOf, proposalOf, committedOf}
 use Rattle.position_delivery.specs.Delivery.{movedIn, Judged, Shown, acceptedOf, gainedAfter, committedBy, finishedOf}
 use Rattle.loops.specs.Cleared.{zeros}

@@ -18,7 +18,7 @@ use Rattle.recurrence.specs.Step.{Iterate}
 use Rattle.position.specs.Centres.{movedBy}
 use Rattle.position.specs.Residual.{maximaOf}
 use Rattle.position.specs.Multipliers.{gainsFinite, gained}
-use Rattle.position_iteration.specs.Method.{finishOf}
+use Rattle.solve_method.specs.Method.{finishOf}
 use Rattle.position_delivery.specs.Outcome.{Answer}
 use Rattle.position_delivery.specs.declared.answer.PositionPcg.{PositionPcg}
 use Rattle.position_delivery.specs.declared.answer.PositionPcg.the-variants as answers

@@ -7,7 +7,7 @@ use lib.ListN.{getD, set}
 use lib.Ieee.{Float, nan}
 use Rattle.loops.specs.Run.{Run, going, ended}
 use Rattle.recurrence.specs.Step.{Iterate, Carried}
-use Rattle.position_iteration.specs.Method.{Delivered}
+use Rattle.solve_method.specs.Method.{Delivered}
 use Rattle.steps.specs.Method.{Method}
 use Rattle.steps.specs.Meaning.{Accepted, TurnsBack}
 use Rattle.position_delivery.specs.declared.answer.PositionPcg.{PositionPcg}

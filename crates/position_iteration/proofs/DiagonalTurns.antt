@@ -20,7 +20,7 @@ use Rattle.recurrence.specs.declared.ratio.Scale.{Scale}
 use Rattle.recurrence.specs.declared.ratio.Scale.the-variants as scales
 use Rattle.recurrence.proofs.Together.{renewed, with-refused, with-made}
 use Rattle.position.specs.Residual.{meetsOf}
-use Rattle.position_iteration.specs.Method.{stepsBy}
+use Rattle.solve_method.specs.Method.{stepsBy}
 use Rattle.position_iteration.specs.Standing.{TurnIs, along, stepsAlong, diagonalStepsAlong}
 use Rattle.position_iteration.specs.declared.turn.Turned.{Turned}
 use Rattle.position_iteration.specs.declared.turn.Turned.the-variants as turned

@@ -1,8 +1,4 @@
--- Laws of the loop over the steps, the refusals of a solve, each in its place, and the two kinds.
+-- Laws of the loop over the steps.
 pub mod Fits
 pub mod Turning
 pub mod DiagonalTurns
-pub mod Alike
-pub mod Parts
-pub mod InPlace
-pub mod EitherKind

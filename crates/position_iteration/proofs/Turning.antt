@@ -24,7 +24,7 @@ use Rattle.recurrence.specs.declared.ratio.Scale.the-variants as scales
 use Rattle.position.specs.Residual.{meetsOf}
 use Rattle.steps.specs.Method.{Recurrence}
 use Rattle.steps.specs.Solve.{turn, afterLoop}
-use Rattle.position_iteration.specs.Method.{stepsBy}
+use Rattle.solve_method.specs.Method.{stepsBy}
 use Rattle.position_iteration.specs.Standing.{along, TurnIs, iteratedOut}
 use Rattle.position_iteration.specs.declared.turn.Turned.{Turned}
 use Rattle.position_iteration.specs.declared.turn.Turned.the-variants as turned

@@ -17,7 +17,7 @@ use Rattle.preconditioner.specs.declared.apply.Preconditioner.{Preconditioner}
 use Rattle.recurrence.specs.Step.{Iterate, Carried, updatedOf, advanceOf}
 use Rattle.steps.specs.Method.{Recurrence}
 use Rattle.steps.specs.Solve.{turn}
-use Rattle.position_iteration.specs.Method.{stepsBy}
+use Rattle.solve_method.specs.Method.{stepsBy}
 use Rattle.position_iteration.specs.declared.turn.Turned.{Turned}
 use Rattle.position_iteration.specs.declared.turn.Turned.the-variants as turned
 use Rattle.position_iteration.specs.declared.iteration.Iterated.{Iterated}

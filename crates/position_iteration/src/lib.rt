@@ -1,4 +1,4 @@
-// The parts of the position solve as one method, and its loop over the steps.
+// The loop over the steps of a solve: a step, and what is carried to the next.
 pub mod iteration; // iteration.rt: the loop over the steps
 pub mod turn; // turn.rt: a step, and what is carried to the next
 

@@ -23,7 +23,7 @@ use Rattle.preconditioner.specs.declared.mode.Mode.{Mode}
 use Rattle.position.specs.Problem.{Problem}
 use Rattle.position.specs.Multipliers.{accumulatedIn}
 use Rattle.steps.specs.Solve.{solve}
-use Rattle.position_iteration.specs.Method.{methodOf}
+use Rattle.solve_method.specs.Method.{methodOf}
 use Rattle.position_delivery.specs.Delivery.{committedBy}
 use Rattle.position_delivery.specs.Outcome.{Answer, Lent, Outcome, proposalOf, outcomeOf}
 use Rattle.position_delivery.specs.declared.answer.PositionPcg.{PositionPcg}

@@ -14,9 +14,9 @@ use Rattle.kapitsa_joint.specs.declared.kind.Kind.{Kind}
 use Rattle.preconditioner.specs.Mode.{roomMode}
 use Rattle.preconditioner.specs.declared.mode.Mode.{Mode}
 use Rattle.position.specs.Problem.{Problem}
-use Rattle.position_iteration.specs.Method.{methodOf}
-use Rattle.position_iteration.specs.Places.{Apart}
-use Rattle.position_iteration.proofs.InPlace.{problem-in-place}
+use Rattle.solve_method.specs.Method.{methodOf}
+use Rattle.solve_method.specs.Places.{Apart}
+use Rattle.solve_method.proofs.InPlace.{problem-in-place}
 use Rattle.position_delivery.specs.Outcome.{Lent}
 use Rattle.position_delivery.specs.declared.answer.PositionPcg.{PositionPcg}
 use Rattle.position_delivery.specs.declared.answer.PositionPcg.the-variants as answers

@@ -11,8 +11,8 @@ use Rattle.preconditioner.specs.declared.mode.Mode.{Mode}
 use Rattle.steps.specs.Solve.{solve}
 use Rattle.steps.specs.InPlace.{InPlace}
 use Rattle.position.specs.Problem.{Problem}
-use Rattle.position_iteration.specs.Method.{methodOf}
-use Rattle.position_iteration.specs.Places.{placesOf}
+use Rattle.solve_method.specs.Method.{methodOf}
+use Rattle.solve_method.specs.Places.{placesOf}
 use Rattle.position_delivery.specs.Outcome.{Lent, outcomeAt, MeaningAt}
 use Rattle.position_delivery.specs.declared.answer.PositionPcg.{PositionPcg}
 use Rattle.position_delivery.specs.declared.answer.PositionPcg.the-variants as answers

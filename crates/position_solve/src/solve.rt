@@ -7,7 +7,7 @@ ghost use Rattle.rules.specs.Rows.{rulesIn};
 ghost use Rattle.kapitsa_joint.specs.Kind.{placeOf};
 ghost use Rattle.kapitsa_joint.specs.declared.kind.Kind.the-variants.{Position};
 ghost use Rattle.preconditioner.specs.Mode.{modeOf};
-ghost use Rattle.position_iteration.specs.Position.{positionOf, solveFor};
+ghost use Rattle.solve_method.specs.Position.{positionOf, solveFor};
 ghost use Rattle.position_solve.specs.Job.{jobFits, JobSolved, FactorRoom};
 use crate::fit::job_fits;
 use kapitsa_joint::Kind;

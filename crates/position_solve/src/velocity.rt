@@ -4,7 +4,7 @@ ghost use mathlib.Core.List.{[]};
 ghost use Rattle.rules.specs.Rows.{rulesIn};
 ghost use Rattle.kapitsa_joint.specs.declared.kind.Kind.the-variants.{Velocity};
 ghost use Rattle.preconditioner.specs.Mode.{modeOf};
-ghost use Rattle.position_iteration.specs.Position.{velocityOf};
+ghost use Rattle.solve_method.specs.Position.{velocityOf};
 ghost use Rattle.position_solve.specs.Job.{jobFits, JobSolved};
 use crate::solve::solve_table;
 use kapitsa_joint::Kind;

@@ -24,8 +24,8 @@ use Rattle.rules.specs.Rules.{Rules, ruleCount, ruleFor, passes27}
 use Rattle.rules.specs.Rows.{ruleIn, rowsRuled}
 use Rattle.rules.proofs.Two.{words-fit}
 use Rattle.preconditioner.specs.Shift.{passes25}
-use Rattle.position_iteration.specs.Method.{passes5, afterThree}
-use Rattle.position_iteration.specs.Position.{stepsFor}
+use Rattle.solve_method.specs.Method.{passes5, afterThree}
+use Rattle.solve_method.specs.Position.{stepsFor}
 use Rattle.position_steps.specs.Opening.{opensIn, givenFits}
 use Rattle.position_steps.specs.Ready.{rowReady}
 use Rattle.position_steps.proofs.Openings.{words-four, masses-six, rows-28, rows-five, given-pass}

@@ -34,9 +34,9 @@ use Rattle.kapitsa_joint.specs.declared.kind.Kind.the-variants as kinds
 use Rattle.position.specs.declared.prepare.Begun.{Begun}
 use Rattle.position.specs.declared.prepare.Begun.the-variants as begun
 use Rattle.steps.specs.Solve.{counting}
-use Rattle.position_iteration.specs.Method.{ownerOf, afterThree, factorHere, beginOf, firstOf, methodOf}
-use Rattle.position_iteration.specs.Counting.{countedOf}
-use Rattle.position_iteration.specs.Position.{shiftTests, solveFor, kindOf, stepsFor}
+use Rattle.solve_method.specs.Method.{ownerOf, afterThree, factorHere, beginOf, firstOf, methodOf}
+use Rattle.solve_method.specs.Counting.{countedOf}
+use Rattle.solve_method.specs.Position.{shiftTests, solveFor, kindOf, stepsFor}
 use Rattle.position_iteration.specs.Standing.{iteratedOut}
 use Rattle.position_iteration.specs.Stands.{Stands}
 use Rattle.position_iteration.specs.declared.iteration.Iterated.{Iterated}

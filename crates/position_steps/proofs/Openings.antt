@@ -23,9 +23,9 @@ use Rattle.position.specs.Problem.{Problem, residualTests}
 use Rattle.kapitsa_joint.specs.Kind.{byKind}
 use Rattle.kapitsa_joint.specs.declared.kind.Kind.{Kind}
 use Rattle.kapitsa_joint.specs.declared.kind.Kind.the-variants as kinds
-use Rattle.position_iteration.specs.Method.{passes5, afterThree, openingOf, methodOf}
-use Rattle.position_iteration.specs.Counting.{countedOf}
-use Rattle.position_iteration.specs.Position.{stepsFor}
+use Rattle.solve_method.specs.Method.{passes5, afterThree, openingOf, methodOf}
+use Rattle.solve_method.specs.Counting.{countedOf}
+use Rattle.solve_method.specs.Position.{stepsFor}
 use Rattle.position_steps.specs.Opening.{openedOut, OpenedRuled, opensIn, givenFits}
 use Rattle.position_steps.specs.declared.opening.Opened.{Opened}
 

@@ -29,7 +29,7 @@ use Rattle.position.specs.declared.prepare.Begun.the-variants as begun
 use Rattle.position.proofs.EitherKind.{start-at}
 use Rattle.position.proofs.Rows.{begun-of, rows-passed}
 use Rattle.position.proofs.Same.{begun-same}
-use Rattle.position_iteration.specs.Position.{kindOf}
+use Rattle.solve_method.specs.Position.{kindOf}
 use Rattle.position_steps.specs.Opening.{openedOut, OpenedRuled}
 use Rattle.position_steps.specs.Start.{stepZeroOf, StartHeld}
 use Rattle.position_steps.specs.declared.opening.Opened.{Opened}

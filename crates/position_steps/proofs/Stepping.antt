@@ -25,8 +25,8 @@ use Rattle.position.specs.Residual.{meetsOf}
 use Rattle.position.specs.declared.prepare.Begun.{Begun}
 use Rattle.position.specs.declared.prepare.Begun.the-variants as begun
 use Rattle.steps.specs.Solve.{turn, afterLoop}
-use Rattle.position_iteration.specs.Method.{stepsBy}
-use Rattle.position_iteration.proofs.Alike.{meets-same, same-turns}
+use Rattle.solve_method.specs.Method.{stepsBy}
+use Rattle.solve_method.proofs.Alike.{meets-same, same-turns}
 use Rattle.position_steps.specs.Start.{startOut}
 use Rattle.position_steps.specs.Running.{loopingBy, steppingBy, runningOf, followingOf}
 

@@ -9,7 +9,7 @@ use Rattle.preconditioner.specs.declared.mode.Mode.{Mode}
 use Rattle.position.specs.Problem.{Problem}
 use Rattle.loops.specs.Run.{next}
 use Rattle.steps.specs.Solve.{counting}
-use Rattle.position_iteration.specs.Method.{methodOf}
+use Rattle.solve_method.specs.Method.{methodOf}
 use Rattle.position_iteration.specs.Standing.{iteratedOut}
 use Rattle.position_iteration.specs.Stands.{StandsAfter}
 use Rattle.position_iteration.specs.declared.iteration.Iterated.{Iterated}

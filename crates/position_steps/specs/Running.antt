@@ -13,7 +13,7 @@ use Rattle.preconditioner.specs.declared.mode.Mode.{Mode}
 use Rattle.recurrence.specs.Step.{Iterate, Carried, advanceOf, firstFrom}
 use Rattle.position.specs.Residual.{meetsOf}
 use Rattle.steps.specs.Solve.{turn, afterLoop}
-use Rattle.position_iteration.specs.Method.{stepsBy}
+use Rattle.solve_method.specs.Method.{stepsBy}
 use Rattle.position_iteration.specs.Standing.{StepsFree}
 
 abbrev Steps : Type 0

@@ -4,7 +4,7 @@ ghost use Prim.Native.Nat.{_*_, _≤_};
 ghost use lib.ListN.{length};
 ghost use Rattle.rules.specs.Rows.{rulesIn};
 ghost use Rattle.position.specs.Kinds.{GivenRoom};
-ghost use Rattle.position_iteration.specs.Position.{kindOf};
+ghost use Rattle.solve_method.specs.Position.{kindOf};
 ghost use Rattle.position_steps.specs.Opening.{OpenedRuled};
 ghost use Rattle.position_steps.specs.Start.{StartHeld, StartFree};
 use crate::opening::Opened;

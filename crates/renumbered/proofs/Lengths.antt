@@ -15,7 +15,7 @@ use Rattle.mass_operator.proofs.Flat.{flat-length}
 use Rattle.preconditioner.specs.declared.mode.Mode.{Mode}
 use Rattle.recurrence.specs.Step.{Iterate}
 use Rattle.position.specs.Problem.{Problem}
-use Rattle.position_iteration.specs.Method.{Delivered, finishOf, methodOf}
+use Rattle.solve_method.specs.Method.{Delivered, finishOf, methodOf}
 use Rattle.position_delivery.specs.Outcome.{Lent, MeaningAt}
 use Rattle.position_delivery.specs.declared.answer.PositionPcg.{PositionPcg}
 use Rattle.position_delivery.specs.declared.answer.PositionPcg.the-variants as answers

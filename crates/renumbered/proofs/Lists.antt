@@ -23,8 +23,8 @@ use Rattle.preconditioner.specs.declared.mode.Mode.{Mode}
 use Rattle.position.specs.Problem.{Problem}
 use Rattle.steps.specs.Alike.{delivering}
 use Rattle.steps.specs.Solve.{solve}
-use Rattle.position_iteration.specs.Method.{openingOf, methodOf}
-use Rattle.position_iteration.specs.Position.{solveFor}
+use Rattle.solve_method.specs.Method.{openingOf, methodOf}
+use Rattle.solve_method.specs.Position.{solveFor}
 use Rattle.check_range.specs.Closing.{Closing, closingFor}
 use Rattle.check_measure.specs.Verdict.{reach}
 use Rattle.closing_margins.specs.Margins.{dimensionWord}

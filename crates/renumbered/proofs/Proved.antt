@@ -17,8 +17,8 @@ use Rattle.preconditioner.specs.declared.mode.Mode.{Mode}
 use Rattle.steps.specs.Alike.{delivering}
 use Rattle.steps.specs.Solve.{solve}
 use Rattle.position.specs.Problem.{Problem}
-use Rattle.position_iteration.specs.Method.{methodOf}
-use Rattle.position_iteration.specs.Position.{placedProblem, shiftedProblem, movingProblem}
+use Rattle.solve_method.specs.Method.{methodOf}
+use Rattle.solve_method.specs.Position.{placedProblem, shiftedProblem, movingProblem}
 use Rattle.check_range.specs.Closing.{Closing, closingFor}
 use Rattle.renumbered.specs.Renumber.{Renumbering, InRange, bodiesBy, renumberedRow, renumber, renumberedCentres}
 use Rattle.renumbered.specs.Moved.{moved}

@@ -26,7 +26,7 @@ use Rattle.position.specs.Prepare.{rowJudged, validJudged, diagonalsJudged, row
 use Rattle.steps.specs.Alike.{Alike, delivering}
 use Rattle.steps.specs.Solve.{solve}
 use Rattle.steps.proofs.Alike.{solve-alike}
-use Rattle.position_iteration.specs.Method.{ownerOf, openingOf, factorHere, beginOf, firstOf, gainsOf, maximaIn, impulseBy, finishOf, methodOf}
+use Rattle.solve_method.specs.Method.{ownerOf, openingOf, factorHere, beginOf, firstOf, gainsOf, maximaIn, impulseBy, finishOf, methodOf}
 use Rattle.renumbered.specs.Renumber.{Renumbering, InRange, bodiesBy, renumberedRow, renumber, renumberedCentres}
 use Rattle.renumbered.specs.Moved.{movedImpulses, moved}
 use Rattle.renumbered.proofs.Permuted.{every-permuted}

@@ -9,7 +9,7 @@ use Rattle.kapitsa_joint.specs.declared.maxima.Maxima.{Maxima}
 use Rattle.preconditioner.specs.declared.mode.Mode.{Mode}
 use Rattle.steps.specs.Alike.{delivering}
 use Rattle.steps.specs.Solve.{solve}
-use Rattle.position_iteration.specs.Method.{methodOf}
+use Rattle.solve_method.specs.Method.{methodOf}
 use Rattle.position_delivery.specs.Outcome.{Lent}
 use Rattle.position_delivery.specs.declared.answer.PositionPcg.{PositionPcg}
 use Rattle.position_delivery.specs.declared.answer.PositionPcg.the-variants as answers

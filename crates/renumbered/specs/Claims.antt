@@ -14,8 +14,8 @@ use Rattle.rules.specs.Rules.{Rules, ruledBy}
 use Rattle.preconditioner.specs.declared.mode.Mode.{Mode}
 use Rattle.steps.specs.Alike.{delivering}
 use Rattle.steps.specs.Solve.{solve}
-use Rattle.position_iteration.specs.Method.{methodOf}
-use Rattle.position_iteration.specs.Position.{shiftedProblem, movingProblem}
+use Rattle.solve_method.specs.Method.{methodOf}
+use Rattle.solve_method.specs.Position.{shiftedProblem, movingProblem}
 use Rattle.check_range.specs.Closing.{Closing, closingFor}
 use Rattle.check_measure.specs.Verdict.{radius, reach}
 use Rattle.check_measure.specs.Gap.{gap}

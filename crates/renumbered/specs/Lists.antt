@@ -16,7 +16,7 @@ use Rattle.joint_refusals.specs.Refusals.{centresFinite}
 use Rattle.rules.specs.Rules.{Rules}
 use Rattle.mass_operator.specs.Flat.{coefficients}
 use Rattle.position.specs.Problem.{Problem}
-use Rattle.position_iteration.specs.Position.{solveFor}
+use Rattle.solve_method.specs.Position.{solveFor}
 use Rattle.check_range.specs.Closing.{Closing, closingFor}
 use Rattle.renumbered.specs.Moved.{movedMasses, movedCentres}
 

@@ -4,7 +4,7 @@ use mathlib.Core.List.{List}
 use lib.ListN.{length, getD}
 use lib.Ieee.{Float, nan}
 use Rattle.loops.specs.Tabulate.{tabulate}
-use Rattle.position_iteration.specs.Method.{Delivered}
+use Rattle.solve_method.specs.Method.{Delivered}
 
 -- so many doubles a body: body b has those of its old number
 unfoldable pub movedAlong : ℕ → (ℕ → ℕ) → List Float → List Float

@@ -21,11 +21,11 @@ use Rattle.preconditioner.specs.declared.mode.Mode.{Mode}
 use Rattle.position.specs.Multipliers.{accumulatedIn}
 use Rattle.position.specs.Problem.{Problem}
 use Rattle.recurrence.specs.Step.{Iterate}
-use Rattle.position_iteration.specs.Method.{methodOf, afterThree}
-use Rattle.position_iteration.specs.Places.{Apart}
-use Rattle.position_iteration.specs.Position.{kindOf, solveFor, stepsFor}
-use Rattle.position_iteration.proofs.InPlace.{problem-in-place, position-apart, velocity-apart}
-use Rattle.position_iteration.specs.Counting.{countedOf}
+use Rattle.solve_method.specs.Method.{methodOf, afterThree}
+use Rattle.solve_method.specs.Places.{Apart}
+use Rattle.solve_method.specs.Position.{kindOf, solveFor, stepsFor}
+use Rattle.solve_method.proofs.InPlace.{problem-in-place, position-apart, velocity-apart}
+use Rattle.solve_method.specs.Counting.{countedOf}
 use Rattle.position_iteration.specs.Standing.{iteratedOut}
 use Rattle.position_iteration.specs.declared.iteration.Iterated.{Iterated}
 use Rattle.position_steps.specs.Opening.{openedOut}

@@ -25,8 +25,8 @@ use Rattle.rules.proofs.Ruled.{passes-28}
 use Rattle.preconditioner.specs.declared.mode.Mode.{Mode}
 use Rattle.position.specs.Problem.{Problem}
 use Rattle.position.specs.Kinds.{GivenRoom}
-use Rattle.position_iteration.specs.Method.{openingOf, openingTests, methodOf}
-use Rattle.position_iteration.specs.Position.{solveFor}
+use Rattle.solve_method.specs.Method.{openingOf, openingTests, methodOf}
+use Rattle.solve_method.specs.Position.{solveFor}
 use Rattle.position_delivery.specs.Delivery.{CommitRoom, committedBy}
 use Rattle.position_delivery.specs.Outcome.{Lent, Outcome, proposalOf, outcomeAt}
 use Rattle.position_delivery.specs.declared.answer.PositionPcg.{PositionPcg}

@@ -6,7 +6,7 @@ ghost use Rattle.rules.specs.Rows.{rulesIn};
 ghost use Rattle.preconditioner.specs.Mode.{modeOf};
 ghost use Rattle.kapitsa_joint.specs.Kind.{placeOf, placedOf};
 ghost use Rattle.position.specs.Kinds.{GivenRoom};
-ghost use Rattle.position_iteration.specs.Position.{solveFor};
+ghost use Rattle.solve_method.specs.Position.{solveFor};
 ghost use Rattle.work_memory.specs.Work.{workMemory};
 ghost use Rattle.work_memory.specs.Lengths.{passes3};
 ghost use Rattle.position_delivery.specs.Delivery.{committedBy};

@@ -13,8 +13,8 @@ use Rattle.rules.specs.Rules.{Rules, twoRules}
 use Rattle.preconditioner.specs.Mode.{modeOf}
 use Rattle.steps.specs.Solve.{solve}
 use Rattle.loops.specs.Cleared.{plusZero}
-use Rattle.position_iteration.specs.Position.{solveFor}
-use Rattle.position_iteration.specs.Method.{methodOf}
+use Rattle.solve_method.specs.Position.{solveFor}
+use Rattle.solve_method.specs.Method.{methodOf}
 use Rattle.position_delivery.specs.Outcome.{Lent, Outcome, outcomeAt}
 use Rattle.position_delivery.specs.declared.answer.PositionPcg.{PositionPcg}
 use Rattle.position_delivery.specs.declared.answer.PositionPcg.the-variants as answers

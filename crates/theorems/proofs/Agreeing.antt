@@ -13,8 +13,8 @@ use Rattle.rules.proofs.Agree.{agree}
 use Rattle.rules.proofs.Two.{two-fit, two-ruled, two-tolerance}
 use Rattle.preconditioner.specs.declared.mode.Mode.{Mode}
 use Rattle.steps.specs.Solve.{solve}
-use Rattle.position_iteration.specs.Method.{methodOf}
-use Rattle.position_iteration.specs.Position.{shiftedProblem, movingProblem}
+use Rattle.solve_method.specs.Method.{methodOf}
+use Rattle.solve_method.specs.Position.{shiftedProblem, movingProblem}
 use Rattle.check_range.specs.Closing.{closingOf, speedsOf}
 use Rattle.check_answer.specs.Answer.{checkOf}
 use Rattle.theorems.specs.Below.{AgreeBelow, LooksBelow, TablesAlike, ClosingsAgree}

@@ -19,8 +19,8 @@ use Rattle.joint_refusals.specs.Refusals.{wordsFitOf, isValidOf, opensOf, veloc
 use Rattle.preconditioner.specs.declared.mode.Mode.{Mode}
 use Rattle.preconditioner.specs.declared.mode.Mode.the-variants as modes
 use Rattle.position.specs.Problem.{errorStart, multipliers, positionOpens, accumulatedImpulses, velocityOpens}
-use Rattle.position_iteration.specs.Position.{shiftedProblem, movingProblem}
-use Rattle.position_iteration.specs.Method.{ownerOf}
+use Rattle.solve_method.specs.Position.{shiftedProblem, movingProblem}
+use Rattle.solve_method.specs.Method.{ownerOf}
 use Rattle.check_range.specs.Closing.{rowError, closingOf, speedsOf}
 use Rattle.theorems.specs.Below.{RowsAlike, TablesAlike, CentresAlike, AgreeBelow, ProblemsAgree, ClosingsAgree, LooksBelow, ReadAlike, SameButUnread, MovingButUnread, TablesButUnread, Depends, MovingDepends}
 use Rattle.theorems.proofs.Centres.{centresOf, finite-same}

@@ -47,9 +47,9 @@ use Rattle.position.specs.Prepare.{rowJudged, validJudged, diagonalsJudged, row
 use Rattle.position.specs.Residual.{meetsOf, maximaOf}
 use Rattle.steps.specs.Solve.{solve, counting}
 use Rattle.steps.proofs.Answer.{accepted-iff}
-use Rattle.position_iteration.specs.Position.{shiftTests, placedProblem, shiftedProblem, movingProblem}
-use Rattle.position_iteration.specs.Counting.{countedOf}
-use Rattle.position_iteration.specs.Method.{ownerOf, Delivered, passes5, openingOf, factorHere, beginOf, maximaIn, finishOf, methodOf}
+use Rattle.solve_method.specs.Position.{shiftTests, placedProblem, shiftedProblem, movingProblem}
+use Rattle.solve_method.specs.Counting.{countedOf}
+use Rattle.solve_method.specs.Method.{ownerOf, Delivered, passes5, openingOf, factorHere, beginOf, maximaIn, finishOf, methodOf}
 use Rattle.check_range.specs.Closing.{closingOf, speedsOf}
 use Rattle.check_answer.specs.Answer.{checkOf}
 use Rattle.check_answer.specs.declared.CheckAnswer.{CheckAnswer}

@@ -35,8 +35,8 @@ use Rattle.position.specs.Residual.{meetsOf, maximaOf}
 use Rattle.steps.specs.Alike.{Alike}
 use Rattle.steps.specs.Solve.{solve}
 use Rattle.steps.proofs.Alike.{solve-same}
-use Rattle.position_iteration.specs.Method.{ownerOf, passes5, openingOf, factorHere, beginOf, firstOf, gainsOf, maximaIn, impulseBy, finishOf, methodOf}
-use Rattle.position_iteration.proofs.Alike.{advance-long}
+use Rattle.solve_method.specs.Method.{ownerOf, passes5, openingOf, factorHere, beginOf, firstOf, gainsOf, maximaIn, impulseBy, finishOf, methodOf}
+use Rattle.solve_method.proofs.Alike.{advance-long}
 use Rattle.theorems.specs.Below.{CentresAlike, ProblemsAgree}
 use Rattle.theorems.proofs.Tables.{BodiesBelow, tableWith, fours, sixes, systems-agree, valid-below, valid-same}
 use Rattle.theorems.proofs.Centres.{finite-same, flat-same, moved-alike}

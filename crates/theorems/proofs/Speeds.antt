@@ -41,7 +41,7 @@ use Rattle.check_range.specs.Range.{inRange, vecInRange, matInRange, jacobianIn
 use Rattle.check_measure.specs.Verdict.{sizeOfRow, sizeOfMass, measuredOf, weightOf, radiusFactor, radiusOf, reachOf, valueOf, sizeOf, radius, reach, closes, largestReaches}
 use Rattle.check_answer.specs.Answer.{verdictOf, checkOf}
 use Rattle.steps.specs.Solve.{turn, counting, solve}
-use Rattle.position_iteration.specs.Method.{passes5, openingOf, factorHere, beginOf, firstOf, gainsOf, maximaIn, finishOf}
+use Rattle.solve_method.specs.Method.{passes5, openingOf, factorHere, beginOf, firstOf, gainsOf, maximaIn, finishOf}
 use Rattle.theorems.specs.Sheets.{AllSame}
 use Rattle.theorems.specs.Speeds.{speedSheets}
 

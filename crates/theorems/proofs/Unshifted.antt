@@ -34,8 +34,8 @@ use Rattle.position.specs.Problem.{Problem, positionProblem, velocityProblem, w
 use Rattle.preconditioner.specs.Shift.{one, shiftedBy, shifted, passes25}
 use Rattle.position.specs.Prepare.{rowDiagonal, passes8, isLow, diagonalTests, validTest, rowJudged, validJudged, diagonalsJudged, rowsJudged, preparedDiagonal, diagonals}
 use Rattle.steps.specs.Solve.{solve}
-use Rattle.position_iteration.specs.Method.{methodOf}
-use Rattle.position_iteration.specs.Position.{shiftTests, shiftedProblem, movingProblem}
+use Rattle.solve_method.specs.Method.{methodOf}
+use Rattle.solve_method.specs.Position.{shiftTests, shiftedProblem, movingProblem}
 use Rattle.rounding.proofs.TimesOne.{times-one, one-more}
 use Rattle.theorems.proofs.Centres.{centresOf}
 

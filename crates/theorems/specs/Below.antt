@@ -17,8 +17,8 @@ use Rattle.preconditioner.specs.declared.mode.Mode.{Mode}
 use Rattle.preconditioner.specs.declared.mode.Mode.the-variants as modes
 use Rattle.position.specs.Problem.{Problem}
 use Rattle.steps.specs.Solve.{solve}
-use Rattle.position_iteration.specs.Method.{ownerOf, methodOf}
-use Rattle.position_iteration.specs.Position.{shiftedProblem, movingProblem}
+use Rattle.solve_method.specs.Method.{ownerOf, methodOf}
+use Rattle.solve_method.specs.Position.{shiftedProblem, movingProblem}
 use Rattle.check_range.specs.Closing.{Closing, closingOf, speedsOf}
 use Rattle.check_answer.specs.Answer.{checkOf}
 

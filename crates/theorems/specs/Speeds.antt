@@ -10,7 +10,7 @@ use Rattle.kapitsa_joint.specs.declared.row.ConstraintRow.{ConstraintRow}
 use Rattle.rules.specs.Rules.{ruledBy}
 use Rattle.preconditioner.specs.declared.mode.Mode.{Mode}
 use Rattle.preconditioner.specs.declared.mode.Mode.the-variants as modes
-use Rattle.position_iteration.specs.Position.{movingProblem}
+use Rattle.solve_method.specs.Position.{movingProblem}
 use Rattle.check_range.specs.Closing.{Closing, speedsOf}
 use Rattle.check_measure.specs.Verdict.{radius}
 use Rattle.check_answer.specs.Answer.{checkOf}

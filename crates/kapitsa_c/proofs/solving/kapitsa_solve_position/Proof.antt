@@ -1,6 +1,6 @@
 -- `kapitsa_c::solving::kapitsa_solve_position` meets its contract. Assumes nothing.
 use mathlib.Core.Path.{refl}
-use Rattle.position_iteration.proofs.InPlace.{position-apart}
+use Rattle.solve_method.proofs.InPlace.{position-apart}
 use Rattle.kapitsa_c.proofs.Telling.{told-lengths, told-on, untold}
 use Rattle.kapitsa_c.proofs.solving.kapitsa_solve_position.Statement.{statement}
 use Rattle.kapitsa_c.proofs.solving.kapitsa_solve_position.Tie as tie

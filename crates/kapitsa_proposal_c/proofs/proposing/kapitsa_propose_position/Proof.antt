@@ -4,7 +4,7 @@ use mathlib.Core.Path.{refl}
 use Rattle.kapitsa_joint.specs.declared.kind.Kind.the-variants as kinds
 use Rattle.rules.specs.Rows.{rulesIn}
 use Rattle.preconditioner.specs.Mode.{modeOf}
-use Rattle.position_iteration.proofs.InPlace.{position-apart}
+use Rattle.solve_method.proofs.InPlace.{position-apart}
 use Rattle.solve_by_rules.proofs.Naming.{ruled-three}
 use Rattle.position_proposal.proofs.Entry.{unproposed}
 use Rattle.kapitsa_proposal_c.specs.Proposing.{maximaFit}

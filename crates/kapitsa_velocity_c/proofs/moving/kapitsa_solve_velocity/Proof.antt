@@ -1,6 +1,6 @@
 -- `kapitsa_velocity_c::moving::kapitsa_solve_velocity` meets its contract. Assumes nothing.
 use mathlib.Core.Path.{refl}
-use Rattle.position_iteration.proofs.InPlace.{velocity-apart}
+use Rattle.solve_method.proofs.InPlace.{velocity-apart}
 use Rattle.kapitsa_c.proofs.Telling.{told-lengths, told-on, untold}
 use Rattle.kapitsa_velocity_c.proofs.moving.kapitsa_solve_velocity.Statement.{statement}
 use Rattle.kapitsa_velocity_c.proofs.moving.kapitsa_solve_velocity.Tie as tie

@@ -1,7 +1,7 @@
 -- `position_solve::small::solve_small_position` meets its contract. Assumes nothing.
 use native.Mathlib.Omega.{arith}
 use borrow.Author.Needs.{needs}
-use Rattle.position_iteration.proofs.InPlace.{position-apart}
+use Rattle.solve_method.proofs.InPlace.{position-apart}
 use Rattle.position_solve.proofs.Lending.{counts-within, passed, job-refused, job-passed}
 use Rattle.position_solve.proofs.small.solve_small_position.Statement.{statement}
 use Rattle.position_solve.proofs.small.solve_small_position.Tie as tie

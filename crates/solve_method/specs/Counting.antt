@@ -6,7 +6,7 @@ use Rattle.position.specs.Problem.{Problem}
 use Rattle.preconditioner.specs.declared.mode.Mode.{Mode}
 use Rattle.recurrence.specs.Step.{Iterate}
 use Rattle.steps.specs.Solve.{counting}
-use Rattle.position_iteration.specs.Method.{openingOf, methodOf}
+use Rattle.solve_method.specs.Method.{openingOf, methodOf}
 
 unfoldable pub countedOf : Mode → Problem → ℕ → Run (Bool × ℕ × Iterate) ℕ
 countedOf mode p limit = next (openingOf true p limit) (λ _. counting (methodOf true p mode) limit)

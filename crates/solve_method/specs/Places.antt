@@ -6,7 +6,7 @@ use mathlib.Core.Path.{_≡_}
 use Rattle.loops.specs.Numbers.{numbersOf, once}
 use Rattle.position.specs.Problem.{Problem}
 use Rattle.steps.specs.Numbers.{Places, orderOf}
-use Rattle.position_iteration.specs.Method.{openingTests}
+use Rattle.solve_method.specs.Method.{openingTests}
 
 -- in step 0: 7 to 9, and 10 to 13 where the factor stands before the count 0 test
 abbrev pub beginPlace : Bool → List ℕ

@@ -18,15 +18,15 @@ use Rattle.preconditioner.specs.declared.mode.Mode.{Mode}
 use Rattle.preconditioner.proofs.Numbers.{factor-numbers, z-numbers}
 use Rattle.recurrence.specs.Step.{Carried, Iterate}
 use Rattle.position.specs.Problem.{Problem}
-use Rattle.position_iteration.specs.Position.{shiftedProblem, movingProblem}
+use Rattle.solve_method.specs.Position.{shiftedProblem, movingProblem}
 use Rattle.position.specs.Prepare.{diagonals, diagonalsJudged, rowJudged, rowsJudged, validJudged}
 use Rattle.steps.specs.InPlace.{InPlace}
 use Rattle.steps.specs.Numbers.{Numbers, advancing, orderOf, renewing}
 use Rattle.steps.specs.Solve.{solve}
 use Rattle.steps.proofs.InPlace as steps
-use Rattle.position_iteration.specs.Method.{beginOf, factorHere, firstOf, methodOf, openingOf, openingTests, tableTests, ownerOf}
-use Rattle.position_iteration.specs.Places.{Apart, beginPlace, factorPlace, placesOf, positionPlaces, velocityPlaces}
-use Rattle.position_iteration.proofs.Parts.{advance-numbers, finish-numbers, first-numbers, renew-numbers}
+use Rattle.solve_method.specs.Method.{beginOf, factorHere, firstOf, methodOf, openingOf, openingTests, tableTests, ownerOf}
+use Rattle.solve_method.specs.Places.{Apart, beginPlace, factorPlace, placesOf, positionPlaces, velocityPlaces}
+use Rattle.solve_method.proofs.Parts.{advance-numbers, finish-numbers, first-numbers, renew-numbers}
 
 -- the numbers of tests that come after others
 numbers-after : (l a b : List (ℕ × Bool)) → numbersOf a ≡ numbersOf b → numbersOf (l ++ a) ≡ numbersOf (l ++ b)

@@ -5,7 +5,7 @@ use mathlib.Core.Path.{_≡_, refl}
 use lib.Ieee.{Float}
 use Rattle.rules.specs.Rules.{Rules}
 use Rattle.kapitsa_joint.specs.declared.kind.Kind.the-variants as kinds
-use Rattle.position_iteration.specs.Position.{positionOf, solveFor, velocityOf}
+use Rattle.solve_method.specs.Position.{positionOf, solveFor, velocityOf}
 
 module _ (rows bodies : ℕ) (numbers : List Float) (words : List ℕ) (masses centres residual : List Float) (rules : Rules) (shift : Float) where
   pub position-solve : solveFor kinds.Position rows bodies numbers words masses centres residual rules shift ≡ positionOf rows bodies numbers words masses centres rules shift

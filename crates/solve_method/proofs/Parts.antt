@@ -11,7 +11,7 @@ use Rattle.kapitsa_joint.specs.Table.{Table}
 use Rattle.kapitsa_joint.specs.Centre.{Centres}
 use Rattle.mass_operator.specs.System.{System}
 use Rattle.recurrence.specs.Step.{Iterate, Carried, alphaOf, updatedOf, advanceOf, productFit, firstFrom, betaOf, turnedOf, renewFrom}
-use Rattle.position_iteration.specs.Method.{finishOf}
+use Rattle.solve_method.specs.Method.{finishOf}
 
 -- ---- 14 and 16: s at first, and anew
 module _ (P : ℕ → Type 0) (p14 : P 14) (p16 : P 16) where

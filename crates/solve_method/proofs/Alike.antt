@@ -20,7 +20,7 @@ use Rattle.recurrence.specs.Vectors.{dotProductOf, plusScaled, lessScaled}
 use Rattle.recurrence.specs.Step.{Iterate, Carried, alphaOf, updatedOf, advanceOf, renewFrom}
 use Rattle.position.specs.Residual.{meetsOf}
 use Rattle.steps.specs.Solve.{turn}
-use Rattle.position_iteration.specs.Method.{stepsBy}
+use Rattle.solve_method.specs.Method.{stepsBy}
 
 -- ---- a step's residual is as long as the one before it
 updated-long : (v w : Iterate) (direction product : List Float) (alpha : Float) → updatedOf v direction product alpha ≡ going w → length (w .residual) ≡ length (v .residual)

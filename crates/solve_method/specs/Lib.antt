@@ -1,0 +1,4 @@
+pub mod Method
+pub mod Position
+pub mod Places
+pub mod Counting
