@@ -25,12 +25,12 @@ use Rattle.check_answer.specs.declared.CheckAnswer.the-variants.{Closed, Open, 
 use Rattle.check_work.specs.Work.{CheckMemory}
 use Rattle.closing_check.specs.Beside.{closingIn}
 use Rattle.closing_gaps.specs.Gaps.{gapsLent, gapsBy, GapsHeld}
-use Rattle.closing_margins.specs.Margins.{AllSized, Margins, MarginsOf, dimensionAt, numberAt}
+use Rattle.margins_list.specs.Margins.{AllSized, Margins, MarginsOf, dimensionAt, numberAt}
 use Rattle.closing_margins.specs.Held.{marginsLent, MarginsTold, MarginsHeld, ClosedSized, ClosedListed}
 use Rattle.closing_margins.proofs.Alone.{margin}
 use Rattle.closing_margins.proofs.Sizes.{all-sized, sized-same}
-use Rattle.closing_margins.proofs.Told.{words-dimension, margins-same}
-use Rattle.closing_margins.proofs.Ranked.{margins-are}
+use Rattle.margins_list.proofs.Told.{words-dimension, margins-same}
+use Rattle.margins_list.proofs.Ranked.{margins-are}
 
 -- ---- the three answers differ
 closed-not-refused : {answer : CheckAnswer} {g : Maxima} → answer ≡ Closed g → (n : ℕ) → answer ≡ Refused n → ⊥

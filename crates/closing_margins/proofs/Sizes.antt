@@ -13,8 +13,8 @@ use Rattle.check_measure.specs.Verdict.{reach}
 use Rattle.check_answer.specs.Answer.{CheckMeaning}
 use Rattle.check_answer.specs.declared.CheckAnswer.{CheckAnswer}
 use Rattle.check_answer.specs.declared.CheckAnswer.the-variants.{Refused}
-use Rattle.closing_margins.specs.Margins.{Sized, AllSized}
-use Rattle.closing_margins.proofs.Fractions.{nought-is}
+use Rattle.margins_list.specs.Margins.{Sized, AllSized}
+use Rattle.margins_list.proofs.Fractions.{nought-is}
 
 pub all-sized : {fits : Bool} {c : Closing} {answer : CheckAnswer} → CheckMeaning fits c answer → ((n : ℕ) → answer ≡ Refused n → ⊥) → AllSized (reach c) (c .table .rows)
 all-sized m v = record { sized = m .reaches v }

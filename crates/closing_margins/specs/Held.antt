@@ -13,9 +13,9 @@ use Rattle.check_answer.specs.declared.CheckAnswer.the-variants.{Closed}
 use Rattle.check_work.specs.Work.{CheckMemory}
 use Rattle.closing_check.specs.Checked.{Checked}
 use Rattle.check_alone.specs.Checked.{AloneHeld}
-use Rattle.closing_margins.specs.Margins.{AllSized, Margins, MarginsOf}
+use Rattle.margins_list.specs.Margins.{AllSized, Margins, MarginsOf}
 use Rattle.closing_margins.specs.Alone.{Margin}
-use Rattle.closing_margins.specs.Ranked.{marginRows, marginNumbers}
+use Rattle.margins_list.specs.Ranked.{marginRows, marginNumbers}
 
 -- refusal 3 of the list's two slices: a place a row. It is true where the refusal does not apply.
 unfoldable pub marginsLent : ℕ → ℕ → ℕ → Bool

@@ -1,4 +1,2 @@
-pub mod Margins
 pub mod Alone
-pub mod Ranked
 pub mod Held

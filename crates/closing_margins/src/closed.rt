@@ -2,10 +2,10 @@
 ghost use mathlib.Core.Path.{_≡_};
 ghost use Prim.Native.Nat.{_≤_};
 ghost use lib.ListN.{length};
-ghost use Rattle.closing_margins.specs.Margins.{dimensionAt, numberAt};
+ghost use Rattle.margins_list.specs.Margins.{dimensionAt, numberAt};
 ghost use Rattle.closing_margins.specs.Held.{marginsLent, ClosedSized, ClosedListed};
-use crate::list::list_margins;
 use check_answer::CheckAnswer;
+use margins_list::list_margins;
 
 // A place a row in both of the list's slices: of refusal 3.
 pub fn lists_fit(rows: u32, margin_rows: usize, margins: usize) -> bool

@@ -39,7 +39,7 @@ use Rattle.check_answer.specs.declared.CheckAnswer.{CheckAnswer}
 use Rattle.check_answer.specs.declared.CheckAnswer.the-variants as checks
 use Rattle.check_answer.proofs.Meaning.{refusal-above}
 use Rattle.closing_check.proofs.Held.{lent-above}
-use Rattle.closing_margins.specs.Ranked.{marginRows, marginNumbers}
+use Rattle.margins_list.specs.Ranked.{marginRows, marginNumbers}
 use Rattle.closing_margins.specs.Held.{marginsLent, MarginsAlone}
 use Rattle.job_file.specs.Refusals as refusals
 use Rattle.job_file.specs.Layout.{massesEnd}

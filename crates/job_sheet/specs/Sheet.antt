@@ -27,7 +27,7 @@ use Rattle.check_range.specs.Closing.{Closing, closingOf}
 use Rattle.check_measure.specs.Verdict.{reach}
 use Rattle.check_answer.specs.Answer.{numberOf, gapOf, checkOf}
 use Rattle.check_answer.specs.declared.CheckAnswer.{CheckAnswer}
-use Rattle.closing_margins.specs.Ranked.{marginRows, marginNumbers}
+use Rattle.margins_list.specs.Ranked.{marginRows, marginNumbers}
 use Rattle.first_refusal.specs.Room.{placeIn}
 use Rattle.first_refusal.specs.declared.place.Place.{Place}
 use Rattle.first_refusal.specs.declared.place.Place.the-variants as places

@@ -27,7 +27,7 @@ use Rattle.solve_method.specs.Method.{openingOf, methodOf}
 use Rattle.solve_method.specs.Position.{solveFor}
 use Rattle.check_range.specs.Closing.{Closing, closingFor}
 use Rattle.check_measure.specs.Verdict.{reach}
-use Rattle.closing_margins.specs.Margins.{dimensionWord}
+use Rattle.margins_list.specs.Margins.{dimensionWord}
 use Rattle.check_answer.specs.Answer.{checkOf}
 use Rattle.check_answer.specs.declared.CheckAnswer.the-variants.{Refused}
 use Rattle.theorems.specs.Below.{AgreeBelow, TablesAlike, ClosingsAgree}

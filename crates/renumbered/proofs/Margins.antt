@@ -6,11 +6,11 @@ use native.Mathlib.Omega.{arith}
 use lib.Ieee.{Float}
 use Rattle.check_range.specs.Closing.{Closing}
 use Rattle.check_measure.specs.Verdict.{reach}
-use Rattle.closing_margins.specs.Margins.{AllSized, Margins, MarginsOf, dimensionWord}
-use Rattle.closing_margins.specs.Ranked.{marginRows, marginNumbers}
-use Rattle.closing_margins.proofs.Told.{margins-same}
-use Rattle.closing_margins.proofs.Ranked.{margins-are}
-use Rattle.closing_margins.proofs.Ranks.{margins-hold}
+use Rattle.margins_list.specs.Margins.{AllSized, Margins, MarginsOf, dimensionWord}
+use Rattle.margins_list.specs.Ranked.{marginRows, marginNumbers}
+use Rattle.margins_list.proofs.Told.{margins-same}
+use Rattle.margins_list.proofs.Ranked.{margins-are}
+use Rattle.margins_list.proofs.Ranks.{margins-hold}
 
 module _ (c d : Closing) (n : d .table .rows ≡ c .table .rows) (dimensions : (i : ℕ) → i < c .table .rows → dimensionWord (d .table) i ≡ dimensionWord (c .table) i) (reaches : (i : ℕ) → i < c .table .rows → reach d i ≡ reach c i) where
   -- one list is that of both

@@ -20,8 +20,8 @@ use Rattle.check_range.specs.Closing.{Closing, closingFor}
 use Rattle.check_measure.specs.Verdict.{radius, reach}
 use Rattle.check_measure.specs.Gap.{gap}
 use Rattle.check_answer.specs.Answer.{checkOf}
-use Rattle.closing_margins.specs.Margins.{AllSized}
-use Rattle.closing_margins.specs.Ranked.{marginRows, marginNumbers}
+use Rattle.margins_list.specs.Margins.{AllSized}
+use Rattle.margins_list.specs.Ranked.{marginRows, marginNumbers}
 use Rattle.renumbered.specs.Renumber.{renumber}
 use Rattle.renumbered.specs.Moved.{movedImpulses, movedCentres, moved}
 
