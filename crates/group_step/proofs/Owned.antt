@@ -20,7 +20,7 @@ use Rattle.position.specs.Problem.{Problem}
 use Rattle.solve_method.specs.Position.{solveFor}
 use Rattle.position_delivery.specs.Outcome.{Lent}
 use Rattle.position_delivery.specs.declared.answer.PositionPcg.{PositionPcg}
-use Rattle.position_solve.specs.Job.{jobFits, JobSolved}
+use Rattle.own_memory.specs.Job.{jobFits, JobSolved}
 use Rattle.group_table.specs.Pick.{pickRows}
 use Rattle.group_table.proofs.Picks.{pick-long}
 use Rattle.group_step.specs.Bench.{benchOf}

@@ -15,7 +15,7 @@ use Rattle.position_delivery.specs.declared.answer.PositionPcg.{PositionPcg}
 use Rattle.position_delivery.specs.declared.answer.PositionPcg.the-variants as answers
 use Rattle.position_delivery.proofs.Answered.{entry-means}
 use Rattle.solve_by_rules.specs.Ruled.{namedBy}
-use Rattle.position_solve.specs.Job.{JobSolved}
+use Rattle.own_memory.specs.Job.{JobSolved}
 use Rattle.group_step.specs.Group.{chosen}
 
 -- with these in place of what took the answer

@@ -13,7 +13,7 @@ use Rattle.solve_method.specs.Position.{solveFor}
 use Rattle.position_delivery.specs.Outcome.{Lent}
 use Rattle.position_delivery.specs.declared.answer.PositionPcg.{PositionPcg}
 use Rattle.position_delivery.specs.declared.answer.PositionPcg.the-variants as answers
-use Rattle.position_solve.specs.Job.{JobSolved}
+use Rattle.own_memory.specs.Job.{JobSolved}
 use Rattle.group_table.specs.Pick.{rowsOf, pickRows}
 use Rattle.group_step.specs.Bench.{Bench, Lending}
 use Rattle.group_step.specs.Group.{chosen, linearOf, angularOf, SolvedAlone, GroupSolved}

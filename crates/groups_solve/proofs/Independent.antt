@@ -25,7 +25,7 @@ use Rattle.position_delivery.specs.Outcome.{Lent, Outcome, outcomeAt}
 use Rattle.position_delivery.specs.declared.answer.PositionPcg.{PositionPcg}
 use Rattle.position_delivery.specs.declared.answer.PositionPcg.the-variants as answers
 use Rattle.solve_by_rules.specs.Ruled.{namedBy}
-use Rattle.position_solve.specs.Job.{JobSolved}
+use Rattle.own_memory.specs.Job.{JobSolved}
 use Rattle.groups.specs.Together.{Links, linksOf, joinsOf, bodyA, bodyB, Has, Grouped, Member, Apart}
 use Rattle.group_table.specs.Pick.{rowsOf, pickRows}
 use Rattle.group_table.proofs.Rows.{rows-more, rows-same, in-order}

@@ -27,8 +27,8 @@ use Rattle.solve_by_rules.proofs.Naming.{lent-beside, lent-numbers}
 use Rattle.position.specs.Kinds.{GivenRoom}
 use Rattle.position.specs.Problem.{Problem}
 use Rattle.solve_method.specs.Position.{solveFor}
-use Rattle.position_solve.specs.Job.{jobFits}
-use Rattle.position_solve.proofs.Lending.{counts-within}
+use Rattle.own_memory.specs.Job.{jobFits}
+use Rattle.own_memory.proofs.Lending.{counts-within}
 use Rattle.groups.specs.Together.{linksIn, Linked}
 use Rattle.group_step.specs.Bench.{Bench, benchProblem}
 use Rattle.group_step.specs.Step.{BenchRoom, TableRoom, ToldRoom}

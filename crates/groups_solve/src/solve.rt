@@ -4,7 +4,7 @@ ghost use mathlib.Core.List.{[]};
 ghost use lib.ListN.{length};
 ghost use Rattle.kapitsa_joint.specs.declared.kind.Kind.the-variants.{Position, Velocity};
 ghost use Rattle.rules.specs.Rows.{rulesIn};
-ghost use Rattle.position_solve.specs.Job.{jobFits};
+ghost use Rattle.own_memory.specs.Job.{jobFits};
 ghost use Rattle.group_step.specs.Bench.{benchOf, lendingOf};
 ghost use Rattle.groups_solve.specs.Judged.{groupsLent};
 ghost use Rattle.groups_solve.specs.Solved.{GroupsSolved};
@@ -14,7 +14,7 @@ use crate::judge::Whole;
 use crate::judge::groups_lent;
 use crate::judge::judge_bench;
 use kapitsa_joint::Kind;
-use position_solve::fit::job_fits;
+use own_memory::job_fits;
 
 // Of either kind. Of each group three words at 3g, its refusal or 0, its count and its flag, and two numbers at 2g, its residual maxima; of a refused group these two stay as they were, as do all its numbers.
 pub fn solve_groups(

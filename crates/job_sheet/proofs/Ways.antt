@@ -24,7 +24,7 @@ use Rattle.joint_refusals.specs.Tolerances.{passes26}
 use Rattle.rules.specs.Rules.{ruleLengthsFit, twoRules}
 use Rattle.solve_by_rules.specs.Ruled.{rulesLent, centresLent}
 use Rattle.work_memory.specs.Lengths as lengths
-use Rattle.position_solve.specs.Job.{jobFits, JobSolved}
+use Rattle.own_memory.specs.Job.{jobFits, JobSolved}
 use Rattle.kapitsa_joint.specs.Table.{tableOf}
 use Rattle.kapitsa_joint.specs.Centre.{centresIn}
 use Rattle.joint_refusals.specs.Refusals.{centresFinite}

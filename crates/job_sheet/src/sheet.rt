@@ -20,7 +20,7 @@ use job_file::read_rows;
 use joint_refusals::tolerances_fit;
 use listing::write_refusal;
 use position_delivery::PositionPcg;
-use position_solve::solve_small_position;
+use small_solve::solve_small_position;
 
 // A job that has been read.
 pub fn write_job(

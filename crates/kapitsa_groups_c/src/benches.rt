@@ -5,7 +5,7 @@ ghost use mathlib.Core.List.{[]};
 ghost use lib.ListN.{length};
 ghost use Rattle.kapitsa_joint.specs.declared.kind.Kind.the-variants.{Position, Velocity};
 ghost use Rattle.rules.specs.Rows.{rulesIn};
-ghost use Rattle.position_solve.specs.Job.{jobFits};
+ghost use Rattle.own_memory.specs.Job.{jobFits};
 ghost use Rattle.group_step.specs.Bench.{benchOf, lendingOf};
 ghost use Rattle.groups_solve.specs.Judged.{groupsLent};
 ghost use Rattle.kapitsa_groups_c.specs.Benches.{countFits, benchTold, GroupsTold};

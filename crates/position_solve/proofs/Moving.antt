@@ -11,7 +11,7 @@ use Rattle.preconditioner.specs.declared.mode.Mode.{Mode}
 use Rattle.position.specs.Problem.{Problem}
 use Rattle.position_delivery.specs.Outcome.{Lent}
 use Rattle.position_delivery.specs.declared.answer.PositionPcg.{PositionPcg}
-use Rattle.position_solve.specs.Job.{JobSolved}
+use Rattle.own_memory.specs.Job.{JobSolved}
 
 none : (l : List Float) → length l ≡ 0 → l ≡ []
 none [] e = refl

@@ -5,7 +5,7 @@ ghost use Rattle.rules.specs.Rows.{rulesIn};
 ghost use Rattle.kapitsa_joint.specs.declared.kind.Kind.the-variants.{Velocity};
 ghost use Rattle.preconditioner.specs.Mode.{modeOf};
 ghost use Rattle.solve_method.specs.Position.{velocityOf};
-ghost use Rattle.position_solve.specs.Job.{jobFits, JobSolved};
+ghost use Rattle.own_memory.specs.Job.{jobFits, JobSolved};
 use crate::solve::solve_table;
 use kapitsa_joint::Kind;
 use position_delivery::PositionPcg;

@@ -16,7 +16,7 @@ use Rattle.position_delivery.specs.declared.answer.PositionPcg.{PositionPcg}
 use Rattle.position_delivery.specs.declared.answer.PositionPcg.the-variants as answers
 use Rattle.position_delivery.specs.declared.answer.PositionPcgResult.{PositionPcgResult}
 use Rattle.solve_by_rules.specs.Ruled.{namedBy, SolveRuled}
-use Rattle.position_solve.specs.Job.{JobSolved}
+use Rattle.own_memory.specs.Job.{JobSolved}
 use Rattle.work_memory.specs.Work.{WorkMemory}
 use Rattle.renumbered.specs.Renumber.{Renumbering, InRange}
 use Rattle.renumbered.specs.Moved.{moved}

@@ -19,7 +19,7 @@ use Rattle.position_delivery.specs.declared.answer.PositionPcg.{PositionPcg}
 use Rattle.work_memory.specs.Lengths.{tableFits}
 use Rattle.work_memory.proofs.Lengths.{table-lengths}
 use Rattle.solve_by_rules.specs.Ruled.{rulesLent, centresLent, besideLent}
-use Rattle.position_solve.specs.Job.{jobFits, JobSolved}
+use Rattle.own_memory.specs.Job.{jobFits, JobSolved}
 use Rattle.check_refusals.specs.Refusals.{besideOf, tableLengths}
 use Rattle.check_refusals.specs.declared.fit.TableLengths.{TableLengths}
 use Rattle.check_refusals.proofs.Fitting.{given-of}

@@ -19,7 +19,7 @@ use Rattle.check_answer.specs.declared.CheckAnswer.{CheckAnswer}
 use Rattle.check_answer.specs.declared.CheckAnswer.the-variants.{Closed, Refused}
 use Rattle.kapitsa_joint.specs.Kind.{byKind}
 use Rattle.check_refusals.specs.Refusals.{givenFits, tableLengths}
-use Rattle.position_solve.specs.Job.{jobFits}
+use Rattle.own_memory.specs.Job.{jobFits}
 use Rattle.renumbered.specs.Moved.{movedImpulses, movedCentres, moved}
 use Rattle.renumbered.specs.Lists.{LentJob, solveIn, checkIn, renumberedJob}
 use Rattle.renumbered.specs.Claims.{CheckedAlike}

@@ -16,7 +16,7 @@ use Rattle.position_delivery.specs.Outcome.{Lent}
 use Rattle.position_delivery.specs.declared.answer.PositionPcg.{PositionPcg}
 use Rattle.position_delivery.specs.declared.answer.PositionPcg.the-variants as answers
 use Rattle.position_delivery.specs.declared.answer.PositionPcgResult.{PositionPcgResult}
-use Rattle.position_solve.specs.Job.{JobSolved}
+use Rattle.own_memory.specs.Job.{JobSolved}
 use Rattle.group_table.specs.Pick.{pickRows}
 use Rattle.group_step.specs.Bench.{Bench, Lending, benchTable, groupProblem}
 use Rattle.group_step.specs.Group.{lentTo, refusalOf, countOf, flagOf, linearOf, angularOf, GroupSolved}

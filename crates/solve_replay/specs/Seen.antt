@@ -19,7 +19,7 @@ use Rattle.position_delivery.specs.Outcome.{Lent, Outcome, outcomeAt}
 use Rattle.position_delivery.specs.declared.answer.PositionPcg.{PositionPcg}
 use Rattle.position_delivery.specs.declared.answer.PositionPcg.the-variants as answers
 use Rattle.position_delivery.specs.declared.answer.PositionPcgResult.{PositionPcgResult}
-use Rattle.position_solve.specs.Job.{jobFits}
+use Rattle.own_memory.specs.Job.{jobFits}
 use Rattle.packed_list.specs.Packed.{groupOf}
 use Rattle.solve_replay.specs.Job.{headerOf, doublesOf, rowNumbers, rowWords}
 use Rattle.solve_replay.specs.Compare.{sameDoubles, keptNumbers, sameAnswers, unwrittenOf}

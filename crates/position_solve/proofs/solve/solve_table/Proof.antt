@@ -3,7 +3,7 @@ use native.Mathlib.Omega.{arith}
 use borrow.Author.Needs.{needs}
 use Rattle.rules.specs.Rows.{rulesIn}
 use Rattle.solve_by_rules.proofs.Entry.{solve-apart}
-use Rattle.position_solve.proofs.Lending.{counts-within, passed, job-refused, job-passed}
+use Rattle.own_memory.proofs.Lending.{counts-within, passed, job-refused, job-passed}
 use Rattle.position_solve.proofs.solve.solve_table.Statement.{statement}
 use Rattle.position_solve.proofs.solve.solve_table.Tie as tie
 

@@ -3,7 +3,7 @@ use mathlib.Core.Path.{sym, _∙_}
 use native.Mathlib.Omega.{arith}
 use lib.Seq.{length-take-le}
 use borrow.Author.Needs.{needs}
-use Rattle.position_solve.proofs.Rooms.{owners-within, blocks-within, mode-2, factor-room, no-order}
+use Rattle.own_memory.proofs.Rooms.{owners-within, blocks-within, mode-2, factor-room, no-order}
 use Rattle.position_solve.proofs.solve.with_blocks.Statement.{statement}
 use Rattle.position_solve.proofs.solve.with_blocks.Tie as tie
 

@@ -1,6 +1,6 @@
 -- `position_solve::solve::with_diagonal` meets its contract. Assumes nothing.
 use borrow.Author.Needs.{needs}
-use Rattle.position_solve.proofs.Rooms.{no-factor}
+use Rattle.own_memory.proofs.Rooms.{no-factor}
 use Rattle.position_solve.proofs.solve.with_diagonal.Statement.{statement}
 use Rattle.position_solve.proofs.solve.with_diagonal.Tie as tie
 

@@ -4,7 +4,7 @@ use native.Mathlib.Omega.{arith}
 use lib.Seq.{length-take-le}
 use borrow.Author.Needs.{needs}
 use Rattle.pairs.proofs.Limit.{room-limit}
-use Rattle.position_solve.proofs.Rooms.{pattern-within, order-within, values-within, mode-1, factor-room}
+use Rattle.own_memory.proofs.Rooms.{pattern-within, order-within, values-within, mode-1, factor-room}
 use Rattle.position_solve.proofs.solve.with_factor.Statement.{statement}
 use Rattle.position_solve.proofs.solve.with_factor.Tie as tie
 

@@ -4,7 +4,7 @@ use native.Mathlib.Omega.{arith}
 use lib.ListN.{length}
 use lib.Seq.{length-take-le}
 use borrow.Author.Needs.{needs}
-use Rattle.position_solve.proofs.Lending.{lent-room, job-solved}
+use Rattle.own_memory.proofs.Lending.{lent-room, job-solved}
 use Rattle.position_solve.proofs.solve.with_vectors.Statement.{statement}
 use Rattle.position_solve.proofs.solve.with_vectors.Tie as tie
 

@@ -1,11 +1,11 @@
--- `position_solve::small::with_blocks` meets its contract. Assumes nothing.
+-- `small_solve::with_blocks` meets its contract. Assumes nothing.
 use mathlib.Core.Path.{sym, _∙_}
 use native.Mathlib.Omega.{arith}
 use lib.Seq.{length-take-le}
 use borrow.Author.Needs.{needs}
-use Rattle.position_solve.proofs.Rooms.{owners-within, blocks-within, mode-2, factor-room, no-order}
-use Rattle.position_solve.proofs.small.with_blocks.Statement.{statement}
-use Rattle.position_solve.proofs.small.with_blocks.Tie as tie
+use Rattle.own_memory.proofs.Rooms.{owners-within, blocks-within, mode-2, factor-room, no-order}
+use Rattle.small_solve.proofs.with_blocks.Statement.{statement}
+use Rattle.small_solve.proofs.with_blocks.Tie as tie
 
 pub with-blocks-spec : {M : Type 1} → statement M
 with-blocks-spec =

@@ -1,11 +1,11 @@
--- `position_solve::small::with_factor` meets its contract. Assumes nothing.
+-- `small_solve::with_factor` meets its contract. Assumes nothing.
 use mathlib.Core.Path.{sym, _∙_}
 use native.Mathlib.Omega.{arith}
 use lib.Seq.{length-take-le}
 use borrow.Author.Needs.{needs}
-use Rattle.position_solve.proofs.Rooms.{pairs-small, pattern-within, order-within, values-within, mode-1, factor-room}
-use Rattle.position_solve.proofs.small.with_factor.Statement.{statement}
-use Rattle.position_solve.proofs.small.with_factor.Tie as tie
+use Rattle.own_memory.proofs.Rooms.{pairs-small, pattern-within, order-within, values-within, mode-1, factor-room}
+use Rattle.small_solve.proofs.with_factor.Statement.{statement}
+use Rattle.small_solve.proofs.with_factor.Tie as tie
 
 pub with-factor-spec : {M : Type 1} → statement M
 with-factor-spec =

@@ -12,7 +12,7 @@ use Rattle.loops.specs.Cleared.{plusZero}
 use Rattle.preconditioner.specs.Room.{patternRoom, orderRoom, valuesRoom}
 use Rattle.preconditioner.specs.declared.mode.Mode.{Mode}
 use Rattle.preconditioner.specs.declared.mode.Mode.the-variants as modes
-use Rattle.position_solve.specs.Job.{FactorRoom}
+use Rattle.own_memory.specs.Job.{FactorRoom}
 
 -- ---- no more places than two rows each
 room-all : (n : ℕ) → pairRoom n ≤ n * (n - 1) / 2

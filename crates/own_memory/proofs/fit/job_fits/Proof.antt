@@ -1,8 +1,8 @@
--- `position_solve::fit::job_fits` meets its contract. Assumes nothing.
+-- `own_memory::fit::job_fits` meets its contract. Assumes nothing.
 use borrow.Author.Needs.{needs}
-use Rattle.position_solve.specs.Job.{jobFits}
-use Rattle.position_solve.proofs.fit.job_fits.Statement.{statement}
-use Rattle.position_solve.proofs.fit.job_fits.Tie as tie
+use Rattle.own_memory.specs.Job.{jobFits}
+use Rattle.own_memory.proofs.fit.job_fits.Statement.{statement}
+use Rattle.own_memory.proofs.fit.job_fits.Tie as tie
 
 pub job-fits-spec : {M : Type 1} → statement M
 unfolding jobFits

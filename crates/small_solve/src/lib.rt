@@ -1,4 +1,4 @@
-// The position solve with less stack, of a table of at most 128 rows and 64 bodies: 128 * 127 / 2 = 8,128 pairs at most. It differs from solve.rt in its sizes alone.
+// The position solve with less stack, of a table of at most 128 rows and 64 bodies: 128 * 127 / 2 = 8,128 pairs at most. It differs from position_solve in its sizes alone, and has one kind.
 ghost use mathlib.Core.Path.{_≡_};
 ghost use mathlib.Core.Bool.{true};
 ghost use Prim.Native.Nat.{_≤_};
@@ -7,9 +7,9 @@ ghost use Rattle.rules.specs.Rows.{rulesIn};
 ghost use Rattle.kapitsa_joint.specs.declared.kind.Kind.the-variants.{Position};
 ghost use Rattle.preconditioner.specs.Mode.{modeOf};
 ghost use Rattle.solve_method.specs.Position.{positionOf};
-ghost use Rattle.position_solve.specs.Job.{jobFits, JobSolved, FactorRoom};
-use crate::fit::job_fits;
+ghost use Rattle.own_memory.specs.Job.{jobFits, JobSolved, FactorRoom};
 use kapitsa_joint::Kind;
+use own_memory::job_fits;
 use pcg::solve_position_pcg_prepared;
 use position_delivery::PositionPcg;
 use preconditioner::Mode;

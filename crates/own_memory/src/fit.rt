@@ -1,6 +1,6 @@
 // Refusal 3, of the counts, the mode and the lengths of what a caller lends. True where it does not apply.
 ghost use mathlib.Core.Path.{_≡_};
-ghost use Rattle.position_solve.specs.Job.{jobFits};
+ghost use Rattle.own_memory.specs.Job.{jobFits};
 use joint_refusals::counts_fit;
 use kapitsa_joint::Kind;
 use solve_by_rules::beside_lent;

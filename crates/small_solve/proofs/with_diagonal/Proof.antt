@@ -1,8 +1,8 @@
--- `position_solve::small::with_diagonal` meets its contract. Assumes nothing.
+-- `small_solve::with_diagonal` meets its contract. Assumes nothing.
 use borrow.Author.Needs.{needs}
-use Rattle.position_solve.proofs.Rooms.{no-factor}
-use Rattle.position_solve.proofs.small.with_diagonal.Statement.{statement}
-use Rattle.position_solve.proofs.small.with_diagonal.Tie as tie
+use Rattle.own_memory.proofs.Rooms.{no-factor}
+use Rattle.small_solve.proofs.with_diagonal.Statement.{statement}
+use Rattle.small_solve.proofs.with_diagonal.Tie as tie
 
 pub with-diagonal-spec : {M : Type 1} → statement M
 with-diagonal-spec =

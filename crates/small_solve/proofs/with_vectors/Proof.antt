@@ -1,13 +1,13 @@
--- `position_solve::small::with_vectors` meets its contract. Assumes nothing.
+-- `small_solve::with_vectors` meets its contract. Assumes nothing.
 use mathlib.Core.Path.{refl, sym}
 use native.Mathlib.Omega.{arith}
 use lib.ListN.{length}
 use lib.Seq.{length-take-le}
 use borrow.Author.Needs.{needs}
 use Rattle.kapitsa_joint.specs.declared.kind.Kind.the-variants.{Position}
-use Rattle.position_solve.proofs.Lending.{lent-room, job-solved}
-use Rattle.position_solve.proofs.small.with_vectors.Statement.{statement}
-use Rattle.position_solve.proofs.small.with_vectors.Tie as tie
+use Rattle.own_memory.proofs.Lending.{lent-room, job-solved}
+use Rattle.small_solve.proofs.with_vectors.Statement.{statement}
+use Rattle.small_solve.proofs.with_vectors.Tie as tie
 
 pub with-vectors-spec : {M : Type 1} → statement M
 with-vectors-spec =

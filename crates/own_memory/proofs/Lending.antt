@@ -26,7 +26,7 @@ use Rattle.joint_refusals.specs.Counts.{countsFit}
 use Rattle.work_memory.specs.Lengths.{tableFits, vectorsFit, factorFits, passes3, WorkRoom}
 use Rattle.rules.specs.Rules.{Rules}
 use Rattle.solve_by_rules.specs.Ruled.{rulesLent, besideLent, SolveRuled}
-use Rattle.position_solve.specs.Job.{jobFits, JobSolved, FactorRoom}
+use Rattle.own_memory.specs.Job.{jobFits, JobSolved, FactorRoom}
 
 -- the counts of what has passed
 pub counts-within : (kind : Kind) (n b mode numbers words masses solution impulses centres newCentres ruleWords ruleTolerances ruleNumbers given : ℕ) → jobFits kind n b mode numbers words masses solution impulses centres newCentres ruleWords ruleTolerances ruleNumbers given ≡ true → (n ≤ 512) × (b ≤ 256) × (mode ≤ 2)

@@ -1,10 +1,10 @@
--- `position_solve::small::solve_small_position` meets its contract. Assumes nothing.
+-- `small_solve::solve_small_position` meets its contract. Assumes nothing.
 use native.Mathlib.Omega.{arith}
 use borrow.Author.Needs.{needs}
 use Rattle.solve_method.proofs.InPlace.{position-apart}
-use Rattle.position_solve.proofs.Lending.{counts-within, passed, job-refused, job-passed}
-use Rattle.position_solve.proofs.small.solve_small_position.Statement.{statement}
-use Rattle.position_solve.proofs.small.solve_small_position.Tie as tie
+use Rattle.own_memory.proofs.Lending.{counts-within, passed, job-refused, job-passed}
+use Rattle.small_solve.proofs.solve_small_position.Statement.{statement}
+use Rattle.small_solve.proofs.solve_small_position.Tie as tie
 
 pub solve-small-position-spec : {M : Type 1} → statement M
 solve-small-position-spec =

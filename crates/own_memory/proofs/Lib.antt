@@ -1,0 +1,3 @@
+-- Laws of work memory that a solve has of its own.
+pub mod Lending
+pub mod Rooms
