@@ -27,7 +27,7 @@ pub fn beside_placed(kind: Kind, bodies: u32, beside: &[f64]) -> bool
 }
 
 // Refusals 3, 4, 27, 28, 6, of velocities 20, 7 and 18. `beside` is of positions the centres and of velocities the residual.
-// What is given is only read; rule_numbers are written where there is a verdict; the work memory is +0.0 (integers 0) afterwards, except after refusal 3, which writes nothing.
+// What is given is only read; rule_numbers are written where there is a verdict; the work memory is +0.0 afterwards, except after refusal 3, which writes nothing.
 pub fn check_prepared(
     kind: Kind,
     rows: u32,

@@ -11,12 +11,12 @@ ghost use Rattle.solve_by_rules.specs.Ruled.{rulesLent, centresLent};
 ghost use Rattle.position_proposal.specs.Proposed.{proposalLent, Proposed};
 use kapitsa_joint::Kind;
 use loops::wide;
+use position_delivery::PositionPcg;
+use proposals::note_accepted;
 use solve_by_rules::centres_lent;
 use solve_by_rules::name_accepted;
 use solve_by_rules::propose_by_rules;
 use solve_by_rules::rules_lent;
-use position_delivery::PositionPcg;
-use proposals::note_accepted;
 
 // Refusal 3, of all that is lent beside the table: true where it does not apply.
 fn proposal_lent(
