@@ -38,5 +38,4 @@ add_swap f (inf false) (inf false) = refl
 add_swap f (inf s) (fin t n d) = refl
 add_swap f (fin s m e) nan = refl
 add_swap f (fin s m e) (inf t) = refl
-add_swap f (fin s m e) (fin t n d) = sum_comm f s (m * up e * down d) t (n * up d * down e) (down e * down d) ∙ ap
-    (λ (c : ℕ). sum f t (n * up d * down e) s (m * up e * down d) c) (mul_comm (down e) (down d))
+add_swap f (fin s m e) (fin t n d) = sum_comm f s (m * up e * down d) t (n * up d * down e) (down e * down d) ∙ ap (λ (c : ℕ). sum f t (n * up d * down e) s (m * up e * down d) c) (mul_comm (down e) (down d))

@@ -1,15 +1,16 @@
 -- The ways through the functions that make a block's factor. Assumes nothing.
-use Prim.Native.Nat.{ℕ, ◌+◌, ◌*◌, ◌-◌, ◌<◌, ◌≤◌}
+use Prim.Native.Nat.{ℕ, zero, suc, ◌+◌, ◌*◌, ◌-◌, ◌<◌, ◌≤◌}
 use mathlib.Core.Path.{◌≡◌, refl, sym, ap, ◌∙◌}
-use mathlib.Core.Bool.{Bool, true, false, not}
+use mathlib.Core.Bool.{Bool, true, false, not, ◌&&◌, cond}
 use mathlib.Core.List.{List}
 use native.Mathlib.Numerals.{add-one}
 use native.Mathlib.Omega.{arith}
+use lib.Dec.{eqb}
 use lib.ListN.{get_or, set, length}
 use lib.Ieee.{Float, nan, binary64, add, sub, mul, div, le}
 use lib.Ieee.Scale.{finite}
-use borrow.Author.Tests.{eq-eqb, ne_eqb, not-false}
-use Rattle.loops.specs.Run.{Run, going, ended}
+use borrow.Author.Tests.{eq-eqb, ne_eqb, not-true, not-false}
+use Rattle.loops.specs.Run.{Run, going, ended, turns, check, on, next}
 use Rattle.loops.proofs.Loop.{check_pass, check_fail, on_going, on_ended}
 use Rattle.binary64.specs.Order.{min_positive}
 use Rattle.binary64.specs.Answer.{root_of}
@@ -17,7 +18,7 @@ use Rattle.kapitsa_joint.specs.Mass.{mass_of, cross_of}
 use Rattle.kapitsa_joint.specs.declared.row.RowJacobian.{RowJacobian}
 use Rattle.kapitsa_joint.specs.declared.mass.SolverMass.{SolverMass}
 use Rattle.compact_table.specs.Compact.{compact_of}
-use Rattle.mass_operator.specs.System.{System}
+use Rattle.mass_operator.specs.System.{System, compact_system}
 use Rattle.compact_table.specs.Compact.{Linked}
 use Rattle.sparse.specs.Count.{count}
 use Rattle.sparse.specs.Cholesky.{fit, root_value}
@@ -43,8 +44,7 @@ module _ {S : Type 0} {f : ℕ → S → S} {s : S} {n : ℕ} where
   pub counts_end : {i : ℕ} {t : S} → Counts f s n i t → n ≤ i → t ≡ count f s n
   counts_end {i} {t} h l = let e : i ≡ n = omega arith in rw e at h.led
 
-pub less_turn_lem : (l : List Float) (row column k : ℕ) (v : Float)
-    → sub binary64 v (mul binary64 (get_or l (row * 6 + k) nan) (get_or l (column * 6 + k) nan)) ≡ block_less l row column k v
+pub less_turn_lem : (l : List Float) (row column k : ℕ) (v : Float) → sub binary64 v (mul binary64 (get_or l (row * 6 + k) nan) (get_or l (column * 6 + k) nan)) ≡ block_less l row column k v
 unfolding block_less
 less_turn_lem l row column k v = refl
 
@@ -83,8 +83,7 @@ module _ (s : System) (start row column : ℕ) (l : List Float) (p q : RowJacobi
   unfolding cell_run
   at_eleven h = rw (← ep, ← eq) (check_fail _ _ _ et h refl)
 
-  pub at_cell : (u v : Float) {o : Run Float ℕ} → not t ≡ false → u ≡ block_value s.mass p q → v ≡ less_of l row column u
-      → cell_of l row column v ≡ o → cell_run s start row column l ≡ o
+  pub at_cell : (u v : Float) {o : Run Float ℕ} → not t ≡ false → u ≡ block_value s.mass p q → v ≡ less_of l row column u → cell_of l row column v ≡ o → cell_run s start row column l ≡ o
   unfolding cell_run
   at_cell u v h eu ev e = rw (← ep, ← eq, ← eu, ← ev) (check_pass _ _ _ et h e)
 

@@ -1,5 +1,5 @@
 -- The ways through the solves on the stretch of one block. Assumes nothing.
-use Prim.Native.Nat.{ℕ, ◌+◌, ◌*◌, ◌-◌, ◌≤◌}
+use Prim.Native.Nat.{ℕ, zero, suc, ◌+◌, ◌*◌, ◌-◌, ◌<◌, ◌≤◌}
 use mathlib.Core.Path.{◌≡◌, refl, sym, ap, ◌∙◌}
 use mathlib.Core.Bool.{Bool, true, false, not}
 use mathlib.Core.List.{List, ◌++◌, append-nil}
@@ -8,7 +8,7 @@ use lib.ListN.{get_or, set, length, take, drop, drop_of_length-le}
 use lib.Seq.{take_all, length-take-le}
 use lib.Ieee.{Float, nan, binary64, sub, mul, div}
 use lib.Ieee.Scale.{finite}
-use Rattle.loops.specs.Run.{Run, going, ended}
+use Rattle.loops.specs.Run.{Run, going, ended, turns, check}
 use Rattle.loops.proofs.Loop.{check_pass, check_fail}
 use Rattle.sparse.specs.Count.{count}
 use Rattle.triangular.specs.Answers.{solve_out}
@@ -25,15 +25,12 @@ pub forward_turn_lem : (l residual y : List Float) (row : ℕ) (v : Float) → v
 unfolding block_forward_turn
 forward_turn_lem l residual y row v e = rw e
 
-pub backward_less : (l y : List Float) (row k : ℕ) (v : Float)
-    → sub binary64 v (mul binary64 (get_or l ((row + 1 + k) * 6 + row) nan) (get_or y (row + 1 + k) nan)) ≡ block_backward_less l y row k v
+pub backward_less : (l y : List Float) (row k : ℕ) (v : Float) → sub binary64 v (mul binary64 (get_or l ((row + 1 + k) * 6 + row) nan) (get_or y (row + 1 + k) nan)) ≡ block_backward_less l y row k v
 unfolding block_backward_less
 backward_less l y row k v = refl
 
 -- `backward_at`
-module _ (l y : List Float) (row len : ℕ) (v : Float) (t : Bool)
-    (e : v ≡ count (block_backward_less l y row) (get_or y row nan) (len - 1 - row))
-    (et : t ≡ finite (div binary64 v (get_or l (row * 6 + row) nan))) where
+module _ (l y : List Float) (row len : ℕ) (v : Float) (t : Bool) (e : v ≡ count (block_backward_less l y row) (get_or y row nan) (len - 1 - row)) (et : t ≡ finite (div binary64 v (get_or l (row * 6 + row) nan))) where
   pub back_on : not t ≡ false → block_backward_of l len row y ≡ going (set y row (div binary64 v (get_or l (row * 6 + row) nan)))
   unfolding block_backward_of
   back_on h = rw (← e) (check_pass _ _ _ et h refl)
@@ -53,9 +50,7 @@ module _ (l y y' : List Float) (len m t : ℕ) (r : Solved) (called : block_back
   backs_out told = rw (← e) (rw (← e) at called ∙ rw told)
 
 -- `solve_rows`: y₁ is what the forward solve made of y
-pub block_solved : (l residual y y₁ : List Float) {o : Run (List Float) (List Float)}
-    → y₁ ≡ count (block_forward_turn l residual) y (length residual) → block_backward_run l (length y₁) y₁ ≡ o → length y₁ ≡ length y
-    → length residual ≡ length y → block_solve_run l residual y ≡ o
+pub block_solved : (l residual y y₁ : List Float) {o : Run (List Float) (List Float)} → y₁ ≡ count (block_forward_turn l residual) y (length residual) → block_backward_run l (length y₁) y₁ ≡ o → length y₁ ≡ length y → length residual ≡ length y → block_solve_run l residual y ≡ o
 unfolding block_solve_run
 block_solved l residual y y₁ e h k m = let em : length y₁ ≡ length residual = k ∙ sym m in rw (← e, ← em) h
 
@@ -72,7 +67,5 @@ first_few y n e h = rw (first_long y n e) (omega arith)
 pub first_alike : (x y : List Float) (n : ℕ) → length x ≡ length y → length y ≡ n → length (take n x) ≡ length (take n y)
 first_alike x y n h e = first_like x y n h e ∙ sym (first_long y n e)
 
-pub rows_solved : (l residual y z : List Float) (n : ℕ) (r : Solved) → length y ≡ n → length residual ≡ length y
-    → block_solve_run l (take n residual) (take n y) ≡ solve_out r z → block_solve_run l residual y ≡ solve_out r (z ++ drop n y)
-rows_solved l residual y z n r e h called = rw (take_all n residual (omega arith), take_all n y (omega arith)) at called ∙ ap (solve_out r)
-    (sym (rw (drop_of_length-le y {i = n} (omega arith)) (append-nil z)))
+pub rows_solved : (l residual y z : List Float) (n : ℕ) (r : Solved) → length y ≡ n → length residual ≡ length y → block_solve_run l (take n residual) (take n y) ≡ solve_out r z → block_solve_run l residual y ≡ solve_out r (z ++ drop n y)
+rows_solved l residual y z n r e h called = rw (take_all n residual (omega arith), take_all n y (omega arith)) at called ∙ ap (solve_out r) (sym (rw (drop_of_length-le y {i = n} (omega arith)) (append-nil z)))

@@ -1,6 +1,7 @@
 // One number of the factor of a block: the inmost loop of build_velocity_block_jacobi_preconditioner of pcg.rs.
-ghost use Rattle.std.specs.Prelude.{◌≡◌, ◌+◌, ◌*◌, ◌<◌, ◌≤◌, length};
+ghost use Rattle.std.specs.Prelude.{◌≡◌, ◌+◌, ◌*◌, ◌<◌, ◌≤◌, length, set};
 ghost use Rattle.kapitsa_joint.specs.Mass.{mass_of};
+ghost use Rattle.compact_table.specs.Compact.{compact_of};
 ghost use Rattle.mass_operator.specs.System.{compact_system};
 ghost use Rattle.compact_table.specs.Compact.{Linked};
 ghost use Rattle.block_factor.specs.Blocks.{block_value, one_pair, less_of, cell_of};
@@ -96,10 +97,7 @@ pub fn cell_at(
     requires rows_in_bounds { (12 * rows ≤ length jacobians.now) × (2 * rows ≤ length links.now) × (10 * bodies ≤ length masses.now) }
     requires linked { Linked links.now rows bodies }
     requires row_bound { (row < 6) × (column ≤ row) × (start + row < rows) }
-    ensures { cell_run
-        (compact_system rows bodies jacobians.now links.now masses.now) start row
-        column lower.now
-        ≡ cell_out result }
+    ensures { cell_run (compact_system rows bodies jacobians.now links.now masses.now) start row column lower.now ≡ cell_out result }
 {
     let p = compact_at(jacobians, links, start + row);
     let q = compact_at(jacobians, links, start + column);

@@ -1,5 +1,6 @@
 // The solves of one block, on its own stretch of the output: apply_block_jacobi_preconditioner of pcg.rs.
-ghost use Rattle.std.specs.Prelude.{◌≡◌, ◌+◌, ◌*◌, ◌-◌, ◌<◌, ◌≤◌, length};
+ghost use Rattle.std.specs.Prelude.{◌≡◌, ◌+◌, ◌*◌, ◌-◌, ◌<◌, ◌≤◌, length, get_or, set};
+ghost use Rattle.std.specs.Float.{nan};
 ghost use Rattle.sparse.specs.Count.{count};
 ghost use Rattle.triangular.specs.Answers.{solve_out};
 ghost use Rattle.block_factor.specs.Solves.{block_forward_less, block_forward_turn, block_backward_less, block_backward_of, block_backward_run, block_solve_run};
@@ -22,9 +23,7 @@ fn less_earlier(value: f64, lower: &[f64], part: &[f64], row: usize) -> f64
 
 fn forward(lower: &[f64], residual: &[f64], part: &mut [f64])
     requires { (length lower.now ≡ 36) × (length part.old ≤ 6) × (length residual.now ≡ length part.old) }
-    ensures { part.new
-        ≡ count (block_forward_turn lower.now residual.now) part.old
-        (length residual.now) }
+    ensures { part.new ≡ count (block_forward_turn lower.now residual.now) part.old (length residual.now) }
 {
     let mut row = 0;
     while row < residual.len() {
@@ -51,8 +50,7 @@ fn less_later(value: f64, lower: &[f64], part: &[f64], row: usize, below: usize)
 
 fn backward_at(lower: &[f64], part: &mut [f64], row: usize) -> Solved
     requires { (length lower.now ≡ 36) × (length part.old ≤ 6) × (row < length part.old) }
-    ensures { block_backward_of lower.now (length part.old) row part.old
-        ≡ solve_out result part.new }
+    ensures { block_backward_of lower.now (length part.old) row part.old ≡ solve_out result part.new }
 {
     let below = part.len() - 1 - row;
     let value = less_later(part[row], lower, part, row, below) / lower[row * 6 + row];
@@ -65,8 +63,7 @@ fn backward_at(lower: &[f64], part: &mut [f64], row: usize) -> Solved
 
 fn backward(lower: &[f64], part: &mut [f64]) -> Solved
     requires { (length lower.now ≡ 36) × (length part.old ≤ 6) }
-    ensures { block_backward_run lower.now (length part.old) part.old
-        ≡ solve_out result part.new }
+    ensures { block_backward_run lower.now (length part.old) part.old ≡ solve_out result part.new }
 {
     let len = part.len();
     let mut t = 0;

@@ -1,5 +1,5 @@
 -- What the lent memory holds where no block was refused: every block, and runs of at most six rows. Assumes nothing.
-use Prim.Native.Nat.{ℕ, suc, ◌+◌, ◌*◌, ◌-◌, ◌<◌, ◌≤◌}
+use Prim.Native.Nat.{ℕ, zero, suc, ◌+◌, ◌*◌, ◌-◌, ◌<◌, ◌≤◌}
 use mathlib.Core.Path.{◌≡◌, refl, sym, ap, ◌∙◌}
 use mathlib.Core.Bool.{Bool, true, false}
 use mathlib.Core.List.{List, ◌++◌}
@@ -7,11 +7,11 @@ use mathlib.Core.Logic.{◌⊎◌, inl, inr}
 use native.Mathlib.Nat.{eq-or-lt_of_le}
 use native.Mathlib.Omega.{arith}
 use lib.Dec.{leb}
-use lib.ListN.{length, take, drop, set, length-append, length-drop, length-set, take-append-drop}
-use lib.Seq.{length-take-le, take_at, drop_at, take-append-le, drop-append-le}
+use lib.ListN.{length, take, drop, set, length-append, length-drop, length-set, length-replicate, take-append-drop}
+use lib.Seq.{length-take-le, take_at, drop_at, take-append-le, drop-append-le, drop-drop}
 use lib.Ieee.{Float}
 use borrow.Author.Tests.{leb-true}
-use Rattle.loops.specs.Run.{Run, going, ended, on, check}
+use Rattle.loops.specs.Run.{Run, going, ended, on, turns, check}
 use Rattle.mass_operator.specs.System.{System}
 use Rattle.block_factor.specs.Answers.{cell_run, block_column_turn, block_row_turn, rows_run, no_numbers, block_of}
 use Rattle.block_jacobi.specs.Runs.{begins, run_length, RunsFit}
@@ -34,15 +34,7 @@ module _ (l z : List Float) (a n : ℕ) where
 
   pub put_length : a + n ≤ length l → length z ≡ n → length (put_stretch l a n z) ≡ length l
   unfolding put_stretch
-  put_length h e = rw (
-    length-append (take a l) (z ++ drop n (drop a l)),
-    length-append z (drop n (drop a l)),
-    length-take-le a l (omega arith),
-    e,
-    length-drop n (drop a l),
-    length-drop a l,
-  )
-      (omega arith)
+  put_length h e = rw (length-append (take a l) (z ++ drop n (drop a l)), length-append z (drop n (drop a l)), length-take-le a l (omega arith), e, length-drop n (drop a l), length-drop a l) (omega arith)
 
 -- ---- a block has 36 numbers, and its run at most six rows
 column_long : (s : System) (start row column : ℕ) (t u : List Float) → block_column_turn s start row column t ≡ going u → length u ≡ length t
@@ -111,11 +103,7 @@ module _ (s : System) (owner : ℕ → ℕ) (l : List Float) (room : 36 * s.rows
 
       keep : KeptTo (suc k) (put_block t k b)
       unfolding put_block
-      keep =
-          record {
-            long = put_length t b (36 * k) 36 (omega (arith, h.long)) (block_long s k (run_length owner k s.rows) b made) ∙ h.long;
-            blocks = λ i g q. each i (eq-or-lt_of_le (below i g)) q;
-          }
+      keep = record { long = put_length t b (36 * k) 36 (omega (arith, h.long)) (block_long s k (run_length owner k s.rows) b made) ∙ h.long; blocks = λ i g q. each i (eq-or-lt_of_le (below i g)) q }
         where
           below : (i : ℕ) → i < suc k → i ≤ k
           below i g = omega arith
@@ -124,19 +112,12 @@ module _ (s : System) (owner : ℕ → ℕ) (l : List Float) (room : 36 * s.rows
           each i (inl z) q = rw z (made ∙ ap going (sym here))
           each i (inr g) q = h.blocks i g q ∙ ap going (sym (before i g))
 
-    by_block : (r : Run (List Float) ℕ) → block_of s k (run_length owner k s.rows) ≡ r → (u : List Float)
-        → on {R = Run (List Float) (ℕ × List Float)} r (λ b. going (put_block t k b)) (λ n. ended (n, t)) ≡ going u → KeptTo (suc k) u
+    by_block : (r : Run (List Float) ℕ) → block_of s k (run_length owner k s.rows) ≡ r → (u : List Float) → on {R = Run (List Float) (ℕ × List Float)} r (λ b. going (put_block t k b)) (λ n. ended (n, t)) ≡ going u → KeptTo (suc k) u
     unfolding on
     by_block (going b) e u q = let z : put_block t k b ≡ u = cc in rw (← z) (keep b e)
     by_block (ended n) e u q = unlike (n, t) u q
 
-    by_run : (c : Bool) → begins owner k ≡ c → (u : List Float)
-        → check c
-        (on {R = Run (List Float) (ℕ × List Float)} (block_of s k (run_length owner k s.rows)) (λ b. going (put_block t k b))
-        (λ n. ended (n, t)))
-        (going t)
-        ≡ going u
-        → KeptTo (suc k) u
+    by_run : (c : Bool) → begins owner k ≡ c → (u : List Float) → check c (on {R = Run (List Float) (ℕ × List Float)} (block_of s k (run_length owner k s.rows)) (λ b. going (put_block t k b)) (λ n. ended (n, t))) (going t) ≡ going u → KeptTo (suc k) u
     unfolding check
     by_run true e u q = by_block (block_of s k (run_length owner k s.rows)) refl u q
     by_run false e u q = let z : t ≡ u = cc in rw (← z) (pass e)

@@ -1,7 +1,7 @@
 -- Where a run of rows with one owner ends. Assumes nothing.
-use Prim.Native.Nat.{ℕ, ◌+◌, ◌-◌, ◌<◌, ◌≤◌}
-use mathlib.Core.Path.{◌≡◌, refl, sym, ◌∙◌}
-use mathlib.Core.Bool.{Bool}
+use Prim.Native.Nat.{ℕ, zero, suc, ◌+◌, ◌-◌, ◌<◌, ◌≤◌}
+use mathlib.Core.Path.{◌≡◌, refl, sym, ap, ◌∙◌}
+use mathlib.Core.Bool.{Bool, true, false, ◌&&◌, cond}
 use mathlib.Core.List.{List}
 use native.Mathlib.Decide.{le_ind}
 use native.Mathlib.Numerals.{add-one}
@@ -28,15 +28,13 @@ pub owned_more : (l : List ℕ) (start n k : ℕ) → Owned l start n k → k < 
 unfolding leading
 owned_more l start n k h lt e = record { within = omega arith; led = rw (add-one k, h.led, eq-eqb k k refl, eq-eqb (get_or l (start + k) 0) (get_or l start 0) e) }
 
-pub owned_stop : (l : List ℕ) (start n k : ℕ) → Owned l start n k → k < n → (get_or l (start + k) 0 ≡ get_or l start 0 → ⊥)
-    → leading (λ k. eqb (get_or l (start + k) 0) (get_or l start 0)) n ≡ k
+pub owned_stop : (l : List ℕ) (start n k : ℕ) → Owned l start n k → k < n → (get_or l (start + k) 0 ≡ get_or l start 0 → ⊥) → leading (λ k. eqb (get_or l (start + k) 0) (get_or l start 0)) n ≡ k
 unfolding leading
 owned_stop l start n k h lt e = le_ind (λ m. leading (λ k. eqb (get_or l (start + k) 0) (get_or l start 0)) m ≡ k)
     (rw (h.led, eq-eqb k k refl, ne_eqb (get_or l (start + k) 0) (get_or l start 0) e))
     (λ m b q. rw (q, ne_eqb k m (λ z. omega arith))) n lt
 
-pub run_stop : (l : List ℕ) (start n k : ℕ) → start < length l → Owned l start n k → k < n → (get_or l (start + k) 0 ≡ get_or l start 0 → ⊥)
-    → n ≡ length l - start → RunIs (λ i. get_or l i 0) start (length l) k
+pub run_stop : (l : List ℕ) (start n k : ℕ) → start < length l → Owned l start n k → k < n → (get_or l (start + k) 0 ≡ get_or l start 0 → ⊥) → n ≡ length l - start → RunIs (λ i. get_or l i 0) start (length l) k
 unfolding run_length
 run_stop l start n k s h lt e en = run_is (λ i. get_or l i 0) start (length l) k s (rw (← en) (sym (owned_stop l start n k h lt e)))
 

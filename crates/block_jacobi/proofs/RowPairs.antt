@@ -1,15 +1,17 @@
 -- The loop over the row pairs of one run, and a turn of the loop over the runs. Assumes nothing.
-use Prim.Native.Nat.{ℕ, ◌+◌, ◌*◌, ◌-◌, ◌<◌, ◌≤◌}
-use mathlib.Core.Path.{◌≡◌, refl, ◌∙◌}
-use mathlib.Core.Bool.{true}
+use Prim.Native.Nat.{ℕ, zero, suc, ◌+◌, ◌*◌, ◌-◌, ◌<◌, ◌≤◌}
+use mathlib.Core.Path.{◌≡◌, refl, sym, ap, ◌∙◌}
+use mathlib.Core.Bool.{Bool, true, false, cond}
 use mathlib.Core.List.{List}
+use native.Mathlib.Decide.{le_ind}
 use native.Mathlib.Numerals.{add-one}
 use native.Mathlib.Omega.{arith}
-use lib.ListN.{set}
+use lib.Dec.{leb}
+use lib.ListN.{set, length}
 use lib.Ieee.{Float}
 use borrow.Author.Tests.{le-leb, lt-leb}
-use Rattle.loops.specs.Run.{going, ended, turns, check}
-use Rattle.loops.proofs.Loop.{on_going, on_ended, at_stop, at_end}
+use Rattle.loops.specs.Run.{Run, going, ended, on, turns, check}
+use Rattle.loops.proofs.Loop.{on_going, on_ended, At, at_more, at_stop, at_end, at_none}
 use Rattle.mass_operator.specs.System.{System}
 use Rattle.block_factor.specs.Answers.{cell_run, block_column_turn, block_row_turn, rows_run, no_numbers, block_of, cell_out}
 use Rattle.block_factor.specs.declared.block.Cell.{Cell}
@@ -37,15 +39,7 @@ module _ (s : System) (start len : ℕ) where
   module _ {row column : ℕ} {l : List Float} (h : Pairs s start len row column l) (lt : row < len) where
     pub pairs_column : {m : List Float} → block_column_turn s start row column l ≡ going m → column < row → Pairs s start len row (column + 1) m
     unfolding turns
-    pairs_column e g =
-        record {
-          within = h.within;
-          triangle = omega arith;
-          fresh = λ g. absurd (omega arith);
-          above = h.above;
-          rows = h.rows;
-          columns = rw (add-one column) (on_going _ _ _ h.columns ∙ e);
-        }
+    pairs_column e g = record { within = h.within; triangle = omega arith; fresh = λ g. absurd (omega arith); above = h.above; rows = h.rows; columns = rw (add-one column) (on_going _ _ _ h.columns ∙ e) }
 
     whole_row : {m : List Float} → block_column_turn s start row column l ≡ going m → row ≤ column → block_row_turn s start row h.above ≡ going m
     unfolding block_row_turn turns

@@ -1,7 +1,7 @@
 -- Runs of one owner, and a loop that goes from the beginning of each to that of the next. Assumes nothing.
 use Prim.Native.Nat.{ℕ, zero, suc, ◌+◌, ◌-◌, ◌<◌, ◌≤◌}
 use mathlib.Core.Path.{◌≡◌, refl, sym, ap, subst, ◌∙◌}
-use mathlib.Core.Bool.{Bool, true, false, ◌&&◌, cond}
+use mathlib.Core.Bool.{Bool, true, false, not, ◌&&◌, cond}
 use mathlib.Core.Logic.{◌⊎◌, inl, inr}
 use native.Mathlib.Decide.{le_ind, dec_lt}
 use native.Mathlib.Nat.{eq-or-lt_of_le}
@@ -9,7 +9,7 @@ use native.Mathlib.Omega.{arith}
 use lib.Dec.{eqb}
 use borrow.Author.Tests.{eq-eqb, ne_eqb, eqb-true, eqb-false}
 use Rattle.loops.specs.Run.{Run, going, ended, turns}
-use Rattle.loops.proofs.Loop.{on_going, on_ended}
+use Rattle.loops.proofs.Loop.{on_going, on_ended, loops}
 use Rattle.loops.proofs.Both.{both}
 use Rattle.sparse.proofs.Hop.{glide}
 use Rattle.block_jacobi.specs.Runs.{begins, leading, run_length, RunIs}
@@ -52,8 +52,7 @@ module _ (p : ℕ → Bool) where
   leading_fails zero h = absurd (omega arith)
   leading_fails (suc m) h = by (eqb (leading p m) m && p m) refl h (leading_fails m)
     where
-      by : (b : Bool) → (eqb (leading p m) m && p m) ≡ b → cond b (suc m) (leading p m) < suc m
-          → (leading p m < m → p (leading p m) ≡ false) → p (cond b (suc m) (leading p m)) ≡ false
+      by : (b : Bool) → (eqb (leading p m) m && p m) ≡ b → cond b (suc m) (leading p m) < suc m → (leading p m < m → p (leading p m) ≡ false) → p (cond b (suc m) (leading p m)) ≡ false
       by true e l ih = absurd (omega arith)
       by false e l ih = order (eq-or-lt_of_le (leading_le m))
         where
@@ -136,8 +135,7 @@ module _ {S A : Type 0} {f : ℕ → S → Run S A} {owner : ℕ → ℕ} {s : S
   unfolding turns begins
   runs_none = record { within = omega arith; led = refl; first = λ _. refl }
 
-  pub runs_more : {start len : ℕ} {t u : S} → Runs f owner s n start t → Passes f owner → start < n → len ≡ run_length owner start n
-      → f start t ≡ going u → Runs f owner s n (start + len) u
+  pub runs_more : {start len : ℕ} {t u : S} → Runs f owner s n start t → Passes f owner → start < n → len ≡ run_length owner start n → f start t ≡ going u → Runs f owner s n (start + len) u
   unfolding turns
   runs_more {start} {len} {t} {u} h g l e q = rw e (record {
     within = run_within owner start n (omega arith);

@@ -1,13 +1,13 @@
 -- A turn of the loop over the runs that solves: each block on its own stretch. Assumes nothing.
 use Prim.Native.Nat.{ℕ, ◌+◌, ◌*◌, ◌-◌, ◌<◌, ◌≤◌}
-use mathlib.Core.Path.{◌≡◌, sym, ◌∙◌}
-use mathlib.Core.Bool.{true}
+use mathlib.Core.Path.{◌≡◌, refl, sym, ap, ◌∙◌}
+use mathlib.Core.Bool.{true, false}
 use mathlib.Core.List.{List, ◌++◌}
 use native.Mathlib.Omega.{arith}
 use lib.ListN.{length, take, drop, length-drop}
 use lib.Seq.{length-take-le}
 use lib.Ieee.{Float}
-use Rattle.loops.specs.Run.{going, ended, check}
+use Rattle.loops.specs.Run.{Run, going, ended, on, turns, check}
 use Rattle.loops.proofs.Loop.{on_going, on_ended}
 use Rattle.triangular.specs.Answers.{solve_out}
 use Rattle.triangular.specs.declared.substitution.Solved.{Solved}
@@ -23,20 +23,18 @@ part a n = omega arith
 -- the stretches of a call are those from `start` to `start + len`, and its block the 36 numbers from `36 * start` on
 module _ (blocks : List Float) (owner : ℕ → ℕ) (residual y z : List Float) (start len n : ℕ) (r : Solved)
     (first : begins owner start ≡ true) (e : len ≡ run_length owner start n) (en : n ≡ length residual)
-    (called : block_solve_run (take (36 * start + 36 - 36 * start) (drop (36 * start) blocks))
-    (take (start + len - start) (drop start residual)) (take (start + len - start) (drop start y)) ≡ solve_out r z)
-  where
-    solved : block_solve_run (block_in blocks start) (stretch residual start len) (stretch y start len) ≡ solve_out r z
-    unfolding block_in stretch
-    solved = rw (part (36 * start) 36, part start len) at called
+    (called : block_solve_run (take (36 * start + 36 - 36 * start) (drop (36 * start) blocks)) (take (start + len - start) (drop start residual)) (take (start + len - start) (drop start y)) ≡ solve_out r z) where
+  solved : block_solve_run (block_in blocks start) (stretch residual start len) (stretch y start len) ≡ solve_out r z
+  unfolding block_in stretch
+  solved = rw (part (36 * start) 36, part start len) at called
 
-    pub solve_on : r ≡ solves.Done → solve_turn (block_in blocks) owner residual start y ≡ going (take start y ++ (z ++ drop (start + len - start) (drop start y)))
-    unfolding solve_turn put_stretch check
-    solve_on t = rw (first, ← en, ← e, part start len) (on_going _ _ _ {s = z} (solved ∙ rw t))
+  pub solve_on : r ≡ solves.Done → solve_turn (block_in blocks) owner residual start y ≡ going (take start y ++ (z ++ drop (start + len - start) (drop start y)))
+  unfolding solve_turn put_stretch check
+  solve_on t = rw (first, ← en, ← e, part start len) (on_going _ _ _ {s = z} (solved ∙ rw t))
 
-    pub solve_out_lem : r ≡ solves.Overflow → solve_turn (block_in blocks) owner residual start y ≡ ended (take start y ++ (z ++ drop (start + len - start) (drop start y)))
-    unfolding solve_turn put_stretch check
-    solve_out_lem t = rw (first, ← en, ← e, part start len) (on_ended _ _ _ {a = z} (solved ∙ rw t))
+  pub solve_out_lem : r ≡ solves.Overflow → solve_turn (block_in blocks) owner residual start y ≡ ended (take start y ++ (z ++ drop (start + len - start) (drop start y)))
+  unfolding solve_turn put_stretch check
+  solve_out_lem t = rw (first, ← en, ← e, part start len) (on_ended _ _ _ {a = z} (solved ∙ rw t))
 
 pub solves_pass : (block : ℕ → List Float) (owner : ℕ → ℕ) (residual : List Float) → Passes (solve_turn block owner residual) owner
 unfolding solve_turn check
@@ -52,8 +50,7 @@ part_length y start len h = length-take-le (start + len - start) (drop start y) 
 pub lent_six : (y : List Float) (start len : ℕ) → start + len ≤ length y → len ≤ 6 → length (take (start + len - start) (drop start y)) ≤ 6
 lent_six y start len h k = rw (part_length y start len h) k
 
-pub lent_alike : (x y : List Float) (start len : ℕ) → start + len ≤ length x → start + len ≤ length y
-    → length (take (start + len - start) (drop start x)) ≡ length (take (start + len - start) (drop start y))
+pub lent_alike : (x y : List Float) (start len : ℕ) → start + len ≤ length x → start + len ≤ length y → length (take (start + len - start) (drop start x)) ≡ length (take (start + len - start) (drop start y))
 lent_alike x y start len h k = part_length x start len h ∙ sym (part_length y start len k)
 
 -- ---- the ways out of the loop: its runs are those of the owners, as many as the residual has numbers

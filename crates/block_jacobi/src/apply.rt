@@ -15,12 +15,9 @@ pub fn apply_block_jacobi_preconditioner(
     residual: &[f64],
     output: &mut [f64],
 ) -> Solved
-    requires owners_len { (length owners.now ≡ length output.old) × (length residual.now ≡ length output.old)
-        × (36 * length output.old ≤ length blocks.now) }
+    requires owners_len { (length owners.now ≡ length output.old) × (length residual.now ≡ length output.old) × (36 * length output.old ≤ length blocks.now) }
     requires runs_fit { RunsFit (owner_in owners.now) (length owners.now) }
-    ensures { blocks_solve_run (block_in blocks.now) (owner_in owners.now)
-        residual.now output.old
-        ≡ solve_out result output.new }
+    ensures { blocks_solve_run (block_in blocks.now) (owner_in owners.now) residual.now output.old ≡ solve_out result output.new }
 {
     let mut start = 0;
     while start < owners.len() {

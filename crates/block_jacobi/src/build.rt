@@ -24,13 +24,9 @@ pub fn build_block_jacobi_preconditioner(
     bodies: usize,
     blocks: &mut [f64],
 ) -> Blocked
-    requires owners_in_bounds { (12 * length owners.now ≤ length jacobians.now) × (2 * length owners.now ≤ length links.now)
-        × (10 * bodies ≤ length masses.now) × (36 * length owners.now ≤ length blocks.old) }
+    requires owners_in_bounds { (12 * length owners.now ≤ length jacobians.now) × (2 * length owners.now ≤ length links.now) × (10 * bodies ≤ length masses.now) × (36 * length owners.now ≤ length blocks.old) }
     requires linked { Linked links.now (length owners.now) bodies }
-    ensures { blocks_run
-        (compact_system (length owners.now) bodies jacobians.now links.now
-        masses.now)
-        (owner_in owners.now) blocks.old
+    ensures { blocks_run (compact_system (length owners.now) bodies jacobians.now links.now masses.now) (owner_in owners.now) blocks.old
         ≡ blocked_out result blocks.new }
 {
     let rows = owners.len();

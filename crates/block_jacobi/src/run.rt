@@ -1,5 +1,5 @@
 // Runs of rows with one owner.
-ghost use Rattle.std.specs.Prelude.{◌<◌, length};
+ghost use Rattle.std.specs.Prelude.{◌≡◌, ◌<◌, length};
 ghost use Rattle.block_jacobi.specs.Runs.{owner_in, RunIs};
 
 // How many rows from `start` on have its owner.

@@ -31,8 +31,7 @@ unfolding passes3 work_fits
 fits_too kind n b l w g room = rw (g, eq-eqb _ _ room.impulses, eq-eqb _ _ room.size_impulses, eq-eqb _ _ room.values, eq-eqb _ _ room.sizes)
 
 -- what a table of n rows and b bodies takes of arrays for rows and bodies that are no fewer
-pub taken : {n b : ℕ} (rows bodies : ℕ) (impulses size_impulses values sizes : List Float) → n ≤ rows → b ≤ bodies
-    → length impulses ≡ 6 * bodies → length size_impulses ≡ 6 * bodies → length values ≡ rows → length sizes ≡ rows
+pub taken : {n b : ℕ} (rows bodies : ℕ) (impulses size_impulses values sizes : List Float) → n ≤ rows → b ≤ bodies → length impulses ≡ 6 * bodies → length size_impulses ≡ 6 * bodies → length values ≡ rows → length sizes ≡ rows
     → WorkRoom n b (work_lengths (memory_of (take (6 * b) impulses) (take (6 * b) size_impulses) (take n values) (take n sizes)))
 taken {n} {b} rows bodies _ _ _ _ r s i j v z = record {
   impulses = length-take-le _ _ (omega (arith, s, i));
@@ -41,12 +40,9 @@ taken {n} {b} rows bodies _ _ _ _ r s i j v z = record {
   sizes = length-take-le _ _ (omega (arith, r, z));
 }
 
-pub alone : (kind : Kind) {n b : ℕ} (l : TableLengths) {before after : CheckMemory} {s : Rules} {c : Closing} {answer : CheckAnswer}
-    {numbers numbersAfter : List ℕ}
-    → given_fits kind n b l ≡ true → WorkRoom n b (work_lengths before)
+pub alone : (kind : Kind) {n b : ℕ} (l : TableLengths) {before after : CheckMemory} {s : Rules} {c : Closing} {answer : CheckAnswer} {numbers numbersAfter : List ℕ} → given_fits kind n b l ≡ true → WorkRoom n b (work_lengths before)
     → Checked (passes3 kind n b l (work_lengths before)) s c answer numbers numbersAfter before after → AloneHeld (given_fits kind n b l) s c answer numbers numbersAfter
-alone kind {n} {b} l {before} g room h = let e = fits_too kind n b l (work_lengths before) g room in
-    record { answered = rw e at h.answered; means = rw e at h.means; named = h.named; ruled = h.ruled }
+alone kind {n} {b} l {before} g room h = let e = fits_too kind n b l (work_lengths before) g room in record { answered = rw e at h.answered; means = rw e at h.means; named = h.named; ruled = h.ruled }
 
 pub alone_3 : {fits r : Bool} (s : Rules) (c : Closing) (numbers : List ℕ) → r ≡ fits → not r ≡ true → AloneHeld fits s c (Refused 3) numbers numbers
 unfolding check_of judge test check on

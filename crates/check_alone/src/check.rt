@@ -26,17 +26,8 @@ pub fn checked(
     rule_tolerances: &[f64],
     rule_numbers: &mut [u32],
 ) -> CheckAnswer
-    ensures { AloneHeld
-        (given_fits Position n b
-        (table_lengths numbers.now words.now masses.now centres.now
-        multipliers.now rule_words.now rule_tolerances.now
-        rule_numbers.old))
-        (rules_in rule_words.now rule_tolerances.now)
-        (closing_of (table_of n b numbers.now words.now masses.now)
-        (coefficients multipliers.now)
-        (rules_in rule_words.now rule_tolerances.now)
-        (centres_finite (centres_in b centres.now)))
-        result rule_numbers.old rule_numbers.new }
+    ensures { AloneHeld (given_fits Position n b (table_lengths numbers.now words.now masses.now centres.now multipliers.now rule_words.now rule_tolerances.now rule_numbers.old)) (rules_in rule_words.now rule_tolerances.now)
+        (closing_of (table_of n b numbers.now words.now masses.now) (coefficients multipliers.now) (rules_in rule_words.now rule_tolerances.now) (centres_finite (centres_in b centres.now))) result rule_numbers.old rule_numbers.new }
 {
     checked_in(
         Kind::Position,
@@ -66,16 +57,8 @@ pub fn velocity_checked(
     rule_tolerances: &[f64],
     rule_numbers: &mut [u32],
 ) -> CheckAnswer
-    ensures { AloneHeld
-        (given_fits Velocity n b
-        (table_lengths numbers.now words.now masses.now given.now
-        multipliers.now rule_words.now rule_tolerances.now
-        rule_numbers.old))
-        (rules_in rule_words.now rule_tolerances.now)
-        (speeds_of (table_of n b numbers.now words.now masses.now)
-        (coefficients multipliers.now)
-        (rules_in rule_words.now rule_tolerances.now) (coefficients given.now))
-        result rule_numbers.old rule_numbers.new }
+    ensures { AloneHeld (given_fits Velocity n b (table_lengths numbers.now words.now masses.now given.now multipliers.now rule_words.now rule_tolerances.now rule_numbers.old)) (rules_in rule_words.now rule_tolerances.now)
+        (speeds_of (table_of n b numbers.now words.now masses.now) (coefficients multipliers.now) (rules_in rule_words.now rule_tolerances.now) (coefficients given.now)) result rule_numbers.old rule_numbers.new }
 {
     checked_in(
         Kind::Velocity,

@@ -24,19 +24,9 @@ fn with_memory(
     rule_tolerances: &[f64],
     rule_numbers: &mut [u32],
 ) -> CheckAnswer
-    requires { given_fits kind n b
-        (table_lengths numbers.now words.now masses.now beside.now multipliers.now rule_words.now
-        rule_tolerances.now rule_numbers.old)
-        ≡ true }
-    ensures { AloneHeld
-        (given_fits kind n b
-        (table_lengths numbers.now words.now masses.now beside.now
-        multipliers.now rule_words.now rule_tolerances.now
-        rule_numbers.old))
-        (rules_in rule_words.now rule_tolerances.now)
-        (closing_in kind n b numbers.now words.now masses.now beside.now
-        multipliers.now (rules_in rule_words.now rule_tolerances.now))
-        result rule_numbers.old rule_numbers.new }
+    requires { given_fits kind n b (table_lengths numbers.now words.now masses.now beside.now multipliers.now rule_words.now rule_tolerances.now rule_numbers.old) ≡ true }
+    ensures { AloneHeld (given_fits kind n b (table_lengths numbers.now words.now masses.now beside.now multipliers.now rule_words.now rule_tolerances.now rule_numbers.old)) (rules_in rule_words.now rule_tolerances.now)
+        (closing_in kind n b numbers.now words.now masses.now beside.now multipliers.now (rules_in rule_words.now rule_tolerances.now)) result rule_numbers.old rule_numbers.new }
 {
     let mut impulses: [f64; 1536] = [0.0; 1536];
     let mut size_impulses: [f64; 1536] = [0.0; 1536];
@@ -78,15 +68,8 @@ pub fn checked_in(
     rule_tolerances: &[f64],
     rule_numbers: &mut [u32],
 ) -> CheckAnswer
-    ensures { AloneHeld
-        (given_fits kind n b
-        (table_lengths numbers.now words.now masses.now beside.now
-        multipliers.now rule_words.now rule_tolerances.now
-        rule_numbers.old))
-        (rules_in rule_words.now rule_tolerances.now)
-        (closing_in kind n b numbers.now words.now masses.now beside.now
-        multipliers.now (rules_in rule_words.now rule_tolerances.now))
-        result rule_numbers.old rule_numbers.new }
+    ensures { AloneHeld (given_fits kind n b (table_lengths numbers.now words.now masses.now beside.now multipliers.now rule_words.now rule_tolerances.now rule_numbers.old)) (rules_in rule_words.now rule_tolerances.now)
+        (closing_in kind n b numbers.now words.now masses.now beside.now multipliers.now (rules_in rule_words.now rule_tolerances.now)) result rule_numbers.old rule_numbers.new }
 {
     let table = TableLengths {
         numbers: numbers.len(),

@@ -28,22 +28,10 @@ fn with_small_memory(
     rule_tolerances: &[f64],
     rule_numbers: &mut [u32],
 ) -> CheckAnswer
-    requires rule_numbers_value { given_fits Position n b
-        (table_lengths numbers.now words.now masses.now centres.now multipliers.now rule_words.now
-        rule_tolerances.now rule_numbers.old)
-        ≡ true }
+    requires rule_numbers_value { given_fits Position n b (table_lengths numbers.now words.now masses.now centres.now multipliers.now rule_words.now rule_tolerances.now rule_numbers.old) ≡ true }
     requires n_bound { (n ≤ 128) × (b ≤ 64) }
-    ensures { AloneHeld
-        (given_fits Position n b
-        (table_lengths numbers.now words.now masses.now centres.now
-        multipliers.now rule_words.now rule_tolerances.now
-        rule_numbers.old))
-        (rules_in rule_words.now rule_tolerances.now)
-        (closing_of (table_of n b numbers.now words.now masses.now)
-        (coefficients multipliers.now)
-        (rules_in rule_words.now rule_tolerances.now)
-        (centres_finite (centres_in b centres.now)))
-        result rule_numbers.old rule_numbers.new }
+    ensures { AloneHeld (given_fits Position n b (table_lengths numbers.now words.now masses.now centres.now multipliers.now rule_words.now rule_tolerances.now rule_numbers.old)) (rules_in rule_words.now rule_tolerances.now)
+        (closing_of (table_of n b numbers.now words.now masses.now) (coefficients multipliers.now) (rules_in rule_words.now rule_tolerances.now) (centres_finite (centres_in b centres.now))) result rule_numbers.old rule_numbers.new }
 {
     let mut impulses: [f64; 384] = [0.0; 384];
     let mut size_impulses: [f64; 384] = [0.0; 384];
@@ -84,17 +72,8 @@ pub fn checked_small(
     rule_numbers: &mut [u32],
 ) -> CheckAnswer
     requires { (n ≤ 128) × (b ≤ 64) }
-    ensures { AloneHeld
-        (given_fits Position n b
-        (table_lengths numbers.now words.now masses.now centres.now
-        multipliers.now rule_words.now rule_tolerances.now
-        rule_numbers.old))
-        (rules_in rule_words.now rule_tolerances.now)
-        (closing_of (table_of n b numbers.now words.now masses.now)
-        (coefficients multipliers.now)
-        (rules_in rule_words.now rule_tolerances.now)
-        (centres_finite (centres_in b centres.now)))
-        result rule_numbers.old rule_numbers.new }
+    ensures { AloneHeld (given_fits Position n b (table_lengths numbers.now words.now masses.now centres.now multipliers.now rule_words.now rule_tolerances.now rule_numbers.old)) (rules_in rule_words.now rule_tolerances.now)
+        (closing_of (table_of n b numbers.now words.now masses.now) (coefficients multipliers.now) (rules_in rule_words.now rule_tolerances.now) (centres_finite (centres_in b centres.now))) result rule_numbers.old rule_numbers.new }
 {
     let table = TableLengths {
         numbers: numbers.len(),

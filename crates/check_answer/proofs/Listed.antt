@@ -74,9 +74,7 @@ at_zero x t h =
     let i = equal_finite x h in
     let p = zero_parts.0 in
     let q = zero_parts.1 in
-    let e : plus binary64 x + less binary64 plus_zero ≡ plus binary64 plus_zero + less binary64 x = eqb-true
-    (plus binary64 x + less binary64 plus_zero) (plus binary64 plus_zero + less binary64 x)
-    (sym (eq_is binary64 x plus_zero t zero_fits i zero_finite) ∙ h) in
+    let e : plus binary64 x + less binary64 plus_zero ≡ plus binary64 plus_zero + less binary64 x = eqb-true (plus binary64 x + less binary64 plus_zero) (plus binary64 plus_zero + less binary64 x) (sym (eq_is binary64 x plus_zero t zero_fits i zero_finite) ∙ h) in
     let z = none (plus binary64 x) (less binary64 x) (one_side binary64 x) (omega arith) in
     record { is_finite = i; floor = inl z; top = subst (λ (k : ℕ). k ≤ 2 ^ 1224) (sym z) zero-le }
   where
@@ -98,11 +96,8 @@ at_size x t h k =
     let g = absolute_finite x i in
     let P = (absolute_parts binary64 x).is_plus in
     let Q = (absolute_parts binary64 x).is_less in
-    let low : plus binary64 least + less binary64 a ≤ plus binary64 a + less binary64 least = leb-true
-    (plus binary64 least + less binary64 a) (plus binary64 a + less binary64 least)
-    (sym (le_is binary64 least a least_fits f least_finite g) ∙ h) in
-    let high : plus binary64 a + less binary64 most ≤ plus binary64 most + less binary64 a = leb-true (plus binary64 a + less binary64 most)
-    (plus binary64 most + less binary64 a) (sym (le_is binary64 a most f most_fits g most_finite) ∙ k) in
+    let low : plus binary64 least + less binary64 a ≤ plus binary64 a + less binary64 least = leb-true (plus binary64 least + less binary64 a) (plus binary64 a + less binary64 least) (sym (le_is binary64 least a least_fits f least_finite g) ∙ h) in
+    let high : plus binary64 a + less binary64 most ≤ plus binary64 most + less binary64 a = leb-true (plus binary64 a + less binary64 most) (plus binary64 most + less binary64 a) (sym (le_is binary64 a most f most_fits g most_finite) ∙ k) in
     record {
       is_finite = i;
       floor = inr (above (plus binary64 least) (less binary64 a) (plus binary64 a) (less binary64 least) (2 ^ 924) (plus binary64 x + less binary64 x) least_parts.0 Q least_parts.1 P low);

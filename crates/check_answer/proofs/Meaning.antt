@@ -157,8 +157,7 @@ module _ (c : Closing) (held : Held c) (few : c.table.rows ≤ 512) (seven : pas
   -- whatever the tolerances: at most the largest reach of its dimension
   bounded_row : (i : ℕ) → i < t.rows → pos (gap c i) ≤ℤ scaled (maximum_of (row_dimension t i) (largest_reaches c))
   unfolding largest_reaches
-  bounded_row i h = let b = bounds_of (row_dimension t) (reach c) t.rows reach_number in row_within i h
-      (maximum_of (row_dimension t i) (largest_reaches c)) (b.number (row_dimension t i)) (b.above i h)
+  bounded_row i h = let b = bounds_of (row_dimension t) (reach c) t.rows reach_number in row_within i h (maximum_of (row_dimension t i) (largest_reaches c)) (b.number (row_dimension t i)) (b.above i h)
 
   -- and at most its own
   measured_row : (i : ℕ) → i < t.rows → pos (gap c i) ≤ℤ scaled (reach c i)
@@ -232,8 +231,7 @@ module _ (c : Closing) where
       go false = refl
 
 -- ---- no refusal has the number of a verdict, where none of the tolerances' and of what is lent has
-pub refusal_above : (fits : Bool) (c : Closing) → Ranges.Listed (λ n. 1 < n) c.tolerance_tests → Ranges.Listed (λ n. 1 < n) c.lent
-    → (n : ℕ) → FirstToFail (judgements fits c) n → 1 < n
+pub refusal_above : (fits : Bool) (c : Closing) → Ranges.Listed (λ n. 1 < n) c.tolerance_tests → Ranges.Listed (λ n. 1 < n) c.lent → (n : ℕ) → FirstToFail (judgements fits c) n → 1 < n
 unfolding Ranges.Listed
 refusal_above fits c above lent n h =
     let t = c.table in

@@ -39,14 +39,11 @@ module _ {g : ℕ → Float → Float} where
 unfoldable pub reaching : ℕ → (ℕ → Float) → List Float → ℕ → Float → Float
 reaching n error sizes i value = reach_of n (error i) value (get_or sizes i nan)
 
-pub reaches_more : (error : ℕ → Float) (sizes : List Float) {n i : ℕ} {values l l' : List Float} {x v : Float}
-    → Replaced (reaching n error sizes) values i l → length values ≡ n → i < n → x ≡ error i
-    → v ≡ reach_of n x (get_or l i nan) (get_or sizes i nan)
+pub reaches_more : (error : ℕ → Float) (sizes : List Float) {n i : ℕ} {values l l' : List Float} {x v : Float} → Replaced (reaching n error sizes) values i l → length values ≡ n → i < n → x ≡ error i → v ≡ reach_of n x (get_or l i nan) (get_or sizes i nan)
     → l' ≡ set l i v → Replaced (reaching n error sizes) values (i + 1) l'
 unfolding reaching
 reaches_more error sizes {n} {i} {l = l} h e b y p q = replaced_more h (omega (arith, h.long)) (p ∙ ap (λ (x : Float). reach_of n x (get_or l i nan) (get_or sizes i nan)) y) q
 
-pub reaches_made : (error : ℕ → Float) (sizes : List Float) {n i : ℕ} {values l : List Float} → Replaced (reaching n error sizes) values i l
-    → length values ≡ n → n ≤ i → l ≡ tabulate (reach_in error values sizes n) n
+pub reaches_made : (error : ℕ → Float) (sizes : List Float) {n i : ℕ} {values l : List Float} → Replaced (reaching n error sizes) values i l → length values ≡ n → n ≤ i → l ≡ tabulate (reach_in error values sizes n) n
 unfolding reach_in reaching
 reaches_made error sizes {n} {i} {values} {l} h e b = tabulated nan (reach_in error values sizes n) n l (h.long ∙ e) (λ k p. h.done k (omega arith))

@@ -142,8 +142,7 @@ module _ (n : ℕ) (few : n ≤ 512) (error value size : Float) (Z : ℤ) (liste
   reach_least =
       let z = reach_of n error value size in
       le_is binary64 plus_zero z zero_fits reach_most.held zero_finite reach_finite
-      ∙ le-leb (plus binary64 plus_zero + less binary64 z) (plus binary64 z + less binary64 plus_zero)
-      (none (plus binary64 plus_zero) (less binary64 z) (plus binary64 z + less binary64 plus_zero) zero_plus reach_most.no_less)
+      ∙ le-leb (plus binary64 plus_zero + less binary64 z) (plus binary64 z + less binary64 plus_zero) (none (plus binary64 plus_zero) (less binary64 z) (plus binary64 z + less binary64 plus_zero) zero_plus reach_most.no_less)
     where
       none : (a b c : ℕ) → a ≡ 0 → b ≡ 0 → a + b ≤ c
       none a b c p q = omega arith

@@ -1,6 +1,6 @@
 -- A number of the operator with its error bound and its upper bound, at a level: what the numbers of the same degree share. A level has the scale of its exact integers, and the powers of two (in units) that the sizes are zero or between.
 -- A sum of two terms stays on the level, a product with a listed number rises to the next. Assumes nothing.
-use Prim.Native.Nat.{ℕ, suc, ◌+◌, ◌*◌, ◌^◌, ◌<◌, ◌≤◌, zero-le}
+use Prim.Native.Nat.{ℕ, zero, suc, ◌+◌, ◌*◌, ◌^◌, ◌<◌, ◌≤◌, zero-le}
 use mathlib.Core.Path.{◌≡◌, refl, sym, subst}
 use mathlib.Core.Logic.{inl}
 use native.Mathlib.Nat.{add-zero, zero-add, mul-one, one-mul, zero-mul, lt_of_lt_of_le, le_refl, mul-le-mul_right}
@@ -68,8 +68,7 @@ below_overflow A a h l = lt_of_lt_of_le (shl_lt 53 a h) (pow_mono (sum a l))
     sum a l = omega arith
 
 module _ (L : Level) (few : L.top ≤ 2000) where
-  pub term_add : (k h K A B : ℕ) {x w y v : Float} {X Y : ℤ} → k ≤ K → h ≤ K → K ≤ 4000 → A + B < 2 ^ 53 → Term L k A x w X
-      → Term L h B y v Y → Term L (suc K) (A + B) (add binary64 x y) (add binary64 w v) (X +ℤ Y)
+  pub term_add : (k h K A B : ℕ) {x w y v : Float} {X Y : ℤ} → k ≤ K → h ≤ K → K ≤ 4000 → A + B < 2 ^ 53 → Term L k A x w X → Term L h B y v Y → Term L (suc K) (A + B) (add binary64 x y) (add binary64 w v) (X +ℤ Y)
   term_add k h K A B {x} {w} {y} {v} {X} {Y} p q r s m n = record {
     near = near_add binary64 K L.scale L.floor x w y v X Y (steps K r)
         (near_weaken binary64 k K L.scale L.floor L.floor x w X p (le_refl L.floor) m.near)
@@ -101,9 +100,7 @@ module _ (L M : Level) (u : Up L M) (k A : ℕ) (K : k ≤ 4000) (few : A < 2 ^ 
         (subst (λ (S : ℕ). Near binary64 (suc (k + 0)) S M.floor (mul binary64 x y) (mul binary64 w v) (X *ℤ Y)) u.right
         (near_mul binary64 k 0 L.scale 1 L.floor 924 M.floor x w y v X Y steps_right u.normal u.floors m.near n.near));
     most = subst (λ (B : ℕ). Most binary64 B M.top (mul binary64 w v)) (mul-one A)
-        (most_mul binary64 A 1 L.top 1224 M.top w v (subst (λ (B : ℕ). B < 2 ^ 53) (sym (mul-one A)) few)
-        (below_overflow (A * 1) M.top (subst (λ (B : ℕ). B < 2 ^ 53) (sym (mul-one A)) few) u.room) u.tops m.most
-        n.most);
+        (most_mul binary64 A 1 L.top 1224 M.top w v (subst (λ (B : ℕ). B < 2 ^ 53) (sym (mul-one A)) few) (below_overflow (A * 1) M.top (subst (λ (B : ℕ). B < 2 ^ 53) (sym (mul-one A)) few) u.room) u.tops m.most n.most);
   }
 
   pub term_left : Term M (suc k) A (mul binary64 y x) (mul binary64 v w) (Y *ℤ X)
@@ -113,9 +110,7 @@ module _ (L M : Level) (u : Up L M) (k A : ℕ) (K : k ≤ 4000) (few : A < 2 ^ 
         (subst (λ (S : ℕ). Near binary64 (suc (0 + k)) S M.floor (mul binary64 y x) (mul binary64 v w) (Y *ℤ X)) u.left
         (near_mul binary64 0 k 1 L.scale 924 L.floor M.floor y v x w Y X steps_left u.normal u.floors_left n.near m.near));
     most = subst (λ (B : ℕ). Most binary64 B M.top (mul binary64 v w)) (one-mul A)
-        (most_mul binary64 1 A 1224 L.top M.top v w (subst (λ (B : ℕ). B < 2 ^ 53) (sym (one-mul A)) few)
-        (below_overflow (1 * A) M.top (subst (λ (B : ℕ). B < 2 ^ 53) (sym (one-mul A)) few) u.room) u.tops_left n.most
-        m.most);
+        (most_mul binary64 1 A 1224 L.top M.top v w (subst (λ (B : ℕ). B < 2 ^ 53) (sym (one-mul A)) few) (below_overflow (1 * A) M.top (subst (λ (B : ℕ). B < 2 ^ 53) (sym (one-mul A)) few) u.room) u.tops_left n.most m.most);
   }
 
 -- ---- +0.0

@@ -19,7 +19,7 @@ use Rattle.kapitsa_joint.specs.declared.impulse.GeneralizedImpulse.{GeneralizedI
 use Rattle.mass_operator.specs.System.{System}
 use Rattle.mass_operator.specs.Operator.{add_impulse_of, add_row_of, impulse_at, response_of, response_at, row_value_of, value_at}
 use Rattle.check_measure.specs.Verdict.{size_of_row, size_of_mass, sizes_of}
-use Rattle.check_measure.specs.Gap.{exact, exact_vec, ExactImpulse, add_impulse_z, add_row_z, impulse_z, response_z, row_value_z, value_z}
+use Rattle.check_measure.specs.Gap.{exact, exact_vec, ExactImpulse, nothing, add_impulse_z, add_row_z, impulse_z, response_z, row_value_z, value_z}
 use Rattle.check_measure.proofs.Term.{Level, one, two, three, four, one_two, two_three, three_four, Term, term_add, term_weaken, term_zero}
 use Rattle.check_measure.proofs.Vectors.{TermVec, vec_weaken, vec_add, vec_right, dot_term, mat_term}
 
@@ -74,26 +74,18 @@ row_add k few j c b {g} {w} {Z} l lc t = go (eqb j.body_a b) (eqb-true j.body_a 
     go : (s : Bool) → (s ≡ true → j.body_a ≡ b) → (r : Bool) → (r ≡ true → j.body_b ≡ b)
         → TermImpulse two (suc (suc k)) (suc k)
         (cond r (add_impulse_of (cond s (add_impulse_of g j.linear_a j.angular_a c) g) j.linear_b j.angular_b c) (cond s (add_impulse_of g j.linear_a j.angular_a c) g))
-        (cond r
-        (add_impulse_of (cond s (add_impulse_of w (abs_of j.linear_a) (abs_of j.angular_a) (absolute c)) w)
-        (abs_of j.linear_b) (abs_of j.angular_b) (absolute c))
-        (cond s (add_impulse_of w (abs_of j.linear_a) (abs_of j.angular_a) (absolute c)) w))
+        (cond r (add_impulse_of (cond s (add_impulse_of w (abs_of j.linear_a) (abs_of j.angular_a) (absolute c)) w) (abs_of j.linear_b) (abs_of j.angular_b) (absolute c)) (cond s (add_impulse_of w (abs_of j.linear_a) (abs_of j.angular_a) (absolute c)) w))
         (cond r (add_impulse_z (cond s (add_impulse_z Z j.linear_a j.angular_a c) Z) j.linear_b j.angular_b c) (cond s (add_impulse_z Z j.linear_a j.angular_a c) Z))
     go true p true q = absurd (true≢false (sym (same j.body_a j.body_b b (p refl) (q refl)) ∙ l.apart))
     go true p false q = impulse_add k few j.linear_a j.angular_a c l.linear_a l.angular_a lc t
     go false p true q = impulse_add k few j.linear_b j.angular_b c l.linear_b l.angular_b lc t
     go false p false q = impulse_weaken two (suc k) (suc (suc k)) k (suc k) (omega arith) (omega arith) t
 
-zero_vec : (k : ℕ)
-    → TermVec two (suc k) k (record { x = plus_zero; y = plus_zero; z = plus_zero }) (record { x = plus_zero; y = plus_zero; z = plus_zero })
-    (record { x = pos 0; y = pos 0; z = pos 0 })
+zero_vec : (k : ℕ) → TermVec two (suc k) k (record { x = plus_zero; y = plus_zero; z = plus_zero }) (record { x = plus_zero; y = plus_zero; z = plus_zero }) (record { x = pos 0; y = pos 0; z = pos 0 })
 zero_vec k = record { x = term_zero two (suc k) k; y = term_zero two (suc k) k; z = term_zero two (suc k) k }
 
-module _ (s : System) (x : ℕ → Float) (rows : (i : ℕ) → i < s.rows → ListedRow (s.jacobian i))
-    (list : (i : ℕ) → i < s.rows → Listed (x i)) (masses : (b : ℕ) → b < s.bodies → ListedMass (s.mass b)) (few : s.rows ≤ 512) where
-  impulse_term : (b k : ℕ) → k ≤ s.rows
-      → TermImpulse two (suc k) k (impulse_at s.jacobian x b k) (impulse_at (sizes_of s).jacobian (λ i. absolute (x i)) b k)
-      (impulse_z s.jacobian x b k)
+module _ (s : System) (x : ℕ → Float) (rows : (i : ℕ) → i < s.rows → ListedRow (s.jacobian i)) (list : (i : ℕ) → i < s.rows → Listed (x i)) (masses : (b : ℕ) → b < s.bodies → ListedMass (s.mass b)) (few : s.rows ≤ 512) where
+  impulse_term : (b k : ℕ) → k ≤ s.rows → TermImpulse two (suc k) k (impulse_at s.jacobian x b k) (impulse_at (sizes_of s).jacobian (λ i. absolute (x i)) b k) (impulse_z s.jacobian x b k)
   unfolding impulse_at impulse_z
   impulse_term b zero h = record { linear = zero_vec 0; angular = zero_vec 0 }
   impulse_term b (suc k) h = row_add k (omega arith) (s.jacobian k) (x k) b (rows k (omega arith)) (list k (omega arith)) (impulse_term b k (omega arith))
@@ -110,9 +102,7 @@ module _ (s : System) (x : ℕ → Float) (rows : (i : ℕ) → i < s.rows → L
       let t = impulse_term b n (le_refl n) in
       record {
         linear = vec_weaken three (suc (suc n)) (n + 4) n (n + n + n) (omega arith) (omega arith) (vec_right two three two_three (suc n) n (omega arith) (omega arith) t.linear m.mass);
-        angular = vec_weaken three (suc n + 3) (n + 4) (n + n + n) (n + n + n) (omega arith) (le_refl (n + n + n))
-            (mat_term two three two_three (suc n) n (omega arith) (omega arith) (omega arith) (omega arith) m.x.term m.y.term
-            m.z.term t.angular);
+        angular = vec_weaken three (suc n + 3) (n + 4) (n + n + n) (n + n + n) (omega arith) (le_refl (n + n + n)) (mat_term two three two_three (suc n) n (omega arith) (omega arith) (omega arith) (omega arith) m.x.term m.y.term m.z.term t.angular);
       }
 
   -- ---- a row's value

@@ -19,8 +19,7 @@ pub record TermVec (L : Level) (k A : ℕ) (v w : Vec3) (Z : Exact3) : Type 0 wh
 pub vec_weaken : (L : Level) (k h A B : ℕ) {v w : Vec3} {Z : Exact3} → k ≤ h → A ≤ B → TermVec L k A v w Z → TermVec L h B v w Z
 vec_weaken L k h A B p q t = record { x = term_weaken L k h A B p q t.x; y = term_weaken L k h A B p q t.y; z = term_weaken L k h A B p q t.z }
 
-pub vec_add : (L : Level) → L.top ≤ 2000 → (k h K A B : ℕ) {v w v' w' : Vec3} {Z Z' : Exact3} → k ≤ K → h ≤ K → K ≤ 4000 → A + B < 2 ^ 53
-    → TermVec L k A v w Z → TermVec L h B v' w' Z'
+pub vec_add : (L : Level) → L.top ≤ 2000 → (k h K A B : ℕ) {v w v' w' : Vec3} {Z Z' : Exact3} → k ≤ K → h ≤ K → K ≤ 4000 → A + B < 2 ^ 53 → TermVec L k A v w Z → TermVec L h B v' w' Z'
     → TermVec L (suc K) (A + B) (add_of v v') (add_of w w') (add_z Z Z')
 unfolding add_of add_z
 vec_add L few k h K A B p q r s m n = record {
@@ -53,8 +52,7 @@ module _ (L M : Level) (u : Up L M) (k A : ℕ) (K : k ≤ 4000) (few : A < 2 ^ 
         (term_add M u.room (suc (suc k)) (suc k) (suc (suc k)) (A + A) A (le_refl (suc (suc k))) (omega arith) (omega arith) (omega arith) s c)
 
     -- a matrix of listed numbers on a vector
-    pub mat_term : {m n : Mat3} {p q : Vec3} {P : Exact3} → TermVec one 0 1 m.x n.x (exact_vec m.x)
-        → TermVec one 0 1 m.y n.y (exact_vec m.y) → TermVec one 0 1 m.z n.z (exact_vec m.z)
+    pub mat_term : {m n : Mat3} {p q : Vec3} {P : Exact3} → TermVec one 0 1 m.x n.x (exact_vec m.x) → TermVec one 0 1 m.y n.y (exact_vec m.y) → TermVec one 0 1 m.z n.z (exact_vec m.z)
         → TermVec L k A p q P → TermVec M (k + 3) (A + A + A) (mul_vector_of m p) (mul_vector_of n q) (mul_z m P)
     unfolding mul_vector_of mul_z
     mat_term f g h t =

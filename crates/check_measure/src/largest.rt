@@ -8,9 +8,7 @@ use kapitsa_joint::{Maxima, dimension};
 
 pub fn largest_reaches(words: &[u32], reaches: &[f64], rows: usize) -> Maxima
     requires { (8 * rows ≤ length words.now) × (rows ≤ length reaches.now) }
-    ensures { result
-        ≡ maxima_by (λ i. dimension_of (get_or words.now (8 * i + 1) 0)) (λ i. get_or reaches.now i nan)
-        rows }
+    ensures { result ≡ maxima_by (λ i. dimension_of (get_or words.now (8 * i + 1) 0)) (λ i. get_or reaches.now i nan) rows }
 {
     let mut maxima = Maxima {
         linear: 0.0,

@@ -36,13 +36,8 @@ pub fn measure_reaches(
     sizes: &[f64],
     values: &mut [f64],
 )
-    requires { (rows ≤ 512) × (27 * rows ≤ length numbers.now) × (rows ≤ length sizes.now)
-        × (length values.old ≡ rows) × GivenFrom kind (length given.now) rows }
-    ensures { values.new
-        ≡ tabulate
-        (reach_in (error_in kind numbers.now given.now) values.old sizes.now
-        rows)
-        rows }
+    requires { (rows ≤ 512) × (27 * rows ≤ length numbers.now) × (rows ≤ length sizes.now) × (length values.old ≡ rows) × GivenFrom kind (length given.now) rows }
+    ensures { values.new ≡ tabulate (reach_in (error_in kind numbers.now given.now) values.old sizes.now rows) rows }
 {
     let mut i = 0;
     while i < rows {

@@ -13,12 +13,9 @@ fn row_within(
     rule_tolerances: &[f64],
     i: usize,
 ) -> bool
-    requires i_in_bounds { (8 * i + 8 ≤ length words.now) × (i + 1 ≤ length reaches.now)
-        × (3 * length rule_tolerances.now ≤ length rule_words.now) }
+    requires i_in_bounds { (8 * i + 8 ≤ length words.now) × (i + 1 ≤ length reaches.now) × (3 * length rule_tolerances.now ≤ length rule_words.now) }
     requires i_in_bounds_2 { rule_in (rules_in rule_words.now rule_tolerances.now) words.now i < length rule_tolerances.now }
-    ensures { result
-        ≡ within_in words.now reaches.now
-        (rules_in rule_words.now rule_tolerances.now) i }
+    ensures { result ≡ within_in words.now reaches.now (rules_in rule_words.now rule_tolerances.now) i }
 {
     reaches[i] <= row_tolerance(words, rule_words, rule_tolerances, i)
 }
@@ -31,14 +28,9 @@ pub fn rows_close(
     rule_tolerances: &[f64],
     rows: usize,
 ) -> bool
-    requires rows_in_bounds { (8 * rows ≤ length words.now) × (rows ≤ length reaches.now)
-        × (3 * length rule_tolerances.now ≤ length rule_words.now) }
+    requires rows_in_bounds { (8 * rows ≤ length words.now) × (rows ≤ length reaches.now) × (3 * length rule_tolerances.now ≤ length rule_words.now) }
     requires rows_value { rows_ruled (rules_in rule_words.now rule_tolerances.now) words.now rows ≡ true }
-    ensures { result
-        ≡ every
-        (within_in words.now reaches.now
-        (rules_in rule_words.now rule_tolerances.now))
-        rows }
+    ensures { result ≡ every (within_in words.now reaches.now (rules_in rule_words.now rule_tolerances.now)) rows }
 {
     let mut i = 0;
     while i < rows {

@@ -40,10 +40,7 @@ module _ (s : Bool) (m : ℕ) (e : ℤ) (t : T (fits binary64 (fin s m e))) wher
   to_most = bits_order size most (size_fits s m e t) (of_bits-fits binary64 0x4950_0000_0000_0000) (size_unsigned s m e t) most_unsigned ∙ ap (leb (to_bits binary64 size)) most_bits
 
 -- ---- the test
-judged : (x : Float) → T (fits binary64 x)
-    → (eqb (to_bits binary64 (absolute x)) 0 ||
-    (leb 0x3690_0000_0000_0000 (to_bits binary64 (absolute x)) && leb (to_bits binary64 (absolute x)) 0x4950_0000_0000_0000))
-    ≡ in_range x
+judged : (x : Float) → T (fits binary64 x) → (eqb (to_bits binary64 (absolute x)) 0 || (leb 0x3690_0000_0000_0000 (to_bits binary64 (absolute x)) && leb (to_bits binary64 (absolute x)) 0x4950_0000_0000_0000)) ≡ in_range x
 unfolding absolute in_range
 judged nan t = unfold to_bits eq le lt of_bits in refl
 judged (inf s) t = unfold to_bits eq le lt of_bits in refl

@@ -30,11 +30,8 @@ pub fn row_in_range_at(
     multipliers: &[f64],
     i: usize,
 ) -> bool
-    requires { (27 * i + 27 ≤ length numbers.now) × (8 * i + 8 ≤ length words.now)
-        × (i + 1 ≤ length multipliers.now) × GivenFrom kind (length given.now) (i + 1) }
-    ensures { result
-        ≡ row_in_range (jacobian_of (row_of numbers.now words.now i))
-        (error_in kind numbers.now given.now i) (get_or multipliers.now i nan) }
+    requires { (27 * i + 27 ≤ length numbers.now) × (8 * i + 8 ≤ length words.now) × (i + 1 ≤ length multipliers.now) × GivenFrom kind (length given.now) (i + 1) }
+    ensures { result ≡ row_in_range (jacobian_of (row_of numbers.now words.now i)) (error_in kind numbers.now given.now i) (get_or multipliers.now i nan) }
 {
     jacobian_in_range(jacobian_at(numbers, words, i))
         & in_range(error_at(kind, numbers, given, i))
@@ -49,14 +46,8 @@ fn rows_in_range(
     multipliers: &[f64],
     rows: usize,
 ) -> bool
-    requires { (27 * rows ≤ length numbers.now) × (8 * rows ≤ length words.now)
-        × (rows ≤ length multipliers.now) × GivenFrom kind (length given.now) rows }
-    ensures { result
-        ≡ every
-        (λ i.
-        row_in_range (jacobian_of (row_of numbers.now words.now i))
-        (error_in kind numbers.now given.now i) (get_or multipliers.now i nan))
-        rows }
+    requires { (27 * rows ≤ length numbers.now) × (8 * rows ≤ length words.now) × (rows ≤ length multipliers.now) × GivenFrom kind (length given.now) rows }
+    ensures { result ≡ every (λ i. row_in_range (jacobian_of (row_of numbers.now words.now i)) (error_in kind numbers.now given.now i) (get_or multipliers.now i nan)) rows }
 {
     let mut i = 0;
     while i < rows {
@@ -100,12 +91,8 @@ pub fn table_in_range(
     rows: usize,
     bodies: usize,
 ) -> bool
-    requires { (27 * rows ≤ length numbers.now) × (8 * rows ≤ length words.now)
-        × (10 * bodies ≤ length masses.now) × (rows ≤ length multipliers.now)
-        × GivenFrom kind (length given.now) rows }
-    ensures { result
-        ≡ table_in_range (table_of rows bodies numbers.now words.now masses.now)
-        (error_in kind numbers.now given.now) (λ i. get_or multipliers.now i nan) }
+    requires { (27 * rows ≤ length numbers.now) × (8 * rows ≤ length words.now) × (10 * bodies ≤ length masses.now) × (rows ≤ length multipliers.now) × GivenFrom kind (length given.now) rows }
+    ensures { result ≡ table_in_range (table_of rows bodies numbers.now words.now masses.now) (error_in kind numbers.now given.now) (λ i. get_or multipliers.now i nan) }
 {
     rows_in_range(kind, numbers, words, given, multipliers, rows) & masses_in_range(masses, bodies)
 }

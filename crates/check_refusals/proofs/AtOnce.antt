@@ -1,6 +1,6 @@
 -- Where all is passed at once, every test in the order passes. Assumes nothing.
 use Prim.Native.Nat.{ℕ, ◌<◌}
-use mathlib.Core.Path.{◌≡◌, refl, sym, ◌∙◌}
+use mathlib.Core.Path.{◌≡◌, refl, sym, ap, ◌∙◌}
 use mathlib.Core.Bool.{Bool, true, false, ◌&&◌, true≢false}
 use mathlib.Core.List.{List}
 use lib.Ieee.{Float, nan, inf, fin, eq, le, lt, of_bits}
@@ -26,7 +26,7 @@ use Rattle.rules.specs.Rules.{Rules, passes27}
 use Rattle.rules.specs.Rows.{rows_ruled}
 use Rattle.mass_operator.specs.Flat.{coefficients}
 use Rattle.check_range.specs.Closing.{Closing, closing_for, error_in, given_finite}
-use Rattle.check_range.specs.Range.{in_range, vec_in_range, mat_in_range, jacobian_in_range, mass_in_range, row_in_range, table_in_range}
+use Rattle.check_range.specs.Range.{least, most, in_range, vec_in_range, mat_in_range, jacobian_in_range, mass_in_range, row_in_range, table_in_range}
 use Rattle.check_refusals.specs.Judged.{table_tests}
 use Rattle.check_refusals.specs.Sound.{row_sound}
 use Rattle.check_refusals.proofs.Judgement.{rows_pass, given_pass, range_pass}
@@ -131,8 +131,7 @@ module _ (kind : Kind) (given : List Float) (rows bodies : ℕ) (numbers : List 
         (judge_pass 7 (passes7 t) _ (sym rows_7) refl
         (judge_pass 18 _ _ (range_pass kind given rows bodies numbers words masses (coefficients multipliers) (sym range_18)) refl judge_done))))))
 
-  pub all_at_once : {r27 r28 r20 r6 r7 : Bool} → r27 ≡ passes27 s → r28 ≡ rows_ruled s words rows
-      → r20 ≡ given_finite kind (coefficients given) rows → r6 ≡ every (λ b. mass_in_range (mass_of masses b)) bodies → r7 ≡ every sound_row rows
+  pub all_at_once : {r27 r28 r20 r6 r7 : Bool} → r27 ≡ passes27 s → r28 ≡ rows_ruled s words rows → r20 ≡ given_finite kind (coefficients given) rows → r6 ≡ every (λ b. mass_in_range (mass_of masses b)) bodies → r7 ≡ every sound_row rows
       → ((((r27 && r28) && placed) && r20) && (r6 && r7)) ≡ true → judge (table_tests c) ≡ going tt
   all_at_once {r27} {r28} {r20} {r6} {r7} e27 e28 e20 e6 e7 h =
       let (front, back) = both (((r27 && r28) && placed) && r20) (r6 && r7) h in

@@ -25,14 +25,12 @@ use Rattle.check_range.specs.Range.{table_in_range, passes18}
 use Rattle.check_refusals.specs.Judged.{table_tests}
 
 -- ---- refusal 4 reads the words alone
-pub words_pass : (rows bodies : ℕ) (numbers : List Float) (words : List ℕ) (masses : List Float) {p : Bool}
-    → p ≡ every (λ i. words_fit_of (words_of words (8 * i))) rows → p ≡ passes4 (table_of rows bodies numbers words masses)
+pub words_pass : (rows bodies : ℕ) (numbers : List Float) (words : List ℕ) (masses : List Float) {p : Bool} → p ≡ every (λ i. words_fit_of (words_of words (8 * i))) rows → p ≡ passes4 (table_of rows bodies numbers words masses)
 unfolding passes4 row_of
 words_pass rows bodies numbers words masses e = e
 
 -- ---- and so does 28
-pub rows_pass : (s : Rules) (rows bodies : ℕ) (numbers : List Float) (words : List ℕ) (masses : List Float) {p : Bool}
-    → p ≡ rows_ruled s words rows → p ≡ passes28 s (table_of rows bodies numbers words masses)
+pub rows_pass : (s : Rules) (rows bodies : ℕ) (numbers : List Float) (words : List ℕ) (masses : List Float) {p : Bool} → p ≡ rows_ruled s words rows → p ≡ passes28 s (table_of rows bodies numbers words masses)
 rows_pass s rows bodies numbers words masses e = e ∙ lent_28 s rows bodies numbers words masses
 
 -- ---- and 6 judges the centres with the masses

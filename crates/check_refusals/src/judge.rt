@@ -44,16 +44,8 @@ fn judge_in_order(
     rule_tolerances: &[f64],
     placed: bool,
 ) -> TableJudged
-    requires { (27 * rows ≤ length numbers.now) × (8 * rows ≤ length words.now)
-        × (10 * bodies ≤ length masses.now) × (rows ≤ length multipliers.now)
-        × (3 * length rule_tolerances.now ≤ length rule_words.now) × GivenFrom kind (length given.now) rows }
-    ensures { judge
-        (table_tests
-        (closing_for kind (table_of rows bodies numbers.now words.now masses.now)
-        (coefficients multipliers.now)
-        (rules_in rule_words.now rule_tolerances.now) (coefficients given.now)
-        placed))
-        ≡ judged_out result }
+    requires { (27 * rows ≤ length numbers.now) × (8 * rows ≤ length words.now) × (10 * bodies ≤ length masses.now) × (rows ≤ length multipliers.now) × (3 * length rule_tolerances.now ≤ length rule_words.now) × GivenFrom kind (length given.now) rows }
+    ensures { judge (table_tests (closing_for kind (table_of rows bodies numbers.now words.now masses.now) (coefficients multipliers.now) (rules_in rule_words.now rule_tolerances.now) (coefficients given.now) placed)) ≡ judged_out result }
 {
     let n = rows as usize;
     let b = bodies as usize;
@@ -96,16 +88,8 @@ pub fn judge_table(
     rule_tolerances: &[f64],
     placed: bool,
 ) -> TableJudged
-    requires { (27 * rows ≤ length numbers.now) × (8 * rows ≤ length words.now)
-        × (10 * bodies ≤ length masses.now) × (rows ≤ length multipliers.now)
-        × (3 * length rule_tolerances.now ≤ length rule_words.now) × GivenFrom kind (length given.now) rows }
-    ensures { judge
-        (table_tests
-        (closing_for kind (table_of rows bodies numbers.now words.now masses.now)
-        (coefficients multipliers.now)
-        (rules_in rule_words.now rule_tolerances.now) (coefficients given.now)
-        placed))
-        ≡ judged_out result }
+    requires { (27 * rows ≤ length numbers.now) × (8 * rows ≤ length words.now) × (10 * bodies ≤ length masses.now) × (rows ≤ length multipliers.now) × (3 * length rule_tolerances.now ≤ length rule_words.now) × GivenFrom kind (length given.now) rows }
+    ensures { judge (table_tests (closing_for kind (table_of rows bodies numbers.now words.now masses.now) (coefficients multipliers.now) (rules_in rule_words.now rule_tolerances.now) (coefficients given.now) placed)) ≡ judged_out result }
 {
     let n = rows as usize;
     let b = bodies as usize;

@@ -20,11 +20,8 @@ fn row_sound_at(
     i: usize,
     bodies: u32,
 ) -> bool
-    requires { (27 * i + 27 ≤ length numbers.now) × (8 * i + 8 ≤ length words.now)
-        × (i + 1 ≤ length multipliers.now) × GivenFrom kind (length given.now) (i + 1) }
-    ensures { result
-        ≡ row_sound bodies (row_of numbers.now words.now i)
-        (error_in kind numbers.now given.now i) (get_or multipliers.now i nan) }
+    requires { (27 * i + 27 ≤ length numbers.now) × (8 * i + 8 ≤ length words.now) × (i + 1 ≤ length multipliers.now) × GivenFrom kind (length given.now) (i + 1) }
+    ensures { result ≡ row_sound bodies (row_of numbers.now words.now i) (error_in kind numbers.now given.now i) (get_or multipliers.now i nan) }
 {
     let w = words_at(words, 8 * i);
     let s = scalars_at(numbers, 27 * i + 15);
@@ -47,14 +44,8 @@ pub fn rows_sound(
     rows: usize,
     bodies: u32,
 ) -> bool
-    requires { (27 * rows ≤ length numbers.now) × (8 * rows ≤ length words.now)
-        × (rows ≤ length multipliers.now) × GivenFrom kind (length given.now) rows }
-    ensures { result
-        ≡ every
-        (λ i.
-        row_sound bodies (row_of numbers.now words.now i)
-        (error_in kind numbers.now given.now i) (get_or multipliers.now i nan))
-        rows }
+    requires { (27 * rows ≤ length numbers.now) × (8 * rows ≤ length words.now) × (rows ≤ length multipliers.now) × GivenFrom kind (length given.now) rows }
+    ensures { result ≡ every (λ i. row_sound bodies (row_of numbers.now words.now i) (error_in kind numbers.now given.now i) (get_or multipliers.now i nan)) rows }
 {
     let mut all = true;
     let mut i = 0;

@@ -28,8 +28,7 @@ unfolding added_row
 added_row_length l j c =
     added_length (added_at l j.body_a j.linear_a j.angular_a c) j.body_b j.linear_b j.angular_b c ∙ added_length l j.body_a j.linear_a j.angular_a c
 
-added_at_lem : (l : List Float) (a : ℕ) (u v : Vec3) (c : Float) (b : ℕ) → 6 * a + 6 ≤ length l
-    → paired_of (added_at l a u v c) b ≡ cond (eqb a b) (add_impulse_of (paired_of l b) u v c) (paired_of l b)
+added_at_lem : (l : List Float) (a : ℕ) (u v : Vec3) (c : Float) (b : ℕ) → 6 * a + 6 ≤ length l → paired_of (added_at l a u v c) b ≡ cond (eqb a b) (add_impulse_of (paired_of l b) u v c) (paired_of l b)
 unfolding added_at
 added_at_lem l a u v c b h = put_at l a (add_impulse_of (paired_of l a) u v c) b h ∙ go (eqb a b) (eqb-true a b)
   where
@@ -37,14 +36,12 @@ added_at_lem l a u v c b h = put_at l a (add_impulse_of (paired_of l a) u v c) b
     go true y = let e : a ≡ b = y refl in rw e
     go false y = refl
 
-added_row_lem : (l : List Float) (j : RowJacobian) (c : Float) (b : ℕ) → 6 * j.body_a + 6 ≤ length l → 6 * j.body_b + 6 ≤ length l
-    → paired_of (added_row l j c) b ≡ add_row_of j c b (paired_of l b)
+added_row_lem : (l : List Float) (j : RowJacobian) (c : Float) (b : ℕ) → 6 * j.body_a + 6 ≤ length l → 6 * j.body_b + 6 ≤ length l → paired_of (added_row l j c) b ≡ add_row_of j c b (paired_of l b)
 unfolding added_row add_row_of
 added_row_lem l j c b p q =
     let m = added_at l j.body_a j.linear_a j.angular_a c in
     let e = added_length l j.body_a j.linear_a j.angular_a c in
-    let r : paired_of m b ≡ cond (eqb j.body_a b) (add_impulse_of (paired_of l b) j.linear_a j.angular_a c) (paired_of l b) =
-    added_at_lem l j.body_a j.linear_a j.angular_a c b p in
+    let r : paired_of m b ≡ cond (eqb j.body_a b) (add_impulse_of (paired_of l b) j.linear_a j.angular_a c) (paired_of l b) = added_at_lem l j.body_a j.linear_a j.angular_a c b p in
     added_at_lem m j.body_b j.linear_b j.angular_b c b (omega arith) ∙ ap (λ (h : GeneralizedImpulse). cond (eqb j.body_b b) (add_impulse_of h j.linear_b j.angular_b c) h) r
 
 pub one_more : {j : ℕ → RowJacobian} {x : ℕ → Float} {bodies i : ℕ} {l l' : List Float} → Summing j x bodies i l

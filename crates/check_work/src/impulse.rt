@@ -46,15 +46,10 @@ fn add_both(
     size_impulses: &mut [f64],
 )
     requires i_in_bounds { (27 * i + 27 ≤ length numbers.now) × (8 * i + 8 ≤ length words.now) }
-    requires body_a_in_bounds { (6 * (rows_in numbers.now words.now i).body_a + 6 ≤ length impulses.old)
-        × (6 * (rows_in numbers.now words.now i).body_b + 6 ≤ length impulses.old) }
-    requires body_a_in_bounds_2 { (6 * (rows_in numbers.now words.now i).body_a + 6 ≤ length size_impulses.old)
-        × (6 * (rows_in numbers.now words.now i).body_b + 6 ≤ length size_impulses.old) }
-    ensures impulses_after { impulses.new
-        ≡ added_row impulses.old (rows_in numbers.now words.now i) coefficient }
-    ensures size_impulses_after { size_impulses.new
-        ≡ added_row size_impulses.old (row_sizes_in numbers.now words.now i)
-        (absolute coefficient) }
+    requires body_a_in_bounds { (6 * (rows_in numbers.now words.now i).body_a + 6 ≤ length impulses.old) × (6 * (rows_in numbers.now words.now i).body_b + 6 ≤ length impulses.old) }
+    requires body_a_in_bounds_2 { (6 * (rows_in numbers.now words.now i).body_a + 6 ≤ length size_impulses.old) × (6 * (rows_in numbers.now words.now i).body_b + 6 ≤ length size_impulses.old) }
+    ensures impulses_after { impulses.new ≡ added_row impulses.old (rows_in numbers.now words.now i) coefficient }
+    ensures size_impulses_after { size_impulses.new ≡ added_row size_impulses.old (row_sizes_in numbers.now words.now i) (absolute coefficient) }
 {
     let j = jacobian_at(numbers, words, i);
     add_row(j, coefficient, impulses);
@@ -73,10 +68,8 @@ pub fn sum_impulses(
     requires multipliers_in_bounds { (27 * length multipliers.now ≤ length numbers.now) × (8 * length multipliers.now ≤ length words.now) }
     requires impulses_len { (length impulses.old ≡ 6 * bodies) × (length size_impulses.old ≡ 6 * bodies) }
     requires valid { Valid (length multipliers.now) bodies numbers.now words.now }
-    ensures summing { Summing (rows_in numbers.now words.now)
-        (coefficients multipliers.now) bodies (length multipliers.now) impulses.new }
-    ensures summing_2 { Summing (row_sizes_in numbers.now words.now)
-        (sizes_in multipliers.now) bodies (length multipliers.now) size_impulses.new }
+    ensures summing { Summing (rows_in numbers.now words.now) (coefficients multipliers.now) bodies (length multipliers.now) impulses.new }
+    ensures summing_2 { Summing (row_sizes_in numbers.now words.now) (sizes_in multipliers.now) bodies (length multipliers.now) size_impulses.new }
 {
     loops::clear(impulses);
     loops::clear(size_impulses);

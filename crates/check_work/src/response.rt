@@ -21,12 +21,8 @@ fn turn(mass: SolverMass, b: usize, impulses: &mut [f64])
 // Body b, and its sizes.
 fn turn_both(masses: &[f64], b: usize, impulses: &mut [f64], size_impulses: &mut [f64])
     requires { (10 * b + 10 ≤ length masses.now) × (6 * b + 6 ≤ length impulses.old) × (6 * b + 6 ≤ length size_impulses.old) }
-    ensures impulses_after { impulses.new
-        ≡ put_paired_of impulses.old b
-        (response_of (mass_of masses.now b) (paired_of impulses.old b)) }
-    ensures size_impulses_after { size_impulses.new
-        ≡ put_paired_of size_impulses.old b
-        (response_of (mass_of (map absolute masses.now) b) (paired_of size_impulses.old b)) }
+    ensures impulses_after { impulses.new ≡ put_paired_of impulses.old b (response_of (mass_of masses.now b) (paired_of impulses.old b)) }
+    ensures size_impulses_after { size_impulses.new ≡ put_paired_of size_impulses.old b (response_of (mass_of (map absolute masses.now) b) (paired_of size_impulses.old b)) }
 {
     let mass = mass_at(masses, b);
     turn(mass, b, impulses);
@@ -35,13 +31,9 @@ fn turn_both(masses: &[f64], b: usize, impulses: &mut [f64], size_impulses: &mut
 
 // The response of every body in place of its impulse.
 pub fn respond(masses: &[f64], bodies: usize, impulses: &mut [f64], size_impulses: &mut [f64])
-    requires { (10 * bodies ≤ length masses.now) × (length impulses.old ≡ 6 * bodies)
-        × (length size_impulses.old ≡ 6 * bodies) }
-    ensures paired { Paired (λ b. response_of (mass_of masses.now b) (paired_of impulses.old b))
-        bodies impulses.new }
-    ensures paired_2 { Paired
-        (λ b. response_of (mass_of (map absolute masses.now) b) (paired_of size_impulses.old b))
-        bodies size_impulses.new }
+    requires { (10 * bodies ≤ length masses.now) × (length impulses.old ≡ 6 * bodies) × (length size_impulses.old ≡ 6 * bodies) }
+    ensures paired { Paired (λ b. response_of (mass_of masses.now b) (paired_of impulses.old b)) bodies impulses.new }
+    ensures paired_2 { Paired (λ b. response_of (mass_of (map absolute masses.now) b) (paired_of size_impulses.old b)) bodies size_impulses.new }
 {
     let mut b = 0;
     while b < bodies {

@@ -20,15 +20,11 @@ pub fn measure_rows(
     values: &mut [f64],
     sizes: &mut [f64],
 )
-    requires multipliers_in_bounds { (27 * length multipliers.now ≤ length numbers.now)
-        × (8 * length multipliers.now ≤ length words.now) × (10 * bodies ≤ length masses.now) }
-    requires impulses_len { (length impulses.old ≡ 6 * bodies) × (length size_impulses.old ≡ 6 * bodies)
-        × (length values.old ≡ length multipliers.now) × (length sizes.old ≡ length multipliers.now) }
+    requires multipliers_in_bounds { (27 * length multipliers.now ≤ length numbers.now) × (8 * length multipliers.now ≤ length words.now) × (10 * bodies ≤ length masses.now) }
+    requires impulses_len { (length impulses.old ≡ 6 * bodies) × (length size_impulses.old ≡ 6 * bodies) × (length values.old ≡ length multipliers.now) × (length sizes.old ≡ length multipliers.now) }
     requires valid { Valid (length multipliers.now) bodies numbers.now words.now }
-    ensures measured { Measured bodies numbers.now words.now masses.now
-        multipliers.now values.new sizes.new }
-    ensures free { Free impulses.old impulses.new
-        × Free size_impulses.old size_impulses.new }
+    ensures measured { Measured bodies numbers.now words.now masses.now multipliers.now values.new sizes.new }
+    ensures free { Free impulses.old impulses.new × Free size_impulses.old size_impulses.new }
 {
     sum_impulses(numbers, words, multipliers, bodies, impulses, size_impulses);
     respond(masses, bodies, impulses, size_impulses);

@@ -39,10 +39,8 @@ fn value_at(
     size_responses: &[f64],
 ) -> RowValue
     requires i_in_bounds { (27 * i + 27 ≤ length numbers.now) × (8 * i + 8 ≤ length words.now) }
-    requires body_a_in_bounds { (6 * (rows_in numbers.now words.now i).body_a + 6 ≤ length responses.now)
-        × (6 * (rows_in numbers.now words.now i).body_b + 6 ≤ length responses.now) }
-    requires body_a_in_bounds_2 { (6 * (rows_in numbers.now words.now i).body_a + 6 ≤ length size_responses.now)
-        × (6 * (rows_in numbers.now words.now i).body_b + 6 ≤ length size_responses.now) }
+    requires body_a_in_bounds { (6 * (rows_in numbers.now words.now i).body_a + 6 ≤ length responses.now) × (6 * (rows_in numbers.now words.now i).body_b + 6 ≤ length responses.now) }
+    requires body_a_in_bounds_2 { (6 * (rows_in numbers.now words.now i).body_a + 6 ≤ length size_responses.now) × (6 * (rows_in numbers.now words.now i).body_b + 6 ≤ length size_responses.now) }
     ensures value_value { result.value ≡ value_in (rows_in numbers.now words.now i) responses.now }
     ensures size_value { result.size ≡ value_in (row_sizes_in numbers.now words.now i) size_responses.now }
 {
@@ -64,17 +62,11 @@ pub fn fill_values(
     values: &mut [f64],
     sizes: &mut [f64],
 )
-    requires values_in_bounds { (27 * length values.old ≤ length numbers.now) × (8 * length values.old ≤ length words.now)
-        × (length sizes.old ≡ length values.old) }
+    requires values_in_bounds { (27 * length values.old ≤ length numbers.now) × (8 * length values.old ≤ length words.now) × (length sizes.old ≡ length values.old) }
     requires responses_len { (length responses.now ≡ 6 * bodies) × (length size_responses.now ≡ 6 * bodies) }
     requires valid { Valid (length values.old) bodies numbers.now words.now }
-    ensures values_after { values.new
-        ≡ tabulate (λ i. value_in (rows_in numbers.now words.now i) responses.now)
-        (length values.old) }
-    ensures sizes_after { sizes.new
-        ≡ tabulate
-        (λ i. value_in (row_sizes_in numbers.now words.now i) size_responses.now)
-        (length values.old) }
+    ensures values_after { values.new ≡ tabulate (λ i. value_in (rows_in numbers.now words.now i) responses.now) (length values.old) }
+    ensures sizes_after { sizes.new ≡ tabulate (λ i. value_in (row_sizes_in numbers.now words.now i) size_responses.now) (length values.old) }
 {
     let mut i = 0;
     while i < values.len() {

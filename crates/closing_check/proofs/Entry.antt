@@ -120,8 +120,7 @@ module _ (kind : Kind) (s : Rules) (t : Table) (listed residual : ℕ → Float)
       record { answered = rw f; means = means_3 c f; named = refl; ruled = λ v. absurd (v 3 refl); memory = record { emptied = λ p. absurd (true≢false (sym p ∙ f)); untouched = λ _. refl } }
 
   -- `found` is what the code found of the centres
-  pub checked_on : {found : Bool} {after : CheckMemory} {numbersAfter : List ℕ} {answer : CheckAnswer} → not r ≡ false → Held c
-      → t.rows ≤ 512 → found ≡ placed → answer ≡ check_of true (closing_for kind t listed s residual found)
+  pub checked_on : {found : Bool} {after : CheckMemory} {numbersAfter : List ℕ} {answer : CheckAnswer} → not r ≡ false → Held c → t.rows ≤ 512 → found ≡ placed → answer ≡ check_of true (closing_for kind t listed s residual found)
       → numbersAfter ≡ named_by answer (closing_for kind t listed s residual found) numbers → after ≡ cleared_memory before → Checked fits s c answer numbers numbersAfter before after
   unfolding AllPass
   checked_on {answer = answer} h held few q a named p =

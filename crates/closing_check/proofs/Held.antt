@@ -40,11 +40,8 @@ module _ (kind : Kind) (rows bodies : ℕ) (numbers : List Float) (words : List 
   unfolding vec_of
   held_vec l h at = record { x = h at; y = h (at + 1); z = h (at + 2) }
 
-  pub held_of : ((k : ℕ) → T (fits binary64 (get_or numbers k nan))) → ((k : ℕ) → T (fits binary64 (get_or masses k nan)))
-      → ((k : ℕ) → T (fits binary64 (get_or given k nan))) → ((k : ℕ) → T (fits binary64 (get_or multipliers k nan)))
-      → ((k : ℕ) → T (fits binary64 (get_or rule_tolerances k nan))) → Held
-      (closing_for kind (table_of rows bodies numbers words masses) (coefficients multipliers) (rules_in rule_words rule_tolerances)
-      (coefficients given) placed)
+  pub held_of : ((k : ℕ) → T (fits binary64 (get_or numbers k nan))) → ((k : ℕ) → T (fits binary64 (get_or masses k nan))) → ((k : ℕ) → T (fits binary64 (get_or given k nan))) → ((k : ℕ) → T (fits binary64 (get_or multipliers k nan)))
+      → ((k : ℕ) → T (fits binary64 (get_or rule_tolerances k nan))) → Held (closing_for kind (table_of rows bodies numbers words masses) (coefficients multipliers) (rules_in rule_words rule_tolerances) (coefficients given) placed)
   unfolding row_of jacobian_of scalars_of mass_of
   held_of n m g x r = record {
     row = λ i. record { linear_a = held_vec numbers n (27 * i); angular_a = held_vec numbers n (27 * i + 3); linear_b = held_vec numbers n (27 * i + 9); angular_b = held_vec numbers n (27 * i + 12) };

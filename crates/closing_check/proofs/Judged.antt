@@ -39,8 +39,7 @@ module _ (c : Closing) {j : TableJudged} (e : judge (table_tests c) ≡ judged_o
   passed_judged h = verdict_of_lem true c (refl, all_judged h)
 
 -- the rows' bodies
-valid_of : (rows bodies : ℕ) (numbers : List Float) (words : List ℕ) (masses : List Float)
-    → passes7 (table_of rows bodies numbers words masses) ≡ true → Valid rows bodies numbers words
+valid_of : (rows bodies : ℕ) (numbers : List Float) (words : List ℕ) (masses : List Float) → passes7 (table_of rows bodies numbers words masses) ≡ true → Valid rows bodies numbers words
 unfolding passes7
 valid_of rows bodies numbers words masses h = record {
   a = λ i l. (valid_bodies bodies (row_of numbers words i) ((every_iff (λ i. is_valid_of bodies (row_of numbers words i)) rows).0 h i l)).a;

@@ -48,14 +48,7 @@ module _ (kind : Kind) (s : Rules) (given : List Float) (placed : Bool) {rows bo
   module _ {reaches : List Float} (made : reaches ≡ tabulate (reach_in (error_in kind numbers given) values sizes rows) rows) where
     reach_is : (i : ℕ) → i < rows → get_or reaches i nan ≡ reach c i
     unfolding reach_in reach row_of scalars_of
-    reach_is i h = rw (
-      made,
-      get_d_tabulate (reach_in (error_in kind numbers given) values sizes rows) rows i nan h,
-      values_is,
-      sizes_is,
-      get_d_tabulate (value_of c) rows i nan h,
-      get_d_tabulate (size_of c) rows i nan h,
-    )
+    reach_is i h = rw (made, get_d_tabulate (reach_in (error_in kind numbers given) values sizes rows) rows i nan h, values_is, sizes_is, get_d_tabulate (value_of c) rows i nan h, get_d_tabulate (size_of c) rows i nan h)
 
     pub reached_is : {answer : CheckAnswer} → Reached answer c reaches
     reached_is = record { reached = λ _. reach_is }
@@ -105,8 +98,7 @@ module _ (s : Rules) (rows bodies : ℕ) (numbers : List Float) (words : List �
   unfolding row_of words_of
   rules_are = refl
 
-  pub named_is : (reaches : List Float) (before : List ℕ) {answer : CheckAnswer} {after : List ℕ} → answer ≡ verdict_in words reaches s rows
-      → length before ≡ rows → after ≡ tabulate (rule_in s words) (length before) → after ≡ named_by answer judged before
+  pub named_is : (reaches : List Float) (before : List ℕ) {answer : CheckAnswer} {after : List ℕ} → answer ≡ verdict_in words reaches s rows → length before ≡ rows → after ≡ tabulate (rule_in s words) (length before) → after ≡ named_by answer judged before
   unfolding verdict_in check
   named_is reaches before a e n =
       let gap = maxima_by (λ i. dimension_of (get_or words (8 * i + 1) 0)) (λ i. get_or reaches i nan) rows in

@@ -3,7 +3,6 @@ use Rattle.std.specs.Prelude.{ℕ, ◌+◌, ◌*◌, ◌<◌, ◌≡◌, Bool, L
 use Rattle.std.specs.Float.{nan}
 use Rattle.loops.specs.Run.{check}
 use Rattle.loops.specs.Every.{every}
-use Rattle.loops.specs.Cleared.{Free}
 use Rattle.kapitsa_joint.specs.Tolerance.{dimension_of}
 use Rattle.kapitsa_joint.specs.Maxima.{maxima_by}
 use Rattle.rules.specs.Rules.{Rules, Ruled}
@@ -24,13 +23,6 @@ verdict_in words reaches rules rows =
 -- what the check leaves in `values` where it gives a verdict: each row's rounded |r| + E. The list of document 02, m, is made from it before the memory is cleared.
 pub record Reached (answer : CheckAnswer) (c : Closing) (values : List Float) : Type 0 where
   pub reached : ((n : ℕ) → answer ≡ Refused n → ⊥) → (i : ℕ) → i < c.table.rows → get_or values i nan ≡ reach c i
-
--- what it leaves there else, and after a refusal, is free: the entry clears it
-pub record MeasuredFree (before after : CheckMemory) : Type 0 where
-  pub impulses_free : Free before.impulses after.impulses
-  pub size_impulses_free : Free before.size_impulses after.size_impulses
-  pub values_free : Free before.values after.values
-  pub sizes_free : Free before.sizes after.sizes
 
 pub record Checked (fits : Bool) (s : Rules) (c : Closing) (answer : CheckAnswer) (numbers numbersAfter : List ℕ) (before after : CheckMemory) : Type 0 where
   pub answered : answer ≡ check_of fits c

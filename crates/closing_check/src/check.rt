@@ -6,7 +6,7 @@ ghost use Rattle.rules.specs.Rows.{rules_in, rows_ruled};
 ghost use Rattle.check_range.specs.Closing.{closing_for, GivenFrom};
 ghost use Rattle.check_answer.specs.Answer.{check_of, named_by};
 ghost use Rattle.check_work.specs.Work.{memory_of, Room};
-ghost use Rattle.closing_check.specs.Checked.{verdict_in, Reached, MeasuredFree};
+ghost use Rattle.closing_check.specs.Checked.{verdict_in, Reached};
 
 use check_answer::CheckAnswer;
 use check_measure::{largest_reaches, measure_reaches, rows_close};
@@ -23,12 +23,9 @@ fn verdict(
     rule_tolerances: &[f64],
     rows: usize,
 ) -> CheckAnswer
-    requires rows_in_bounds { (8 * rows ≤ length words.now) × (rows ≤ length reaches.now)
-        × (3 * length rule_tolerances.now ≤ length rule_words.now) }
+    requires rows_in_bounds { (8 * rows ≤ length words.now) × (rows ≤ length reaches.now) × (3 * length rule_tolerances.now ≤ length rule_words.now) }
     requires rows_value { rows_ruled (rules_in rule_words.now rule_tolerances.now) words.now rows ≡ true }
-    ensures { result
-        ≡ verdict_in words.now reaches.now
-        (rules_in rule_words.now rule_tolerances.now) rows }
+    ensures { result ≡ verdict_in words.now reaches.now (rules_in rule_words.now rule_tolerances.now) rows }
 {
     let gap = largest_reaches(words, reaches, rows);
     if rows_close(words, reaches, rule_words, rule_tolerances, rows) {
@@ -56,33 +53,12 @@ pub fn judged_check(
     values: &mut [f64],
     sizes: &mut [f64],
 ) -> CheckAnswer
-    requires room { Room rows bodies numbers.now words.now masses.now multipliers.now
-        (memory_of impulses.old size_impulses.old values.old sizes.old) }
-    requires rule_words_len { (length rule_words.now ≡ 3 * length rule_tolerances.now)
-        × (length rule_tolerances.now ≤ 64) × (length rule_numbers.old ≡ rows) }
+    requires room { Room rows bodies numbers.now words.now masses.now multipliers.now (memory_of impulses.old size_impulses.old values.old sizes.old) }
+    requires rule_words_len { (length rule_words.now ≡ 3 * length rule_tolerances.now) × (length rule_tolerances.now ≤ 64) × (length rule_numbers.old ≡ rows) }
     requires rows_bound { (rows ≤ 512) × GivenFrom kind (length given.now) rows }
-    ensures value { result
-        ≡ check_of true
-        (closing_for kind (table_of rows bodies numbers.now words.now masses.now)
-        (coefficients multipliers.now)
-        (rules_in rule_words.now rule_tolerances.now) (coefficients given.now)
-        placed) }
-    ensures rule_numbers_after { rule_numbers.new
-        ≡ named_by result
-        (closing_for kind (table_of rows bodies numbers.now words.now masses.now)
-        (coefficients multipliers.now)
-        (rules_in rule_words.now rule_tolerances.now) (coefficients given.now)
-        placed)
-        rule_numbers.old }
-    ensures reached { Reached result
-        (closing_for kind (table_of rows bodies numbers.now words.now masses.now)
-        (coefficients multipliers.now)
-        (rules_in rule_words.now rule_tolerances.now) (coefficients given.now)
-        placed)
-        values.new }
-    ensures measured_free { MeasuredFree
-        (memory_of impulses.old size_impulses.old values.old sizes.old)
-        (memory_of impulses.new size_impulses.new values.new sizes.new) }
+    ensures value { result ≡ check_of true (closing_for kind (table_of rows bodies numbers.now words.now masses.now) (coefficients multipliers.now) (rules_in rule_words.now rule_tolerances.now) (coefficients given.now) placed) }
+    ensures rule_numbers_after { rule_numbers.new ≡ named_by result (closing_for kind (table_of rows bodies numbers.now words.now masses.now) (coefficients multipliers.now) (rules_in rule_words.now rule_tolerances.now) (coefficients given.now) placed) rule_numbers.old }
+    ensures reached { Reached result (closing_for kind (table_of rows bodies numbers.now words.now masses.now) (coefficients multipliers.now) (rules_in rule_words.now rule_tolerances.now) (coefficients given.now) placed) values.new }
 {
     let judged = judge_table(
         kind,

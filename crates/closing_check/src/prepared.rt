@@ -43,18 +43,9 @@ pub fn check_prepared(
     values: &mut [f64],
     sizes: &mut [f64],
 ) -> CheckAnswer
-    ensures { Checked
-        (passes3 kind rows bodies
-        (table_lengths numbers.now words.now masses.now beside.now
-        multipliers.now rule_words.now rule_tolerances.now
-        rule_numbers.old)
-        (work_lengths
-        (memory_of impulses.old size_impulses.old values.old sizes.old)))
+    ensures { Checked (passes3 kind rows bodies (table_lengths numbers.now words.now masses.now beside.now multipliers.now rule_words.now rule_tolerances.now rule_numbers.old) (work_lengths (memory_of impulses.old size_impulses.old values.old sizes.old)))
         (rules_in rule_words.now rule_tolerances.now)
-        (closing_in kind rows bodies numbers.now words.now masses.now
-        beside.now multipliers.now
-        (rules_in rule_words.now rule_tolerances.now))
-        result rule_numbers.old rule_numbers.new
+        (closing_in kind rows bodies numbers.now words.now masses.now beside.now multipliers.now (rules_in rule_words.now rule_tolerances.now)) result rule_numbers.old rule_numbers.new
         (memory_of impulses.old size_impulses.old values.old sizes.old)
         (memory_of impulses.new size_impulses.new values.new sizes.new) }
 {

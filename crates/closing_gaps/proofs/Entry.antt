@@ -1,6 +1,6 @@
 -- The check that gives its numbers: turned back by refusal 3, or judged and the numbers taken from the check's reaches. Assumes nothing.
 use Prim.Native.Nat.{ℕ, ◌≤◌}
-use mathlib.Core.Path.{◌≡◌, subst}
+use mathlib.Core.Path.{◌≡◌, subst, ◌∙◌}
 use mathlib.Core.Bool.{Bool, true, false, not, ◌&&◌}
 use mathlib.Core.List.{List}
 use lib.Dec.{eqb}
@@ -20,7 +20,7 @@ use Rattle.check_refusals.proofs.Fitting.{work_of}
 use Rattle.check_answer.specs.declared.CheckAnswer.{CheckAnswer}
 use Rattle.check_answer.proofs.Meaning.{Held}
 use Rattle.check_work.specs.Work.{CheckMemory}
-use Rattle.closing_check.specs.Beside.{placed_in}
+use Rattle.closing_check.specs.Beside.{placed_in, closing_in}
 use Rattle.closing_check.specs.Checked.{Checked, Reached}
 use Rattle.closing_check.proofs.Entry.{passed_3}
 use Rattle.closing_gaps.specs.Gaps.{gaps_lent, kept_by, GapsHeld}
@@ -46,10 +46,8 @@ module _ (kind : Kind) (rows bodies : ℕ) (numbers : List Float) (words : List 
   abbrev by : Bool → Closing
   by found = closing_for kind (table_of rows bodies numbers words masses) (coefficients multipliers) s (coefficients beside) found
 
-  pub held_on : (gaps : List Float) {found : Bool} → found ≡ placed_in kind bodies beside → {answer : CheckAnswer} {values : List Float}
-      → length values ≡ rows → Reached answer (by found) values → Held (by (placed_in kind bodies beside)) → rows ≤ 512
-      → {pass : Bool} {named namedAfter : List ℕ} {before after : CheckMemory} {gapsAfter : List Float} → Checked pass s
-      (by (placed_in kind bodies beside)) answer named namedAfter before after → gapsAfter ≡ kept_by answer values gaps
+  pub held_on : (gaps : List Float) {found : Bool} → found ≡ placed_in kind bodies beside → {answer : CheckAnswer} {values : List Float} → length values ≡ rows → Reached answer (by found) values → Held (by (placed_in kind bodies beside)) → rows ≤ 512
+      → {pass : Bool} {named namedAfter : List ℕ} {before after : CheckMemory} {gapsAfter : List Float} → Checked pass s (by (placed_in kind bodies beside)) answer named namedAfter before after → gapsAfter ≡ kept_by answer values gaps
       → GapsHeld pass s (by (placed_in kind bodies beside)) answer named namedAfter before after gaps gapsAfter
   held_on gaps q {answer} {values} long r held few h k =
       record { checked = h; told = told_on (by (placed_in kind bodies beside)) gaps long h.answered held (λ _. few) (subst (λ (b : Bool). Reached answer (by b) values) q r) k }

@@ -23,8 +23,7 @@ use Rattle.closing_check.specs.Checked.{Reached}
 use Rattle.closing_gaps.specs.Gaps.{gaps_by, kept_by, GapsMeaning, GapsTold}
 
 -- ---- a verdict and the numbers of its rows
-module _ {fits : Bool} {c : Closing} {answer : CheckAnswer} (e : answer ≡ check_of fits c) (held : Held c)
-    (few : fits ≡ true → c.table.rows ≤ 512) (v : (n : ℕ) → answer ≡ Refused n → ⊥) {gaps : List Float}
+module _ {fits : Bool} {c : Closing} {answer : CheckAnswer} (e : answer ≡ check_of fits c) (held : Held c) (few : fits ≡ true → c.table.rows ≤ 512) (v : (n : ℕ) → answer ≡ Refused n → ⊥) {gaps : List Float}
     (made : gaps ≡ tabulate (reach c) c.table.rows) where
   verdict : (n : ℕ) → check_of fits c ≡ Refused n → ⊥
   verdict n h = v n (e ∙ h)
@@ -79,9 +78,7 @@ made_by c gaps (Closed g) v = refl
 made_by c gaps (Open g) v = refl
 made_by c gaps (Refused n) v = absurd (v n refl)
 
-pub told_on : (c : Closing) (gaps : List Float) {values : List Float} → length values ≡ c.table.rows
-    → {fits : Bool} {answer : CheckAnswer} {after : List Float} → answer ≡ check_of fits c → Held c → (fits ≡ true → c.table.rows ≤ 512)
-    → Reached answer c values → after ≡ kept_by answer values gaps → GapsTold c answer gaps after
+pub told_on : (c : Closing) (gaps : List Float) {values : List Float} → length values ≡ c.table.rows → {fits : Bool} {answer : CheckAnswer} {after : List Float} → answer ≡ check_of fits c → Held c → (fits ≡ true → c.table.rows ≤ 512) → Reached answer c values → after ≡ kept_by answer values gaps → GapsTold c answer gaps after
 told_on c gaps long {answer = answer} e held few r k =
     let given = k ∙ by c long gaps answer r in
     record { given = given; means = λ v. gaps_mean e held few v (given ∙ made_by c gaps answer v) }

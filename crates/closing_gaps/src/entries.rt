@@ -33,19 +33,9 @@ pub fn closing_gaps(
     values: &mut [f64],
     sizes: &mut [f64],
 ) -> CheckAnswer
-    ensures { GapsHeld
-        (gaps_lent rows (length gaps.old) && passes3 Position rows bodies
-        (table_lengths numbers.now words.now masses.now centres.now
-        multipliers.now rule_words.now rule_tolerances.now
-        rule_numbers.old)
-        (work_lengths
-        (memory_of impulses.old size_impulses.old values.old sizes.old)))
+    ensures { GapsHeld (gaps_lent rows (length gaps.old) && passes3 Position rows bodies (table_lengths numbers.now words.now masses.now centres.now multipliers.now rule_words.now rule_tolerances.now rule_numbers.old) (work_lengths (memory_of impulses.old size_impulses.old values.old sizes.old)))
         (rules_in rule_words.now rule_tolerances.now)
-        (closing_of (table_of rows bodies numbers.now words.now masses.now)
-        (coefficients multipliers.now)
-        (rules_in rule_words.now rule_tolerances.now)
-        (centres_finite (centres_in bodies centres.now)))
-        result rule_numbers.old rule_numbers.new
+        (closing_of (table_of rows bodies numbers.now words.now masses.now) (coefficients multipliers.now) (rules_in rule_words.now rule_tolerances.now) (centres_finite (centres_in bodies centres.now))) result rule_numbers.old rule_numbers.new
         (memory_of impulses.old size_impulses.old values.old sizes.old)
         (memory_of impulses.new size_impulses.new values.new sizes.new)
         gaps.old gaps.new }
@@ -88,18 +78,9 @@ pub fn velocity_closing_gaps(
     values: &mut [f64],
     sizes: &mut [f64],
 ) -> CheckAnswer
-    ensures { GapsHeld
-        (gaps_lent rows (length gaps.old) && passes3 Velocity rows bodies
-        (table_lengths numbers.now words.now masses.now given.now
-        multipliers.now rule_words.now rule_tolerances.now
-        rule_numbers.old)
-        (work_lengths
-        (memory_of impulses.old size_impulses.old values.old sizes.old)))
+    ensures { GapsHeld (gaps_lent rows (length gaps.old) && passes3 Velocity rows bodies (table_lengths numbers.now words.now masses.now given.now multipliers.now rule_words.now rule_tolerances.now rule_numbers.old) (work_lengths (memory_of impulses.old size_impulses.old values.old sizes.old)))
         (rules_in rule_words.now rule_tolerances.now)
-        (speeds_of (table_of rows bodies numbers.now words.now masses.now)
-        (coefficients multipliers.now)
-        (rules_in rule_words.now rule_tolerances.now) (coefficients given.now))
-        result rule_numbers.old rule_numbers.new
+        (speeds_of (table_of rows bodies numbers.now words.now masses.now) (coefficients multipliers.now) (rules_in rule_words.now rule_tolerances.now) (coefficients given.now)) result rule_numbers.old rule_numbers.new
         (memory_of impulses.old size_impulses.old values.old sizes.old)
         (memory_of impulses.new size_impulses.new values.new sizes.new)
         gaps.old gaps.new }

@@ -29,22 +29,12 @@ fn with_small_memory(
     rule_numbers: &mut [u32],
     gaps: &mut [f64],
 ) -> CheckAnswer
-    requires rule_numbers_value { given_fits Position n b
-        (table_lengths numbers.now words.now masses.now centres.now multipliers.now rule_words.now
-        rule_tolerances.now rule_numbers.old)
-        ≡ true }
+    requires rule_numbers_value { given_fits Position n b (table_lengths numbers.now words.now masses.now centres.now multipliers.now rule_words.now rule_tolerances.now rule_numbers.old) ≡ true }
     requires n_bound { (n ≤ 128) × (b ≤ 64) }
-    ensures { GapsAlone
-        (gaps_lent n (length gaps.old) && given_fits Position n b
-        (table_lengths numbers.now words.now masses.now centres.now
-        multipliers.now rule_words.now rule_tolerances.now
-        rule_numbers.old))
+    ensures { GapsAlone (gaps_lent n (length gaps.old) && given_fits Position n b (table_lengths numbers.now words.now masses.now centres.now multipliers.now rule_words.now rule_tolerances.now rule_numbers.old))
         (rules_in rule_words.now rule_tolerances.now)
-        (closing_of (table_of n b numbers.now words.now masses.now)
-        (coefficients multipliers.now)
-        (rules_in rule_words.now rule_tolerances.now)
-        (centres_finite (centres_in b centres.now)))
-        result rule_numbers.old rule_numbers.new gaps.old gaps.new }
+        (closing_of (table_of n b numbers.now words.now masses.now) (coefficients multipliers.now) (rules_in rule_words.now rule_tolerances.now) (centres_finite (centres_in b centres.now))) result rule_numbers.old rule_numbers.new
+        gaps.old gaps.new }
 {
     let mut impulses: [f64; 384] = [0.0; 384];
     let mut size_impulses: [f64; 384] = [0.0; 384];
@@ -87,17 +77,10 @@ pub fn gaps_small(
     gaps: &mut [f64],
 ) -> CheckAnswer
     requires { (n ≤ 128) × (b ≤ 64) }
-    ensures { GapsAlone
-        (gaps_lent n (length gaps.old) && given_fits Position n b
-        (table_lengths numbers.now words.now masses.now centres.now
-        multipliers.now rule_words.now rule_tolerances.now
-        rule_numbers.old))
+    ensures { GapsAlone (gaps_lent n (length gaps.old) && given_fits Position n b (table_lengths numbers.now words.now masses.now centres.now multipliers.now rule_words.now rule_tolerances.now rule_numbers.old))
         (rules_in rule_words.now rule_tolerances.now)
-        (closing_of (table_of n b numbers.now words.now masses.now)
-        (coefficients multipliers.now)
-        (rules_in rule_words.now rule_tolerances.now)
-        (centres_finite (centres_in b centres.now)))
-        result rule_numbers.old rule_numbers.new gaps.old gaps.new }
+        (closing_of (table_of n b numbers.now words.now masses.now) (coefficients multipliers.now) (rules_in rule_words.now rule_tolerances.now) (centres_finite (centres_in b centres.now))) result rule_numbers.old rule_numbers.new
+        gaps.old gaps.new }
 {
     let table = TableLengths {
         numbers: numbers.len(),

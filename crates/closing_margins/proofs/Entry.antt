@@ -5,6 +5,7 @@ use mathlib.Core.Bool.{Bool, true, false, not, ◌&&◌, false≢true}
 use mathlib.Core.List.{List}
 use native.Mathlib.Omega.{arith}
 use lib.Dec.{leb, eqb}
+use lib.ListN.{length, get_or}
 use lib.Ieee.{Float, nan}
 use borrow.Author.Tests.{eqb-true, eq-eqb, leb-true, not-false}
 use Rattle.loops.specs.Judge.{AllPass}
@@ -79,8 +80,7 @@ pub words_closed : {answer : CheckAnswer} {number : ℕ → Float} {n words : �
 words_closed {g = g} h e = h.long g e
 
 module _ {answer : CheckAnswer} {dimension : ℕ → ℕ} {number : ℕ → Float} {n : ℕ} where
-  pub listed_closed : {g : Maxima} {rows rowsAfter : List ℕ} {margins marginsAfter : List Float} → answer ≡ Closed g
-      → Margins dimension number n rowsAfter marginsAfter → ClosedListed answer dimension number n rows margins rowsAfter marginsAfter
+  pub listed_closed : {g : Maxima} {rows rowsAfter : List ℕ} {margins marginsAfter : List Float} → answer ≡ Closed g → Margins dimension number n rowsAfter marginsAfter → ClosedListed answer dimension number n rows margins rowsAfter marginsAfter
   listed_closed {g} e m = record { listed = λ _ _. m; kept = λ h. absurd (h g e) }
 
   pub listed_open : {g : Maxima} {rows : List ℕ} {margins : List Float} → answer ≡ Open g → ClosedListed answer dimension number n rows margins rows margins
@@ -90,8 +90,7 @@ module _ {answer : CheckAnswer} {dimension : ℕ → ℕ} {number : ℕ → Floa
   listed_refused {k} e = record { listed = λ g h. absurd (closed_not_refused h k e); kept = λ _. (refl, refl) }
 
 -- ---- a check that has given each row's number: `numbers` of the rows, `gapsAfter` their measured ones
-module _ {fits : Bool} {s : Rules} (c : Closing) {answer : CheckAnswer} {named namedAfter : List ℕ} {before after : CheckMemory}
-    {gaps gapsAfter : List Float} (h : GapsHeld fits s c answer named namedAfter before after gaps gapsAfter) where
+module _ {fits : Bool} {s : Rules} (c : Closing) {answer : CheckAnswer} {named namedAfter : List ℕ} {before after : CheckMemory} {gaps gapsAfter : List Float} (h : GapsHeld fits s c answer named namedAfter before after gaps gapsAfter) where
   closed_numbers : {g : Maxima} → answer ≡ Closed g → (i : ℕ) → i < c.table.rows → number_at gapsAfter i ≡ reach c i
   closed_numbers e i l = rw (h.told.given ∙ ap (λ (a : CheckAnswer). gaps_by a c gaps) e) (get_d_tabulate (reach c) c.table.rows i nan l)
 
@@ -99,9 +98,7 @@ module _ {fits : Bool} {s : Rules} (c : Closing) {answer : CheckAnswer} {named n
   unfolding AllPass
   passed e = (h.checked.means.verdict.0 (closed_not_refused e)).0
 
-pub sized_on : (kind : Kind) (n b : ℕ) (t : TableLengths) (w : WorkLengths) (room : Bool) {s : Rules} (c : Closing) {answer : CheckAnswer}
-    {named namedAfter : List ℕ} {before after : CheckMemory} {gaps gapsAfter : List Float}
-    → c.table.rows ≡ n
+pub sized_on : (kind : Kind) (n b : ℕ) (t : TableLengths) (w : WorkLengths) (room : Bool) {s : Rules} (c : Closing) {answer : CheckAnswer} {named namedAfter : List ℕ} {before after : CheckMemory} {gaps gapsAfter : List Float} → c.table.rows ≡ n
     → GapsHeld (room && passes3 kind n b t w) s c answer named namedAfter before after gaps gapsAfter → ClosedSized answer (number_at gapsAfter) n t.words
 sized_on kind n b t w room c e h = record {
   sized = λ _ q. rw e at (sized_same (closed_numbers c h q) (all_sized h.checked.means (closed_not_refused q)));
@@ -117,9 +114,7 @@ module _ (kind : Kind) (rows bodies : ℕ) (numbers : List Float) (words : List 
   abbrev c : Closing
   c = closing_in kind rows bodies numbers words masses beside multipliers s
 
-  pub held_on : {fits pass : Bool} → fits ≡ pass
-      → {answer : CheckAnswer} {named namedAfter : List ℕ} {before after : CheckMemory} {gaps gapsAfter : List Float}
-      {margin_rows marginRowsAfter : List ℕ} {margins marginsAfter : List Float}
+  pub held_on : {fits pass : Bool} → fits ≡ pass → {answer : CheckAnswer} {named namedAfter : List ℕ} {before after : CheckMemory} {gaps gapsAfter : List Float} {margin_rows marginRowsAfter : List ℕ} {margins marginsAfter : List Float}
       → GapsHeld fits s c answer named namedAfter before after gaps gapsAfter → ClosedListed answer (dimension_at words) (number_at gapsAfter) rows margin_rows margins marginRowsAfter marginsAfter
       → MarginsHeld pass s c answer named namedAfter before after margin_rows margins marginRowsAfter marginsAfter
   held_on {pass = pass} q {answer} h l =

@@ -25,8 +25,7 @@ pub fn list_closed(
 )
     requires rows_bound { (rows ≤ 512) × (rows ≤ length reaches.now) × (length margin_rows.old ≡ rows) × (length margins.old ≡ rows) }
     requires closed_sized { ClosedSized answer (number_at reaches.now) rows (length words.now) }
-    ensures { ClosedListed answer (dimension_at words.now) (number_at reaches.now) rows
-        margin_rows.old margins.old margin_rows.new margins.new }
+    ensures { ClosedListed answer (dimension_at words.now) (number_at reaches.now) rows margin_rows.old margins.old margin_rows.new margins.new }
 {
     match answer {
         CheckAnswer::Closed(gap) => list_margins(words, reaches, rows, margin_rows, margins),

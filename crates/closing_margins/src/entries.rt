@@ -34,20 +34,9 @@ pub fn closing_margins(
     values: &mut [f64],
     sizes: &mut [f64],
 ) -> CheckAnswer
-    ensures { MarginsHeld
-        (margins_lent rows (length margin_rows.old) (length margins.old) && passes3 Position rows
-        bodies
-        (table_lengths numbers.now words.now masses.now centres.now
-        multipliers.now rule_words.now rule_tolerances.now
-        rule_numbers.old)
-        (work_lengths
-        (memory_of impulses.old size_impulses.old values.old sizes.old)))
+    ensures { MarginsHeld (margins_lent rows (length margin_rows.old) (length margins.old) && passes3 Position rows bodies (table_lengths numbers.now words.now masses.now centres.now multipliers.now rule_words.now rule_tolerances.now rule_numbers.old) (work_lengths (memory_of impulses.old size_impulses.old values.old sizes.old)))
         (rules_in rule_words.now rule_tolerances.now)
-        (closing_of (table_of rows bodies numbers.now words.now masses.now)
-        (coefficients multipliers.now)
-        (rules_in rule_words.now rule_tolerances.now)
-        (centres_finite (centres_in bodies centres.now)))
-        result rule_numbers.old rule_numbers.new
+        (closing_of (table_of rows bodies numbers.now words.now masses.now) (coefficients multipliers.now) (rules_in rule_words.now rule_tolerances.now) (centres_finite (centres_in bodies centres.now))) result rule_numbers.old rule_numbers.new
         (memory_of impulses.old size_impulses.old values.old sizes.old)
         (memory_of impulses.new size_impulses.new values.new sizes.new)
         margin_rows.old margins.old margin_rows.new margins.new }
@@ -92,19 +81,9 @@ pub fn velocity_closing_margins(
     values: &mut [f64],
     sizes: &mut [f64],
 ) -> CheckAnswer
-    ensures { MarginsHeld
-        (margins_lent rows (length margin_rows.old) (length margins.old) && passes3 Velocity rows
-        bodies
-        (table_lengths numbers.now words.now masses.now given.now
-        multipliers.now rule_words.now rule_tolerances.now
-        rule_numbers.old)
-        (work_lengths
-        (memory_of impulses.old size_impulses.old values.old sizes.old)))
+    ensures { MarginsHeld (margins_lent rows (length margin_rows.old) (length margins.old) && passes3 Velocity rows bodies (table_lengths numbers.now words.now masses.now given.now multipliers.now rule_words.now rule_tolerances.now rule_numbers.old) (work_lengths (memory_of impulses.old size_impulses.old values.old sizes.old)))
         (rules_in rule_words.now rule_tolerances.now)
-        (speeds_of (table_of rows bodies numbers.now words.now masses.now)
-        (coefficients multipliers.now)
-        (rules_in rule_words.now rule_tolerances.now) (coefficients given.now))
-        result rule_numbers.old rule_numbers.new
+        (speeds_of (table_of rows bodies numbers.now words.now masses.now) (coefficients multipliers.now) (rules_in rule_words.now rule_tolerances.now) (coefficients given.now)) result rule_numbers.old rule_numbers.new
         (memory_of impulses.old size_impulses.old values.old sizes.old)
         (memory_of impulses.new size_impulses.new values.new sizes.new)
         margin_rows.old margins.old margin_rows.new margins.new }

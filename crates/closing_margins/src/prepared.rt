@@ -32,21 +32,10 @@ fn margins_with(
     values: &mut [f64],
     sizes: &mut [f64],
 ) -> CheckAnswer
-    requires { (rows ≤ 512) × (margins_lent rows (length margin_rows.old) (length margins.old) ≡ true)
-        × (length gaps.old ≡ rows) }
-    ensures { MarginsHeld
-        (margins_lent rows (length margin_rows.old) (length margins.old) && passes3 kind rows
-        bodies
-        (table_lengths numbers.now words.now masses.now beside.now
-        multipliers.now rule_words.now rule_tolerances.now
-        rule_numbers.old)
-        (work_lengths
-        (memory_of impulses.old size_impulses.old values.old sizes.old)))
+    requires { (rows ≤ 512) × (margins_lent rows (length margin_rows.old) (length margins.old) ≡ true) × (length gaps.old ≡ rows) }
+    ensures { MarginsHeld (margins_lent rows (length margin_rows.old) (length margins.old) && passes3 kind rows bodies (table_lengths numbers.now words.now masses.now beside.now multipliers.now rule_words.now rule_tolerances.now rule_numbers.old) (work_lengths (memory_of impulses.old size_impulses.old values.old sizes.old)))
         (rules_in rule_words.now rule_tolerances.now)
-        (closing_in kind rows bodies numbers.now words.now masses.now
-        beside.now multipliers.now
-        (rules_in rule_words.now rule_tolerances.now))
-        result rule_numbers.old rule_numbers.new
+        (closing_in kind rows bodies numbers.now words.now masses.now beside.now multipliers.now (rules_in rule_words.now rule_tolerances.now)) result rule_numbers.old rule_numbers.new
         (memory_of impulses.old size_impulses.old values.old sizes.old)
         (memory_of impulses.new size_impulses.new values.new sizes.new)
         margin_rows.old margins.old margin_rows.new margins.new }
@@ -93,19 +82,9 @@ pub fn margins_prepared(
     values: &mut [f64],
     sizes: &mut [f64],
 ) -> CheckAnswer
-    ensures { MarginsHeld
-        (margins_lent rows (length margin_rows.old) (length margins.old) && passes3 kind rows
-        bodies
-        (table_lengths numbers.now words.now masses.now beside.now
-        multipliers.now rule_words.now rule_tolerances.now
-        rule_numbers.old)
-        (work_lengths
-        (memory_of impulses.old size_impulses.old values.old sizes.old)))
+    ensures { MarginsHeld (margins_lent rows (length margin_rows.old) (length margins.old) && passes3 kind rows bodies (table_lengths numbers.now words.now masses.now beside.now multipliers.now rule_words.now rule_tolerances.now rule_numbers.old) (work_lengths (memory_of impulses.old size_impulses.old values.old sizes.old)))
         (rules_in rule_words.now rule_tolerances.now)
-        (closing_in kind rows bodies numbers.now words.now masses.now
-        beside.now multipliers.now
-        (rules_in rule_words.now rule_tolerances.now))
-        result rule_numbers.old rule_numbers.new
+        (closing_in kind rows bodies numbers.now words.now masses.now beside.now multipliers.now (rules_in rule_words.now rule_tolerances.now)) result rule_numbers.old rule_numbers.new
         (memory_of impulses.old size_impulses.old values.old sizes.old)
         (memory_of impulses.new size_impulses.new values.new sizes.new)
         margin_rows.old margins.old margin_rows.new margins.new }

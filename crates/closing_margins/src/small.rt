@@ -30,23 +30,12 @@ fn with_small_memory(
     margin_rows: &mut [u32],
     margins: &mut [f64],
 ) -> CheckAnswer
-    requires rule_numbers_value { given_fits Position n b
-        (table_lengths numbers.now words.now masses.now centres.now multipliers.now rule_words.now
-        rule_tolerances.now rule_numbers.old)
-        ≡ true }
+    requires rule_numbers_value { given_fits Position n b (table_lengths numbers.now words.now masses.now centres.now multipliers.now rule_words.now rule_tolerances.now rule_numbers.old) ≡ true }
     requires n_bound { (n ≤ 128) × (b ≤ 64) }
-    ensures { MarginsAlone
-        (margins_lent n (length margin_rows.old) (length margins.old) && given_fits Position n b
-        (table_lengths numbers.now words.now masses.now centres.now
-        multipliers.now rule_words.now rule_tolerances.now
-        rule_numbers.old))
+    ensures { MarginsAlone (margins_lent n (length margin_rows.old) (length margins.old) && given_fits Position n b (table_lengths numbers.now words.now masses.now centres.now multipliers.now rule_words.now rule_tolerances.now rule_numbers.old))
         (rules_in rule_words.now rule_tolerances.now)
-        (closing_of (table_of n b numbers.now words.now masses.now)
-        (coefficients multipliers.now)
-        (rules_in rule_words.now rule_tolerances.now)
-        (centres_finite (centres_in b centres.now)))
-        result rule_numbers.old rule_numbers.new margin_rows.old margins.old
-        margin_rows.new margins.new }
+        (closing_of (table_of n b numbers.now words.now masses.now) (coefficients multipliers.now) (rules_in rule_words.now rule_tolerances.now) (centres_finite (centres_in b centres.now))) result rule_numbers.old rule_numbers.new
+        margin_rows.old margins.old margin_rows.new margins.new }
 {
     let mut impulses: [f64; 384] = [0.0; 384];
     let mut size_impulses: [f64; 384] = [0.0; 384];
@@ -91,18 +80,10 @@ pub fn margins_small(
     margins: &mut [f64],
 ) -> CheckAnswer
     requires { (n ≤ 128) × (b ≤ 64) }
-    ensures { MarginsAlone
-        (margins_lent n (length margin_rows.old) (length margins.old) && given_fits Position n b
-        (table_lengths numbers.now words.now masses.now centres.now
-        multipliers.now rule_words.now rule_tolerances.now
-        rule_numbers.old))
+    ensures { MarginsAlone (margins_lent n (length margin_rows.old) (length margins.old) && given_fits Position n b (table_lengths numbers.now words.now masses.now centres.now multipliers.now rule_words.now rule_tolerances.now rule_numbers.old))
         (rules_in rule_words.now rule_tolerances.now)
-        (closing_of (table_of n b numbers.now words.now masses.now)
-        (coefficients multipliers.now)
-        (rules_in rule_words.now rule_tolerances.now)
-        (centres_finite (centres_in b centres.now)))
-        result rule_numbers.old rule_numbers.new margin_rows.old margins.old
-        margin_rows.new margins.new }
+        (closing_of (table_of n b numbers.now words.now masses.now) (coefficients multipliers.now) (rules_in rule_words.now rule_tolerances.now) (centres_finite (centres_in b centres.now))) result rule_numbers.old rule_numbers.new
+        margin_rows.old margins.old margin_rows.new margins.new }
 {
     let table = TableLengths {
         numbers: numbers.len(),

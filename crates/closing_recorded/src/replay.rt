@@ -56,8 +56,7 @@ fn read_in(
     multipliers: &mut [f64],
 ) -> Seen
     requires formed { Formed case.now n b }
-    requires numbers_len { (length numbers.old ≡ 27 * n) × (length words.old ≡ 8 * n) × (length masses.old ≡ 10 * b)
-        × (length centres.old ≡ 3 * b) × (length multipliers.old ≡ n) }
+    requires numbers_len { (length numbers.old ≡ 27 * n) × (length words.old ≡ 8 * n) × (length masses.old ≡ 10 * b) × (length centres.old ≡ 3 * b) × (length multipliers.old ≡ n) }
     ensures { result ≡ seen_in case.now n b }
 {
     let rows = n as usize;

@@ -1,6 +1,6 @@
 -- The compact table while it is gathered: a row that is put into it is there, and every other row is as it was. Assumes nothing.
 use Prim.Native.Nat.{ℕ, ◌+◌, ◌*◌, ◌<◌, ◌≤◌}
-use mathlib.Core.Path.{◌≡◌, refl, ◌∙◌}
+use mathlib.Core.Path.{◌≡◌, refl, sym, ap, ◌∙◌}
 use mathlib.Core.Bool.{Bool, true, false, not}
 use mathlib.Core.Logic.{◌⊎◌, inl, inr}
 use mathlib.Core.List.{List}
@@ -129,10 +129,8 @@ module _ (jacobians : List Float) (links : List ℕ) (i : ℕ) (j : RowJacobian)
 pub gathered_none : (g : ℕ → RowJacobian) (jacobians : List Float) (links : List ℕ) → Gathered g 0 jacobians links jacobians links
 gathered_none g jacobians links = record { long_jacobians = refl; long_links = refl; at = λ i h. absurd (omega arith) }
 
-pub gathered_more : {g : ℕ → RowJacobian} {i : ℕ} (n : ℕ) {jacobians₀ jacobians jacobians' : List Float} {links₀ links links' : List ℕ}
-    → Gathered g i jacobians₀ links₀ jacobians links
-    → i < n → 12 * n ≤ length jacobians₀ → 2 * n ≤ length links₀ → jacobians' ≡ put_jacobian_of jacobians i (g i) → links' ≡ put_link_of links i
-    (g i) → Gathered g (i + 1) jacobians₀ links₀ jacobians' links'
+pub gathered_more : {g : ℕ → RowJacobian} {i : ℕ} (n : ℕ) {jacobians₀ jacobians jacobians' : List Float} {links₀ links links' : List ℕ} → Gathered g i jacobians₀ links₀ jacobians links
+    → i < n → 12 * n ≤ length jacobians₀ → 2 * n ≤ length links₀ → jacobians' ≡ put_jacobian_of jacobians i (g i) → links' ≡ put_link_of links i (g i) → Gathered g (i + 1) jacobians₀ links₀ jacobians' links'
 gathered_more {g} {i} n {jacobians₀} {jacobians} {jacobians'} {links₀} {links} {links'} h s p q a b = rw (a, b) (record {
   long_jacobians = put_jacobian_length jacobians i (g i) ∙ h.long_jacobians;
   long_links = put_link_length links i (g i) ∙ h.long_links;
@@ -145,6 +143,5 @@ gathered_more {g} {i} n {jacobians₀} {jacobians} {jacobians'} {links₀} {link
         let f : k ≡ i = omega (arith, m tt) in
         rw f (compact_same jacobians links i (g i) (omega (arith, h.long_jacobians)) (omega (arith, h.long_links)))
 
-pub gathered_all : {g : ℕ → RowJacobian} {i n : ℕ} {jacobians₀ jacobians : List Float} {links₀ links : List ℕ}
-    → Gathered g i jacobians₀ links₀ jacobians links → n ≤ i → Gathered g n jacobians₀ links₀ jacobians links
+pub gathered_all : {g : ℕ → RowJacobian} {i n : ℕ} {jacobians₀ jacobians : List Float} {links₀ links : List ℕ} → Gathered g i jacobians₀ links₀ jacobians links → n ≤ i → Gathered g n jacobians₀ links₀ jacobians links
 gathered_all h p = record { long_jacobians = h.long_jacobians; long_links = h.long_links; at = λ k t. h.at k (omega arith) }

@@ -48,12 +48,9 @@ fn put_link(links: &mut [u32], i: usize, j: RowJacobian)
 }
 
 fn gather_at(numbers: &[f64], words: &[u32], i: usize, jacobians: &mut [f64], links: &mut [u32])
-    requires { (27 * i + 27 ≤ length numbers.now) × (8 * i + 8 ≤ length words.now)
-        × (12 * i + 12 ≤ length jacobians.old) × (2 * i + 2 ≤ length links.old) }
-    ensures jacobians_after { jacobians.new
-        ≡ put_jacobian_of jacobians.old i (jacobian_of (row_of numbers.now words.now i)) }
-    ensures links_after { links.new
-        ≡ put_link_of links.old i (jacobian_of (row_of numbers.now words.now i)) }
+    requires { (27 * i + 27 ≤ length numbers.now) × (8 * i + 8 ≤ length words.now) × (12 * i + 12 ≤ length jacobians.old) × (2 * i + 2 ≤ length links.old) }
+    ensures jacobians_after { jacobians.new ≡ put_jacobian_of jacobians.old i (jacobian_of (row_of numbers.now words.now i)) }
+    ensures links_after { links.new ≡ put_link_of links.old i (jacobian_of (row_of numbers.now words.now i)) }
 {
     let j = jacobian_at(numbers, words, i);
     put_jacobian(jacobians, i, j);

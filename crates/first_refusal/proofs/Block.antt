@@ -1,14 +1,16 @@
 -- A factor of mode 2 that 11 turns back has a run that is too long or on several body pairs. Assumes nothing.
-use Prim.Native.Nat.{ℕ, ◌+◌, ◌<◌}
-use mathlib.Core.Path.{◌≡◌, refl, sym, ◌∙◌}
-use mathlib.Core.Bool.{Bool, true, false, ◌&&◌, true≢false}
+use Prim.Native.Nat.{ℕ, ◌+◌, ◌*◌, ◌<◌, ◌≤◌}
+use mathlib.Core.Path.{◌≡◌, refl, sym, ap, ◌∙◌}
+use mathlib.Core.Bool.{Bool, true, false, ◌&&◌, true≢false, false≢true}
 use mathlib.Core.List.{List}
 use mathlib.Core.Logic.{◌⊎◌, inl, inr}
 use native.Mathlib.Omega.{arith}
 use lib.Dec.{leb, ltb, eqb}
+use lib.ListN.{set}
 use lib.Ieee.{Float}
 use borrow.Author.Tests.{eqb-true, eq-eqb}
-use Rattle.loops.specs.Run.{Run, going, ended, check, next}
+use Rattle.loops.specs.Run.{Run, going, ended, check, next, turns}
+use Rattle.loops.specs.Judge.{judged}
 use Rattle.loops.specs.Every.{every}
 use Rattle.loops.proofs.Both.{both}
 use Rattle.loops.proofs.Every.{every_iff}
@@ -34,8 +36,7 @@ Other n = n ≡ 11 → ⊥
 
 pairs_other : (s : System) → Among Other (pairs_run s)
 unfolding pairs_run judged_pairs
-pairs_other s = among_cond Other (ltb pair_limit (pair_count (pattern_of s) s.rows)) _ _ (among_ended Other 10 (λ z. omega arith))
-    (among_check Other _ _ _ (among_going Other _) (among_ended Other 12 (λ z. omega arith)))
+pairs_other s = among_cond Other (ltb pair_limit (pair_count (pattern_of s) s.rows)) _ _ (among_ended Other 10 (λ z. omega arith)) (among_check Other _ _ _ (among_going Other _) (among_ended Other 12 (λ z. omega arith)))
 
 cholesky_other : (s : System) (diagonal : List Float) → Among Other (cholesky_run s diagonal)
 unfolding cholesky_run
@@ -73,16 +74,11 @@ module _ (s : System) (start : ℕ) where
       let (column, u, b, _, f) = (turns_ended (block_column_turn s start row) t (row + 1) 11).0 e in
       go (saw_bool (every (λ k. one_pair (s.jacobian (start + k)) (s.jacobian start)) len)) row column a b (cell row column u _ ((next_ended (cell_run s start row column u) _ 11).0 f))
     where
-      cell : (row column : ℕ) (u : List Float) (g : Float → List Float)
-          → (cell_run s start row column u ≡ ended 11) ⊎
-          ((x : Float) × (cell_run s start row column u ≡ going x) × (◌≡◌ {A = Run (List Float) ℕ} (going (g x)) (ended 11)))
-          → one_pair (s.jacobian (start + row)) (s.jacobian (start + column)) ≡ false
+      cell : (row column : ℕ) (u : List Float) (g : Float → List Float) → (cell_run s start row column u ≡ ended 11) ⊎ ((x : Float) × (cell_run s start row column u ≡ going x) × (◌≡◌ {A = Run (List Float) ℕ} (going (g x)) (ended 11))) → one_pair (s.jacobian (start + row)) (s.jacobian (start + column)) ≡ false
       cell row column u g (inl q) = cell_11 row column u q
       cell row column u g (inr (x, _, q)) = absurd (apart (going (g x)) refl q)
 
-      go : (every (λ k. one_pair (s.jacobian (start + k)) (s.jacobian start)) len ≡ true) ⊎
-          (every (λ k. one_pair (s.jacobian (start + k)) (s.jacobian start)) len ≡ false)
-          → (row column : ℕ) → row < len → column < row + 1
+      go : (every (λ k. one_pair (s.jacobian (start + k)) (s.jacobian start)) len ≡ true) ⊎ (every (λ k. one_pair (s.jacobian (start + k)) (s.jacobian start)) len ≡ false) → (row column : ℕ) → row < len → column < row + 1
           → one_pair (s.jacobian (start + row)) (s.jacobian (start + column)) ≡ false → every (λ k. one_pair (s.jacobian (start + k)) (s.jacobian start)) len ≡ false
       go (inr q) row column a b f = q
       go (inl q) row column a b f =
@@ -93,8 +89,7 @@ module _ (s : System) (start : ℕ) where
   unfolding block_of check
   block_11 len h = go (leb len 6) _ h
     where
-      go : (b : Bool) (z : List Float) → check b (rows_run s start len z) (ended 11) ≡ ended 11
-          → (b && every (λ k. one_pair (s.jacobian (start + k)) (s.jacobian start)) len) ≡ false
+      go : (b : Bool) (z : List Float) → check b (rows_run s start len z) (ended 11) ≡ ended 11 → (b && every (λ k. one_pair (s.jacobian (start + k)) (s.jacobian start)) len) ≡ false
       go true z q = pairs_11 len z q
       go false z q = refl
 
@@ -115,13 +110,10 @@ factor_11 modes.BlockJacobi s owner diagonal h =
     inside : (i : ℕ) → next (block_of s i (run_length owner i s.rows)) (λ _. done) ≡ ended 11 → block_of s i (run_length owner i s.rows) ≡ ended 11
     inside i h = out ((next_ended (block_of s i (run_length owner i s.rows)) _ 11).0 h)
       where
-        out : (block_of s i (run_length owner i s.rows) ≡ ended 11) ⊎
-            ((x : List Float) × (block_of s i (run_length owner i s.rows) ≡ going x) × (◌≡◌ {A = Run Unit ℕ} (going tt) (ended 11)))
-            → block_of s i (run_length owner i s.rows) ≡ ended 11
+        out : (block_of s i (run_length owner i s.rows) ≡ ended 11) ⊎ ((x : List Float) × (block_of s i (run_length owner i s.rows) ≡ going x) × (◌≡◌ {A = Run Unit ℕ} (going tt) (ended 11))) → block_of s i (run_length owner i s.rows) ≡ ended 11
         out (inl q) = q
         out (inr (x, _, q)) = absurd (apart (going tt) refl q)
 
-    go : (b : Bool) (i : ℕ) → begins owner i ≡ b → check b (next (block_of s i (run_length owner i s.rows)) (λ _. done)) done ≡ ended 11
-        → (begins owner i ≡ true) × (block_of s i (run_length owner i s.rows) ≡ ended 11)
+    go : (b : Bool) (i : ℕ) → begins owner i ≡ b → check b (next (block_of s i (run_length owner i s.rows)) (λ _. done)) done ≡ ended 11 → (begins owner i ≡ true) × (block_of s i (run_length owner i s.rows) ≡ ended 11)
     go true i e q = (e, inside i q)
     go false i e q = absurd (apart (going tt) refl q)

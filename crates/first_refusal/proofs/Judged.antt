@@ -9,7 +9,7 @@ use lib.Dec.{leb, ltb, eqb}
 use lib.ListN.{length, get_or, take, drop}
 use lib.Ieee.{Float, nan, neg, binary64, div, of_bits}
 use borrow.Author.Tests.{ne_eqb, not-true, not-false, leb-true}
-use Rattle.loops.specs.Run.{Run, going, ended, on, check, turns}
+use Rattle.loops.specs.Run.{Run, going, ended, on, check, next, turns}
 use Rattle.loops.specs.Judge.{judged}
 use Rattle.loops.proofs.Both.{both}
 use Rattle.kapitsa_joint.specs.Kind.{by_kind, is_velocity}
@@ -64,16 +64,15 @@ module _ (kind : Kind) (rows bodies : ℕ) (numbers : List Float) (words : List 
     abbrev alone : List Float → List ℕ → Problem
     alone ownNumbers own_words = started_problem false (table_of 1 bodies ownNumbers own_words masses) (tolerances_in (tolerance ∷ [])) (coefficients (start ∷ []))
 
-    one_row_lem : (ownNumbers : List Float) (own_words : List ℕ) → rows_judged (alone ownNumbers own_words) ≡ row_judged (alone ownNumbers own_words) 0
+    one_row : (ownNumbers : List Float) (own_words : List ℕ) → rows_judged (alone ownNumbers own_words) ≡ row_judged (alone ownNumbers own_words) 0
     unfolding rows_judged check judged turns on
-    one_row_lem ownNumbers own_words = refl
+    one_row ownNumbers own_words = refl
 
     alone_judged : rows_judged (alone (take 27 (drop (27 * i) numbers)) (take 8 (drop (8 * i) words))) ≡ row_judged p i
     unfolding row_judged
-    alone_judged = one_row_lem (take 27 (drop (27 * i) numbers)) (take 8 (drop (8 * i) words)) ∙ rw (row_alone numbers words i, e ∙ tolerance_is i, f ∙ start_is kind i)
+    alone_judged = one_row (take 27 (drop (27 * i) numbers)) (take 8 (drop (8 * i) words)) ∙ rw (row_alone numbers words i, e ∙ tolerance_is i, f ∙ start_is kind i)
 
-    module _ (answer : Begun) (ownNumbers : List Float) (own_words : List ℕ) (q : ownNumbers ≡ take 27 (drop (27 * i) numbers))
-        (r : own_words ≡ take 8 (drop (8 * i) words)) (h : rows_judged (alone ownNumbers own_words) ≡ begun_out answer) where
+    module _ (answer : Begun) (ownNumbers : List Float) (own_words : List ℕ) (q : ownNumbers ≡ take 27 (drop (27 * i) numbers)) (r : own_words ≡ take 8 (drop (8 * i) words)) (h : rows_judged (alone ownNumbers own_words) ≡ begun_out answer) where
       refusal_of_lem : on (row_judged p i) (λ _. 0) (λ n. n) ≡ on (begun_out answer) (λ _. 0) (λ n. n)
       refusal_of_lem = ap (λ (r : Run Unit ℕ). on r (λ _. 0) (λ n. n)) (sym alone_judged ∙ rw (← q, ← r) h)
 
@@ -86,10 +85,7 @@ module _ (kind : Kind) (rows bodies : ℕ) (numbers : List Float) (words : List 
       refusal_told d = sym (refusal_of_lem ∙ rw d)
 
   -- ---- number by number
-  opens_is : (i : ℕ) (kind : Kind)
-      → by_kind kind (opens_of (scalars_of numbers (27 * i + 15)) (words_of words (8 * i)))
-      (velocity_opens_of (scalars_of numbers (27 * i + 15)) (words_of words (8 * i)))
-      ≡ (given_in kind rows bodies numbers words masses beside s).opens i
+  opens_is : (i : ℕ) (kind : Kind) → by_kind kind (opens_of (scalars_of numbers (27 * i + 15)) (words_of words (8 * i))) (velocity_opens_of (scalars_of numbers (27 * i + 15)) (words_of words (8 * i))) ≡ (given_in kind rows bodies numbers words masses beside s).opens i
   unfolding row_of
   opens_is i kinds.Position = refl
   opens_is i kinds.Velocity = refl
@@ -99,16 +95,11 @@ module _ (kind : Kind) (rows bodies : ℕ) (numbers : List Float) (words : List 
     unfolding passes_at row_of
     passes_4 e h = rw e h
 
-    pub passes_5 : number ≡ 5
-        → r
-        ≡ by_kind kind (opens_of (scalars_of numbers (27 * i + 15)) (words_of words (8 * i)))
-        (velocity_opens_of (scalars_of numbers (27 * i + 15)) (words_of words (8 * i)))
-        → r ≡ passes_at kind rows bodies numbers words masses beside s number i
+    pub passes_5 : number ≡ 5 → r ≡ by_kind kind (opens_of (scalars_of numbers (27 * i + 15)) (words_of words (8 * i))) (velocity_opens_of (scalars_of numbers (27 * i + 15)) (words_of words (8 * i))) → r ≡ passes_at kind rows bodies numbers words masses beside s number i
     unfolding passes_at
     passes_5 e h = rw e (h ∙ opens_is i kind)
 
-    pub passes_6 : number ≡ 6 → r ≡ (mass_finite_of (mass_of masses i) && by_kind kind (is_finite_of (vec_of beside (3 * i))) true)
-        → r ≡ passes_at kind rows bodies numbers words masses beside s number i
+    pub passes_6 : number ≡ 6 → r ≡ (mass_finite_of (mass_of masses i) && by_kind kind (is_finite_of (vec_of beside (3 * i))) true) → r ≡ passes_at kind rows bodies numbers words masses beside s number i
     unfolding passes_at body_fits
     passes_6 e h = rw e h
 
@@ -130,13 +121,11 @@ module _ (kind : Kind) (rows bodies : ℕ) (numbers : List Float) (words : List 
       unfolding passes_at
       passes_other h = rw (ne_eqb number 4 a, ne_eqb number 5 b, ne_eqb number 6 c, ne_eqb number 11 d, ne_eqb number 27 e, ne_eqb number 28 f, not-true (leb 7 number && leb number 9) h)
 
-      pub passes_row : not (leb 7 number && leb number 9) ≡ false → {refusal : ℕ} → refusal ≡ on (row_judged p i) (λ _. 0) (λ n. n)
-          → not (eqb refusal number) ≡ passes_at kind rows bodies numbers words masses beside s number i
+      pub passes_row : not (leb 7 number && leb number 9) ≡ false → {refusal : ℕ} → refusal ≡ on (row_judged p i) (λ _. 0) (λ n. n) → not (eqb refusal number) ≡ passes_at kind rows bodies numbers words masses beside s number i
       unfolding passes_at row_passes on
       passes_row h q =
           let range = not-false (leb 7 number && leb number 9) h in
-          rw (ne_eqb number 4 a, ne_eqb number 5 b, ne_eqb number 6 c, ne_eqb number 11 d, ne_eqb number 27 e, ne_eqb number 28 f, range, q)
-          (go (row_judged p i) (leb-true 7 number (both (leb 7 number) (leb number 9) range).0))
+          rw (ne_eqb number 4 a, ne_eqb number 5 b, ne_eqb number 6 c, ne_eqb number 11 d, ne_eqb number 27 e, ne_eqb number 28 f, range, q) (go (row_judged p i) (leb-true 7 number (both (leb 7 number) (leb number 9) range).0))
         where
           go : (u : Run Unit ℕ) → 7 ≤ number → not (eqb (on u (λ _. 0) (λ n. n)) number) ≡ on u (λ _. true) (λ n. not (eqb n number))
           go (going t) l = ap not (ne_eqb 0 number (λ z. omega (arith, l, z)))
@@ -153,25 +142,17 @@ pub words_as : {w v : RowWords} {r : Bool} → w ≡ v → r ≡ words_fit_of w 
 words_as e h = rw e at h
 
 module _ (numbers : List Float) (words : List ℕ) (i : ℕ) {kind : Kind} {t : RowScalars} {w : RowWords} {r : Bool} (d : t ≡ scalars_of numbers (27 * i + 15)) (e : w ≡ words_of words (8 * i)) where
-  pub opens_position : kind ≡ kinds.Position → r ≡ opens_of t w
-      → r
-      ≡ by_kind kind (opens_of (scalars_of numbers (27 * i + 15)) (words_of words (8 * i)))
-      (velocity_opens_of (scalars_of numbers (27 * i + 15)) (words_of words (8 * i)))
+  pub opens_position : kind ≡ kinds.Position → r ≡ opens_of t w → r ≡ by_kind kind (opens_of (scalars_of numbers (27 * i + 15)) (words_of words (8 * i))) (velocity_opens_of (scalars_of numbers (27 * i + 15)) (words_of words (8 * i)))
   opens_position k h = rw (k, ← d, ← e) h
 
-  pub opens_velocity : kind ≡ kinds.Velocity → r ≡ velocity_opens_of t w
-      → r
-      ≡ by_kind kind (opens_of (scalars_of numbers (27 * i + 15)) (words_of words (8 * i)))
-      (velocity_opens_of (scalars_of numbers (27 * i + 15)) (words_of words (8 * i)))
+  pub opens_velocity : kind ≡ kinds.Velocity → r ≡ velocity_opens_of t w → r ≡ by_kind kind (opens_of (scalars_of numbers (27 * i + 15)) (words_of words (8 * i))) (velocity_opens_of (scalars_of numbers (27 * i + 15)) (words_of words (8 * i)))
   opens_velocity k h = rw (k, ← d, ← e) h
 
 module _ (masses beside : List Float) (b : ℕ) {kind : Kind} {m : SolverMass} {p : Bool} where
-  pub body_position : kind ≡ kinds.Position → m ≡ mass_of masses b → p ≡ mass_finite_of m → {v : Vec3} {q : Bool} → v ≡ vec_of beside (3 * b)
-      → q ≡ is_finite_of v → (p && q) ≡ (mass_finite_of (mass_of masses b) && by_kind kind (is_finite_of (vec_of beside (3 * b))) true)
+  pub body_position : kind ≡ kinds.Position → m ≡ mass_of masses b → p ≡ mass_finite_of m → {v : Vec3} {q : Bool} → v ≡ vec_of beside (3 * b) → q ≡ is_finite_of v → (p && q) ≡ (mass_finite_of (mass_of masses b) && by_kind kind (is_finite_of (vec_of beside (3 * b))) true)
   body_position k e f g h = rw (k, f, e, h, g)
 
-  pub body_velocity : kind ≡ kinds.Velocity → m ≡ mass_of masses b → p ≡ mass_finite_of m
-      → p ≡ (mass_finite_of (mass_of masses b) && by_kind kind (is_finite_of (vec_of beside (3 * b))) true)
+  pub body_velocity : kind ≡ kinds.Velocity → m ≡ mass_of masses b → p ≡ mass_finite_of m → p ≡ (mass_finite_of (mass_of masses b) && by_kind kind (is_finite_of (vec_of beside (3 * b))) true)
   body_velocity k e f = rw (k, f, e) (sym (and_true (mass_finite_of (mass_of masses b))))
 
 -- ---- the tolerance of a row that is under one rule, and of one that is not

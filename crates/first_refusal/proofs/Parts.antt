@@ -1,6 +1,7 @@
 -- A row and a rule read out of their own part of the lent lists are those of the whole. Assumes nothing.
 use Prim.Native.Nat.{ℕ, ◌+◌, ◌*◌, ◌<◌, ◌≤◌}
-use mathlib.Core.Path.{◌≡◌, ap, ◌∙◌}
+use mathlib.Core.Path.{◌≡◌, refl, ap, ◌∙◌}
+use mathlib.Core.Bool.{Bool}
 use mathlib.Core.List.{List}
 use native.Mathlib.Omega.{arith}
 use lib.Dec.{lit<}
@@ -21,8 +22,7 @@ part_at l k n j m d h e = get_or-take n (drop k l) j d h ∙ get_or-drop k l j d
 pub part_long : {X : Type 0} (n k : ℕ) (l : List X) {m : ℕ} → m ≡ n → k + n ≤ length l → length (take m (drop k l)) ≡ n
 part_long n k l e h = rw e (length-take-le n (drop k l) (omega (arith, length-drop k l)))
 
-pub rules_long : (words : List ℕ) (tolerances : List Float) (r : ℕ) {m k : ℕ} → m ≡ 3 → k ≡ 1 → 3 * r + 3 ≤ length words
-    → r + 1 ≤ length tolerances → 3 * length (take k (drop r tolerances)) ≤ length (take m (drop (3 * r) words))
+pub rules_long : (words : List ℕ) (tolerances : List Float) (r : ℕ) {m k : ℕ} → m ≡ 3 → k ≡ 1 → 3 * r + 3 ≤ length words → r + 1 ≤ length tolerances → 3 * length (take k (drop r tolerances)) ≤ length (take m (drop (3 * r) words))
 rules_long words tolerances r e f h l = omega (arith, part_long 3 (3 * r) words e h, part_long 1 r tolerances f l)
 
 -- one row's numbers and words

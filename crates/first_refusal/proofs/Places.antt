@@ -5,9 +5,10 @@ use mathlib.Core.Bool.{Bool, true, false, not, cond, ◌&&◌}
 use mathlib.Core.List.{List}
 use mathlib.Core.Logic.{◌≢◌}
 use native.Mathlib.Omega.{arith}
-use lib.Dec.{eqb}
+use lib.Dec.{leb, ltb, eqb}
+use lib.ListN.{length}
 use lib.Ieee.{Float}
-use borrow.Author.Tests.{ne_eqb, lt-ltb, le-ltb, not-true, not-false}
+use borrow.Author.Tests.{ne_eqb, eq-eqb, lt-ltb, le-ltb, not-true, not-false}
 use Rattle.kapitsa_joint.specs.declared.kind.Kind.{Kind}
 use Rattle.rules.specs.Rules.{Rules, rule_count}
 use Rattle.check_refusals.specs.Refusals.{given_fits}
@@ -64,13 +65,11 @@ module _ (kind : Kind) (rows bodies : ℕ) (numbers : List Float) (words : List 
   at_row {number} l a b = rw (ne_eqb number 6 a, ne_eqb number 27 b) at l
 
   -- `first_place`
-  pub count_is : (number : ℕ) {count : ℕ} → count ≡ cond (eqb number 6) bodies (cond (eqb number 27) (rule_count s) rows)
-      → count ≡ count_of kind rows bodies numbers words masses beside s number
+  pub count_is : (number : ℕ) {count : ℕ} → count ≡ cond (eqb number 6) bodies (cond (eqb number 27) (rule_count s) rows) → count ≡ count_of kind rows bodies numbers words masses beside s number
   unfolding count_of
   count_is number e = e
 
-  module _ (number : ℕ) {count first : ℕ} (e : count ≡ cond (eqb number 6) bodies (cond (eqb number 27) (rule_count s) rows))
-      (f : first ≡ leading (passes_at kind rows bodies numbers words masses beside s number) count) where
+  module _ (number : ℕ) {count first : ℕ} (e : count ≡ cond (eqb number 6) bodies (cond (eqb number 27) (rule_count s) rows)) (f : first ≡ leading (passes_at kind rows bodies numbers words masses beside s number) count) where
     first_is : first ≡ leading (passes_at kind rows bodies numbers words masses beside s number) (count_of kind rows bodies numbers words masses beside s number)
     first_is = f ∙ ap (leading (passes_at kind rows bodies numbers words masses beside s number)) (count_is number e)
 
@@ -111,13 +110,10 @@ module _ (kind : Kind) (rows bodies : ℕ) (numbers : List Float) (words : List 
     unfolding place_in
     refused_none h = rw (fits_not h)
 
-    pub refused_limit : not fits ≡ false → ((eqb number 5 && not (eqb rows 0)) && eqb limit 0) ≡ true
-        → places.Limit ≡ place_in kind rows bodies numbers words masses beside s number limit
+    pub refused_limit : not fits ≡ false → ((eqb number 5 && not (eqb rows 0)) && eqb limit 0) ≡ true → places.Limit ≡ place_in kind rows bodies numbers words masses beside s number limit
     unfolding place_in place_of
     refused_limit h l = rw (fits_is h, sym (regroup (eqb number 5) (not (eqb rows 0)) (eqb limit 0)) ∙ l)
 
-    pub refused_first : not fits ≡ false → ((eqb number 5 && not (eqb rows 0)) && eqb limit 0) ≡ false → {place : Place}
-        → place ≡ first_of kind rows bodies numbers words masses beside s number
-        → place ≡ place_in kind rows bodies numbers words masses beside s number limit
+    pub refused_first : not fits ≡ false → ((eqb number 5 && not (eqb rows 0)) && eqb limit 0) ≡ false → {place : Place} → place ≡ first_of kind rows bodies numbers words masses beside s number → place ≡ place_in kind rows bodies numbers words masses beside s number limit
     unfolding place_in place_of
     refused_first h l q = rw (fits_is h, sym (regroup (eqb number 5) (not (eqb rows 0)) (eqb limit 0)) ∙ l) q

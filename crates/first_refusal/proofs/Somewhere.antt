@@ -1,5 +1,5 @@
 -- Where a test fails there is a place: it is not None. Assumes nothing.
-use Prim.Native.Nat.{ℕ, ◌<◌}
+use Prim.Native.Nat.{ℕ, ◌<◌, ◌≤◌}
 use mathlib.Core.Path.{◌≡◌, refl, sym, ap, ◌∙◌}
 use mathlib.Core.Bool.{Bool, true, false, not, cond, ◌&&◌, true≢false}
 use mathlib.Core.List.{List}
@@ -12,6 +12,7 @@ use Rattle.rules.specs.Rules.{Rules}
 use Rattle.block_jacobi.specs.Runs.{leading}
 use Rattle.block_jacobi.proofs.RunsOf.{leading_passes}
 use Rattle.first_refusal.specs.Place.{passes_at, count_of, named_at, first_of, place_of}
+use Rattle.first_refusal.specs.declared.place.Place.{Place}
 use Rattle.first_refusal.specs.declared.place.Place.TheVariants as places
 
 row_some : {i : ℕ} → places.Row i ≡ places.None → ⊥
@@ -44,27 +45,13 @@ module _ (kind : Kind) (rows bodies : ℕ) (numbers : List Float) (words : List 
       go false true e = rule_some e
       go false false e = row_some e
 
-  pub somewhere : (number limit i : ℕ) → i < count_of kind rows bodies numbers words masses beside s number
-      → passes_at kind rows bodies numbers words masses beside s number i ≡ false
-      → place_of kind rows bodies numbers words masses beside s number limit ≡ places.None → ⊥
+  pub somewhere : (number limit i : ℕ) → i < count_of kind rows bodies numbers words masses beside s number → passes_at kind rows bodies numbers words masses beside s number i ≡ false → place_of kind rows bodies numbers words masses beside s number limit ≡ places.None → ⊥
   unfolding place_of first_of
   somewhere number limit i l f =
-      go (eqb number 5 && (not (eqb rows 0) && eqb limit 0))
-      (ltb
-      (leading (passes_at kind rows bodies numbers words masses beside s number)
-      (count_of kind rows bodies numbers words masses beside s number))
-      (count_of kind rows bodies numbers words masses beside s number))
+      go (eqb number 5 && (not (eqb rows 0) && eqb limit 0)) (ltb (leading (passes_at kind rows bodies numbers words masses beside s number) (count_of kind rows bodies numbers words masses beside s number)) (count_of kind rows bodies numbers words masses beside s number))
       (first_there (passes_at kind rows bodies numbers words masses beside s number) (count_of kind rows bodies numbers words masses beside s number) i l f)
     where
-      go : (a b : Bool) → b ≡ true
-          → cond a places.Limit
-          (cond b
-          (named_at kind rows bodies numbers words masses beside s number
-          (leading (passes_at kind rows bodies numbers words masses beside s number)
-          (count_of kind rows bodies numbers words masses beside s number)))
-          places.None)
-          ≡ places.None
-          → ⊥
+      go : (a b : Bool) → b ≡ true → cond a places.Limit (cond b (named_at kind rows bodies numbers words masses beside s number (leading (passes_at kind rows bodies numbers words masses beside s number) (count_of kind rows bodies numbers words masses beside s number))) places.None) ≡ places.None → ⊥
       go true b t e = limit_some e
       go false true t e = named_some number _ e
       go false false t e = true≢false (sym t)

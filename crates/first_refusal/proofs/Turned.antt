@@ -1,14 +1,15 @@
 -- Where a position solve is turned back by a number that judges rows, bodies or rules one by one, there is a place. Assumes nothing.
-use Prim.Native.Nat.{ℕ, ◌+◌, ◌*◌, ◌<◌}
-use mathlib.Core.Path.{◌≡◌, refl, ap, ◌∙◌}
-use mathlib.Core.Bool.{Bool, true, false, not, cond, ◌&&◌, true≢false}
+use Prim.Native.Nat.{ℕ, ◌+◌, ◌*◌, ◌<◌, ◌≤◌}
+use mathlib.Core.Path.{◌≡◌, refl, sym, ap, ◌∙◌}
+use mathlib.Core.Bool.{Bool, true, false, not, cond, ◌&&◌, true≢false, false≢true}
 use mathlib.Core.List.{List, [], ◌∷◌}
 use mathlib.Core.Logic.{◌⊎◌, inl, inr}
 use native.Mathlib.Omega.{arith}
 use lib.Dec.{leb, eqb}
 use lib.Ieee.{Float}
-use Rattle.loops.specs.Run.{Run, going, ended, on, check}
-use Rattle.loops.specs.Judge.{FirstToFail}
+use borrow.Author.Tests.{eq-eqb}
+use Rattle.loops.specs.Run.{Run, going, ended, on, check, next}
+use Rattle.loops.specs.Judge.{judge, judged, FirstToFail}
 use Rattle.loops.specs.Numbers.{In, stands}
 use Rattle.loops.specs.Every.{every}
 use Rattle.loops.proofs.Every.{every_false}
@@ -19,7 +20,7 @@ use Rattle.kapitsa_math.specs.Vector.{is_finite_of}
 use Rattle.kapitsa_joint.specs.Table.{Table, table_of}
 use Rattle.kapitsa_joint.specs.declared.kind.Kind.TheVariants.{Position}
 use Rattle.joint_refusals.specs.Refusals.{words_fit_of, mass_finite_of, passes4, passes6, centres_finite}
-use Rattle.rules.specs.Rules.{Rules, rule_count, rule_fits, passes27, passes28}
+use Rattle.rules.specs.Rules.{Rules, rule_count, rule_fits, rule_of, passes27, passes28}
 use Rattle.position.specs.Problem.{Problem}
 use Rattle.position.specs.Prepare.{row_judged, rows_judged, diagonals}
 use Rattle.solve_method.specs.Method.{passes5, opening_of, factor_here, begin_of, first_of, owner_of, Delivered, method_of}
@@ -42,6 +43,7 @@ use Rattle.steps.specs.Solve.{solve}
 use Rattle.steps.specs.InPlace.{InPlace}
 use Rattle.solve_method.specs.Position.{position_of}
 use Rattle.first_refusal.specs.Place.{given_in, body_fits, row_passes, run_fits, passes_at, count_of, place_of}
+use Rattle.first_refusal.specs.declared.place.Place.{Place}
 use Rattle.first_refusal.specs.declared.place.Place.TheVariants as places
 use Rattle.first_refusal.proofs.Somewhere.{somewhere, limited}
 use Rattle.first_refusal.proofs.Block.{Other, factor_11}
@@ -61,46 +63,11 @@ failed : (a b c d e f g : Bool) {n : ℕ} → FirstToFail ((3, a) ∷ (25, b) �
 unfolding FirstToFail
 failed a b c d e f g (inl (h, q)) = other (λ z. omega arith) (λ z. omega arith) (λ z. omega arith) (λ z. omega arith) (λ z. omega arith)
 failed a b c d e f g (inr (_, inl (h, q))) = other (λ z. omega arith) (λ z. omega arith) (λ z. omega arith) (λ z. omega arith) (λ z. omega arith)
-failed a b c d e f g (inr (_, inr (_, inl (h, q)))) =
-    record {
-      four = λ _. h;
-      rules = λ z. absurd (omega arith);
-      ruled = λ z. absurd (omega arith);
-      five = λ z. absurd (omega arith);
-      six = λ z. absurd (omega arith);
-    }
-failed a b c d e f g (inr (_, inr (_, inr (_, inl (h, q))))) =
-    record {
-      four = λ z. absurd (omega arith);
-      rules = λ _. h;
-      ruled = λ z. absurd (omega arith);
-      five = λ z. absurd (omega arith);
-      six = λ z. absurd (omega arith);
-    }
-failed a b c d e f g (inr (_, inr (_, inr (_, inr (_, inl (h, q)))))) =
-    record {
-      four = λ z. absurd (omega arith);
-      rules = λ z. absurd (omega arith);
-      ruled = λ _. h;
-      five = λ z. absurd (omega arith);
-      six = λ z. absurd (omega arith);
-    }
-failed a b c d e f g (inr (_, inr (_, inr (_, inr (_, inr (_, inl (h, q))))))) =
-    record {
-      four = λ z. absurd (omega arith);
-      rules = λ z. absurd (omega arith);
-      ruled = λ z. absurd (omega arith);
-      five = λ _. h;
-      six = λ z. absurd (omega arith);
-    }
-failed a b c d e f g (inr (_, inr (_, inr (_, inr (_, inr (_, inr (_, inl (h, q)))))))) =
-    record {
-      four = λ z. absurd (omega arith);
-      rules = λ z. absurd (omega arith);
-      ruled = λ z. absurd (omega arith);
-      five = λ z. absurd (omega arith);
-      six = λ _. h;
-    }
+failed a b c d e f g (inr (_, inr (_, inl (h, q)))) = record { four = λ _. h; rules = λ z. absurd (omega arith); ruled = λ z. absurd (omega arith); five = λ z. absurd (omega arith); six = λ z. absurd (omega arith) }
+failed a b c d e f g (inr (_, inr (_, inr (_, inl (h, q))))) = record { four = λ z. absurd (omega arith); rules = λ _. h; ruled = λ z. absurd (omega arith); five = λ z. absurd (omega arith); six = λ z. absurd (omega arith) }
+failed a b c d e f g (inr (_, inr (_, inr (_, inr (_, inl (h, q)))))) = record { four = λ z. absurd (omega arith); rules = λ z. absurd (omega arith); ruled = λ _. h; five = λ z. absurd (omega arith); six = λ z. absurd (omega arith) }
+failed a b c d e f g (inr (_, inr (_, inr (_, inr (_, inr (_, inl (h, q))))))) = record { four = λ z. absurd (omega arith); rules = λ z. absurd (omega arith); ruled = λ z. absurd (omega arith); five = λ _. h; six = λ z. absurd (omega arith) }
+failed a b c d e f g (inr (_, inr (_, inr (_, inr (_, inr (_, inr (_, inl (h, q)))))))) = record { four = λ z. absurd (omega arith); rules = λ z. absurd (omega arith); ruled = λ z. absurd (omega arith); five = λ z. absurd (omega arith); six = λ _. h }
 failed a b c d e f g (inr (_, inr (_, inr (_, inr (_, inr (_, inr (_, inr z))))))) = absurd z.1
 
 one_false : (a b : Bool) → (a && b) ≡ false → (a ≡ false) ⊎ (b ≡ false)
@@ -134,8 +101,7 @@ module _ (rows bodies : ℕ) (numbers : List Float) (words : List ℕ) (masses c
   unfolding passes5 count_of passes_at
   met_5 limit h = go (eqb rows 0) (eqb limit 0) refl refl h
     where
-      go : (a b : Bool) → eqb rows 0 ≡ a → eqb limit 0 ≡ b → cond a true (not b && every p.opens rows) ≡ false
-          → place_of Position rows bodies numbers words masses centres s 5 limit ≡ places.None → ⊥
+      go : (a b : Bool) → eqb rows 0 ≡ a → eqb limit 0 ≡ b → cond a true (not b && every p.opens rows) ≡ false → place_of Position rows bodies numbers words masses centres s 5 limit ≡ places.None → ⊥
       go true b e f q = absurd (true≢false q)
       go false true e f q = limited Position rows bodies numbers words masses centres s limit (rw (e, f))
       go false false e f q = let (i, l, g) = every_false p.opens rows q in somewhere Position rows bodies numbers words masses centres s 5 limit i l g
@@ -146,8 +112,7 @@ module _ (rows bodies : ℕ) (numbers : List Float) (words : List ℕ) (masses c
     where
       go : (passes6 t ≡ false) ⊎ (p.placed ≡ false) → place_of Position rows bodies numbers words masses centres s 6 limit ≡ places.None → ⊥
       go (inl q) = let (b, l, f) = every_false (λ b. mass_finite_of (t.mass b)) bodies q in somewhere Position rows bodies numbers words masses centres s 6 limit b l (rw f)
-      go (inr q) = let (b, l, f) = every_false (λ b. is_finite_of (vec_of centres (3 * b))) bodies q in somewhere Position rows bodies numbers
-          words masses centres s 6 limit b l (rw f (and_false (mass_finite_of (t.mass b))))
+      go (inr q) = let (b, l, f) = every_false (λ b. is_finite_of (vec_of centres (3 * b))) bodies q in somewhere Position rows bodies numbers words masses centres s 6 limit b l (rw f (and_false (mass_finite_of (t.mass b))))
 
   -- the solve's own judgement of a row, whatever else it is given
   row_same : (i : ℕ) → row_judged (given_in Position rows bodies numbers words masses centres s) i ≡ row_judged p i
@@ -179,8 +144,7 @@ module _ (rows bodies : ℕ) (numbers : List Float) (words : List ℕ) (masses c
   stops_9 q i e = rw (q, row_same i, e ∙ ap ended q)
 
   -- "7 to 9 run row by row": the row at which step 0 ends
-  met_row : {number : ℕ} → (number ≡ 7) ⊎ ((number ≡ 8) ⊎ (number ≡ 9)) → (limit : ℕ) → rows_judged p ≡ ended number
-      → place_of Position rows bodies numbers words masses centres s number limit ≡ places.None → ⊥
+  met_row : {number : ℕ} → (number ≡ 7) ⊎ ((number ≡ 8) ⊎ (number ≡ 9)) → (limit : ℕ) → rows_judged p ≡ ended number → place_of Position rows bodies numbers words masses centres s number limit ≡ places.None → ⊥
   unfolding rows_judged check
   met_row n limit h = let (i, l, _, e) = (judged_ended (row_judged p) rows _).0 h in somewhere Position rows bodies numbers words masses centres s _ limit i (there n i l) (stops n i e)
     where
@@ -189,8 +153,7 @@ module _ (rows bodies : ℕ) (numbers : List Float) (words : List ℕ) (masses c
       there (inr (inl q)) i l = there_8 q i l
       there (inr (inr q)) i l = there_9 q i l
 
-      stops : {number : ℕ} → (number ≡ 7) ⊎ ((number ≡ 8) ⊎ (number ≡ 9)) → (i : ℕ) → row_judged p i ≡ ended number
-          → passes_at Position rows bodies numbers words masses centres s number i ≡ false
+      stops : {number : ℕ} → (number ≡ 7) ⊎ ((number ≡ 8) ⊎ (number ≡ 9)) → (i : ℕ) → row_judged p i ≡ ended number → passes_at Position rows bodies numbers words masses centres s number i ≡ false
       stops (inl q) i e = stops_7 q i e
       stops (inr (inl q)) i e = stops_8 q i e
       stops (inr (inr q)) i e = stops_9 q i e
@@ -203,11 +166,9 @@ module _ (rows bodies : ℕ) (numbers : List Float) (words : List ℕ) (masses c
     in_place : InPlace m position_places limit
     in_place = position_in_place fits t s shift (λ b. vec_of centres (3 * b)) mode limit
 
-    opening_failed : {n : ℕ} → In n position_places.opening → solve m limit ≡ ended n
-        → Failed n (passes4 t) (passes27 s) (passes28 s t) (passes5 rows p.opens limit) (passes6 t && p.placed)
+    opening_failed : {n : ℕ} → In n position_places.opening → solve m limit ≡ ended n → Failed n (passes4 t) (passes27 s) (passes28 s t) (passes5 rows p.opens limit) (passes6 t && p.placed)
     unfolding opening_of
-    opening_failed {n} i h = failed fits (passes25 shift) (passes4 t) (passes27 s) (passes28 s t) (passes5 rows p.opens limit)
-        (passes6 t && p.placed) ((judge_ended _ n).0 ((in_place.at_opening n i).0 h))
+    opening_failed {n} i h = failed fits (passes25 shift) (passes4 t) (passes27 s) (passes28 s t) (passes5 rows p.opens limit) (passes6 t && p.placed) ((judge_ended _ n).0 ((in_place.at_opening n i).0 h))
 
     -- before step 0
     pub met_opening : (solve m limit ≡ ended 4 → place_of Position rows bodies numbers words masses centres s 4 limit ≡ places.None → ⊥)
@@ -233,8 +194,7 @@ module _ (rows bodies : ℕ) (numbers : List Float) (words : List ℕ) (masses c
         go (inl e) = e
         go {v = v} (inr (u, e, q)) = absurd (apart (going v) refl q)
 
-    pub met_begin : {n : ℕ} → (n ≡ 7) ⊎ ((n ≡ 8) ⊎ (n ≡ 9)) → In n position_places.begin → solve m limit ≡ ended n
-        → place_of Position rows bodies numbers words masses centres s n limit ≡ places.None → ⊥
+    pub met_begin : {n : ℕ} → (n ≡ 7) ⊎ ((n ≡ 8) ⊎ (n ≡ 9)) → In n position_places.begin → solve m limit ≡ ended n → place_of Position rows bodies numbers words masses centres s n limit ≡ places.None → ⊥
     unfolding step_at
     met_begin {n} k i h = met_row k limit (begun_rows ((in_place.at_begin n i).0 h).then)
 
@@ -244,19 +204,11 @@ module _ (rows bodies : ℕ) (numbers : List Float) (words : List ℕ) (masses c
     factored v b h = go ((next_ended (factor_judged mode (system_of t) (owner_of t) (diagonals t)) _ 11).0 h)
       where
         go : (factor_judged mode (system_of t) (owner_of t) (diagonals t) ≡ ended 11)
-            ⊎
-            ((u : Unit) × (factor_judged mode (system_of t) (owner_of t) (diagonals t) ≡ going u) ×
-            (first_from (preconditioned mode (system_of t) (owner_of t) (diagonals t) v.residual) v.residual ≡ ended 11))
-            → factor_judged mode (system_of t) (owner_of t) (diagonals t) ≡ ended 11
+            ⊎ ((u : Unit) × (factor_judged mode (system_of t) (owner_of t) (diagonals t) ≡ going u) × (first_from (preconditioned mode (system_of t) (owner_of t) (diagonals t) v.residual) v.residual ≡ ended 11)) → factor_judged mode (system_of t) (owner_of t) (diagonals t) ≡ ended 11
         go (inl e) = e
-        go (inr (u, e, q)) = absurd
-            (first_numbers Other (λ z. omega arith) (λ z. omega arith) _ _
-            (z_numbers Other (λ z. omega arith) mode (system_of t) (owner_of t) (diagonals t) v.residual (u, e)) 11 q refl)
+        go (inr (u, e, q)) = absurd (first_numbers Other (λ z. omega arith) (λ z. omega arith) _ _ (z_numbers Other (λ z. omega arith) mode (system_of t) (owner_of t) (diagonals t) v.residual (u, e)) 11 q refl)
 
-    met_11 : (i : ℕ) → i < rows → begins (owner_of t) i ≡ true
-        → (leb (run_length (owner_of t) i rows) 6 && every (λ k. one_pair (jacobian_of (t.row (i + k))) (jacobian_of (t.row i)))
-        (run_length (owner_of t) i rows))
-        ≡ false
+    met_11 : (i : ℕ) → i < rows → begins (owner_of t) i ≡ true → (leb (run_length (owner_of t) i rows) 6 && every (λ k. one_pair (jacobian_of (t.row (i + k))) (jacobian_of (t.row i))) (run_length (owner_of t) i rows)) ≡ false
         → place_of Position rows bodies numbers words masses centres s 11 limit ≡ places.None → ⊥
     unfolding count_of passes_at run_fits check
     met_11 i l b f = somewhere Position rows bodies numbers words masses centres s 11 limit i l (rw (b, f))

@@ -1,5 +1,5 @@
 // The first that fails, and the entry point.
-ghost use Rattle.std.specs.Prelude.{◌≡◌, true, cond, eqb};
+ghost use Rattle.std.specs.Prelude.{◌≡◌, true, cond, eqb, length};
 ghost use Rattle.rules.specs.Rows.{rules_in};
 ghost use Rattle.block_jacobi.specs.Runs.{leading};
 ghost use Rattle.first_refusal.specs.Place.{passes_at, count_of, first_of};
@@ -37,17 +37,9 @@ fn first_failing(
     rule_tolerances: &[f64],
     count: usize,
 ) -> usize
-    requires rule_tolerances_value { tables_fit kind rows bodies numbers.now words.now masses.now beside.now
-        (rules_in rule_words.now rule_tolerances.now)
-        ≡ true }
-    requires count_value { count
-        ≡ count_of kind rows bodies numbers.now words.now masses.now beside.now
-        (rules_in rule_words.now rule_tolerances.now) number }
-    ensures { result
-        ≡ leading
-        (passes_at kind rows bodies numbers.now words.now masses.now
-        beside.now (rules_in rule_words.now rule_tolerances.now) number)
-        count }
+    requires rule_tolerances_value { tables_fit kind rows bodies numbers.now words.now masses.now beside.now (rules_in rule_words.now rule_tolerances.now) ≡ true }
+    requires count_value { count ≡ count_of kind rows bodies numbers.now words.now masses.now beside.now (rules_in rule_words.now rule_tolerances.now) number }
+    ensures { result ≡ leading (passes_at kind rows bodies numbers.now words.now masses.now beside.now (rules_in rule_words.now rule_tolerances.now) number) count }
 {
     let mut i = 0;
     while i < count {
@@ -84,12 +76,8 @@ fn first_place(
     rule_words: &[u32],
     rule_tolerances: &[f64],
 ) -> Place
-    requires { tables_fit kind rows bodies numbers.now words.now masses.now beside.now
-        (rules_in rule_words.now rule_tolerances.now)
-        ≡ true }
-    ensures { result
-        ≡ first_of kind rows bodies numbers.now words.now masses.now
-        beside.now (rules_in rule_words.now rule_tolerances.now) number }
+    requires { tables_fit kind rows bodies numbers.now words.now masses.now beside.now (rules_in rule_words.now rule_tolerances.now) ≡ true }
+    ensures { result ≡ first_of kind rows bodies numbers.now words.now masses.now beside.now (rules_in rule_words.now rule_tolerances.now) number }
 {
     let count = count_of(number, rows, bodies, rule_tolerances.len());
     let first = first_failing(
@@ -132,9 +120,7 @@ pub fn first_refused(
     rule_tolerances: &[f64],
     limit: u32,
 ) -> Place
-    ensures { result
-        ≡ place_in kind rows bodies numbers.now words.now masses.now
-        beside.now (rules_in rule_words.now rule_tolerances.now) number limit }
+    ensures { result ≡ place_in kind rows bodies numbers.now words.now masses.now beside.now (rules_in rule_words.now rule_tolerances.now) number limit }
 {
     let lengths = TableLengths {
         numbers: numbers.len(),

@@ -47,16 +47,8 @@ pub fn row_refusal(
     rule_tolerances: &[f64],
     i: usize,
 ) -> u32
-    requires { (27 * i + 27 ≤ length numbers.now) × (8 * i + 8 ≤ length words.now)
-        × (10 * bodies ≤ length masses.now) × (3 * length rule_tolerances.now ≤ length rule_words.now)
-        × GivenFrom kind (length beside.now) (i + 1) }
-    ensures { result
-        ≡ on
-        (row_judged
-        (given_in kind rows bodies numbers.now words.now masses.now
-        beside.now (rules_in rule_words.now rule_tolerances.now))
-        i)
-        (λ _. 0) (λ n. n) }
+    requires { (27 * i + 27 ≤ length numbers.now) × (8 * i + 8 ≤ length words.now) × (10 * bodies ≤ length masses.now) × (3 * length rule_tolerances.now ≤ length rule_words.now) × GivenFrom kind (length beside.now) (i + 1) }
+    ensures { result ≡ on (row_judged (given_in kind rows bodies numbers.now words.now masses.now beside.now (rules_in rule_words.now rule_tolerances.now)) i) (λ _. 0) (λ n. n) }
 {
     let tolerance = tolerance_at(words, rule_words, rule_tolerances, i);
     let start = start_at(kind, numbers, beside, i);

@@ -21,9 +21,7 @@ use rules::{one_rule, rules_fit};
 // 5, of row i.
 fn opens_at(kind: Kind, numbers: &[f64], words: &[u32], i: usize) -> bool
     requires { (27 * i + 27 ≤ length numbers.now) × (8 * i + 8 ≤ length words.now) }
-    ensures { result
-        ≡ by_kind kind (opens_of (scalars_of numbers.now (27 * i + 15)) (words_of words.now (8 * i)))
-        (velocity_opens_of (scalars_of numbers.now (27 * i + 15)) (words_of words.now (8 * i))) }
+    ensures { result ≡ by_kind kind (opens_of (scalars_of numbers.now (27 * i + 15)) (words_of words.now (8 * i))) (velocity_opens_of (scalars_of numbers.now (27 * i + 15)) (words_of words.now (8 * i))) }
 {
     let scalars = scalars_at(numbers, 27 * i + 15);
     let row = words_at(words, 8 * i);
@@ -36,9 +34,7 @@ fn opens_at(kind: Kind, numbers: &[f64], words: &[u32], i: usize) -> bool
 // 6, of body b and, of positions, its centre.
 fn body_fits(kind: Kind, masses: &[f64], beside: &[f64], b: usize) -> bool
     requires { (10 * b + 10 ≤ length masses.now) × CentresFrom kind (length beside.now) (b + 1) }
-    ensures { result
-        ≡ (mass_finite_of (mass_of masses.now b) && by_kind kind
-        (is_finite_of (vec_of beside.now (3 * b))) true) }
+    ensures { result ≡ (mass_finite_of (mass_of masses.now b) && by_kind kind (is_finite_of (vec_of beside.now (3 * b))) true) }
 {
     let mass = mass_finite(mass_at(masses, b));
     match kind {
@@ -73,15 +69,9 @@ pub fn passes_at(
     rule_tolerances: &[f64],
     i: usize,
 ) -> bool
-    requires rule_tolerances_value { tables_fit kind rows bodies numbers.now words.now masses.now beside.now
-        (rules_in rule_words.now rule_tolerances.now)
-        ≡ true }
-    requires i_bound { i
-        < count_of kind rows bodies numbers.now words.now masses.now beside.now
-        (rules_in rule_words.now rule_tolerances.now) number }
-    ensures { result
-        ≡ passes_at kind rows bodies numbers.now words.now masses.now
-        beside.now (rules_in rule_words.now rule_tolerances.now) number i }
+    requires rule_tolerances_value { tables_fit kind rows bodies numbers.now words.now masses.now beside.now (rules_in rule_words.now rule_tolerances.now) ≡ true }
+    requires i_bound { i < count_of kind rows bodies numbers.now words.now masses.now beside.now (rules_in rule_words.now rule_tolerances.now) number }
+    ensures { result ≡ passes_at kind rows bodies numbers.now words.now masses.now beside.now (rules_in rule_words.now rule_tolerances.now) number i }
 {
     if number == 4 {
         return row_words_fit(words_at(words, 8 * i));

@@ -25,56 +25,31 @@ other_bodies : {width : ℕ} {marks : List ℕ} {mark n : ℕ} {from to₀ to : 
 other_bodies h = record { same = λ body c l m q. h.others body c m (λ _. q) }
 
 -- ---- the two ways of `deliver_group`
-module _ (kind : Kind) (bodies n : ℕ) (groups marks : List ℕ) (g : ℕ) (ownNumbers ownSolution ownImpulses ownCentres : List Float)
-    (named : List ℕ) (before after : Lent) (rules₀ rules : List ℕ) (placed : ℕ) (ep : placed ≡ placed_of kind bodies)
-    (p : RowsPut groups g n ownNumbers ownSolution named before.numbers before.solution rules₀ after.numbers after.solution
-    rules)
-    (q₀ : BodiesPut marks (g + 1) bodies placed ownImpulses ownCentres before.impulses before.centres after.impulses
-    after.centres)
-  where
-    bodies_there : BodiesPut marks (g + 1) bodies (placed_of kind bodies) ownImpulses ownCentres before.impulses before.centres after.impulses after.centres
-    bodies_there = rw ep at q₀
+module _ (kind : Kind) (bodies n : ℕ) (groups marks : List ℕ) (g : ℕ) (ownNumbers ownSolution ownImpulses ownCentres : List Float) (named : List ℕ) (before after : Lent) (rules₀ rules : List ℕ) (placed : ℕ) (ep : placed ≡ placed_of kind bodies)
+    (p : RowsPut groups g n ownNumbers ownSolution named before.numbers before.solution rules₀ after.numbers after.solution rules) (q₀ : BodiesPut marks (g + 1) bodies placed ownImpulses ownCentres before.impulses before.centres after.impulses after.centres) where
+  bodies_there : BodiesPut marks (g + 1) bodies (placed_of kind bodies) ownImpulses ownCentres before.impulses before.centres after.impulses after.centres
+  bodies_there = rw ep at q₀
 
-    pub accepted_there : (answer : PositionPcg) (r : PositionPcgResult) → answer ≡ answers.Accepted r
-        → Delivered kind bodies n groups marks g answer
-        (record { numbers = ownNumbers; solution = ownSolution; impulses = ownImpulses; centres = ownCentres }) named before after rules₀
-        rules
-    accepted_there answer r e = rw e (record {
-      numbers_are = p.numbers_put.here;
-      solution_are = p.solution_put.here;
-      rules_are = p.rules_put.here;
-      impulses_are = bodies_there.impulses_put_lem.at;
-      centres_are = bodies_there.centres_put_lem.at;
-    })
+  pub accepted_there : (answer : PositionPcg) (r : PositionPcgResult) → answer ≡ answers.Accepted r → Delivered kind bodies n groups marks g answer (record { numbers = ownNumbers; solution = ownSolution; impulses = ownImpulses; centres = ownCentres }) named before after rules₀ rules
+  accepted_there answer r e = rw e (record {
+    numbers_are = p.numbers_put.here;
+    solution_are = p.solution_put.here;
+    rules_are = p.rules_put.here;
+    impulses_are = bodies_there.impulses_put_lem.at;
+    centres_are = bodies_there.centres_put_lem.at;
+  })
 
-    pub accepted_else : TableKept kind bodies n groups marks g before after rules₀ rules
-    accepted_else = record {
-      numbers_else = other_rows p.numbers_put;
-      solution_else = other_rows p.solution_put;
-      rules_else = other_rows p.rules_put;
-      impulses_else = other_bodies bodies_there.impulses_put_lem;
-      centres_else = other_bodies bodies_there.centres_put_lem;
-    }
+  pub accepted_else : TableKept kind bodies n groups marks g before after rules₀ rules
+  accepted_else = record {
+    numbers_else = other_rows p.numbers_put;
+    solution_else = other_rows p.solution_put;
+    rules_else = other_rows p.rules_put;
+    impulses_else = other_bodies bodies_there.impulses_put_lem;
+    centres_else = other_bodies bodies_there.centres_put_lem;
+  }
 
-pub refused_there : (kind : Kind) (bodies n : ℕ) (groups marks : List ℕ) (g : ℕ) (answer : PositionPcg) (own : Lent) (named : List ℕ)
-    (before : Lent) (rules₀ : List ℕ) (number : ℕ)
-    → answer ≡ answers.Refused number → Delivered kind bodies n groups marks g answer own named before before rules₀ rules₀
-refused_there kind bodies n groups marks g answer own named before rules₀ number e = rw e
-    (record {
-      numbers_are = refl;
-      solution_are = refl;
-      rules_are = refl;
-      impulses_are = λ body c l m q. refl;
-      centres_are = λ body c l m q. refl;
-    })
+pub refused_there : (kind : Kind) (bodies n : ℕ) (groups marks : List ℕ) (g : ℕ) (answer : PositionPcg) (own : Lent) (named : List ℕ) (before : Lent) (rules₀ : List ℕ) (number : ℕ) → answer ≡ answers.Refused number → Delivered kind bodies n groups marks g answer own named before before rules₀ rules₀
+refused_there kind bodies n groups marks g answer own named before rules₀ number e = rw e (record { numbers_are = refl; solution_are = refl; rules_are = refl; impulses_are = λ body c l m q. refl; centres_are = λ body c l m q. refl })
 
-pub refused_else : (kind : Kind) (bodies n : ℕ) (groups marks : List ℕ) (g : ℕ) (before : Lent) (rules₀ : List ℕ)
-    → TableKept kind bodies n groups marks g before before rules₀ rules₀
-refused_else kind bodies n groups marks g before rules₀ =
-    record {
-      numbers_else = record { same = λ h q. refl };
-      solution_else = record { same = λ h q. refl };
-      rules_else = record { same = λ h q. refl };
-      impulses_else = record { same = λ body c l m q. refl };
-      centres_else = record { same = λ body c l m q. refl };
-    }
+pub refused_else : (kind : Kind) (bodies n : ℕ) (groups marks : List ℕ) (g : ℕ) (before : Lent) (rules₀ : List ℕ) → TableKept kind bodies n groups marks g before before rules₀ rules₀
+refused_else kind bodies n groups marks g before rules₀ = record { numbers_else = record { same = λ h q. refl }; solution_else = record { same = λ h q. refl }; rules_else = record { same = λ h q. refl }; impulses_else = record { same = λ body c l m q. refl }; centres_else = record { same = λ body c l m q. refl } }

@@ -40,63 +40,31 @@ given_room h e = omega (arith, h.long e)
 
 -- ---- refusal 3 of the group's table has passed with the whole table's
 module _ (kind : Kind) (n bodies mode k : ℕ) (rows : List ℕ) (e : k ≡ length rows) (few : k ≤ n) (numbers : List Float) (words : List ℕ) (given : List Float) where
-  beside_fits : (kd : Kind) (residual centres newCentres : ℕ) → residual ≡ k → centres ≡ 3 * placed_of kd bodies
-      → newCentres ≡ 3 * placed_of kd bodies
-      → (by_kind kd true (residual_lent k residual) && centres_lent (placed_of kd bodies) centres newCentres) ≡ true
+  beside_fits : (kd : Kind) (residual centres newCentres : ℕ) → residual ≡ k → centres ≡ 3 * placed_of kd bodies → newCentres ≡ 3 * placed_of kd bodies → (by_kind kd true (residual_lent k residual) && centres_lent (placed_of kd bodies) centres newCentres) ≡ true
   unfolding residual_lent centres_lent
   beside_fits kinds.Position residual centres newCentres r c d = rw (eq-eqb centres (3 * bodies) c, eq-eqb newCentres (3 * bodies) d)
   beside_fits kinds.Velocity residual centres newCentres r c d = rw (eq-eqb residual k r, eq-eqb centres 0 c, eq-eqb newCentres 0 d)
 
-  pub own_fits : (masses centres : List Float) (rule_words : List ℕ) (rule_tolerances : List Float) (ownNumbers₀ : List Float)
-      (ownWords₀ : List ℕ) (ownGiven₀ ownSolution ownImpulses ownCentres : List Float) (ownRules : List ℕ) (ownNumbers : List Float)
-      (own_words : List ℕ) (ownGiven : List Float)
-      → BenchRoom kind n bodies mode words masses centres given rule_words rule_tolerances → OwnRoom kind bodies k ownNumbers₀ ownWords₀
-      ownGiven₀ ownSolution ownImpulses ownCentres ownRules → GroupPicked kind rows numbers words given ownNumbers own_words ownGiven₀
-      ownGiven
-      → job_fits kind k bodies mode (length ownNumbers) (length own_words) (length masses) (length ownSolution) (length ownImpulses)
-      (length centres) (length ownCentres) (length rule_words) (length rule_tolerances) (length ownRules) (length ownGiven) ≡ true
+  pub own_fits : (masses centres : List Float) (rule_words : List ℕ) (rule_tolerances : List Float) (ownNumbers₀ : List Float) (ownWords₀ : List ℕ) (ownGiven₀ ownSolution ownImpulses ownCentres : List Float) (ownRules : List ℕ) (ownNumbers : List Float) (own_words : List ℕ) (ownGiven : List Float)
+      → BenchRoom kind n bodies mode words masses centres given rule_words rule_tolerances → OwnRoom kind bodies k ownNumbers₀ ownWords₀ ownGiven₀ ownSolution ownImpulses ownCentres ownRules → GroupPicked kind rows numbers words given ownNumbers own_words ownGiven₀ ownGiven
+      → job_fits kind k bodies mode (length ownNumbers) (length own_words) (length masses) (length ownSolution) (length ownImpulses) (length centres) (length ownCentres) (length rule_words) (length rule_tolerances) (length ownRules) (length ownGiven) ≡ true
   unfolding job_fits rules_lent counts_fit table_fits
   own_fits masses centres rule_words rule_tolerances _ _ _ ownSolution ownImpulses ownCentres ownRules ownNumbers own_words ownGiven b o p =
       let en : length ownNumbers ≡ 27 * k = omega (arith, ap length p.numbers_are, pick_long nan 27 rows numbers) in
       let ew : length own_words ≡ 8 * k = omega (arith, ap length p.words_are, pick_long 0 8 rows words) in
-      rw (
-        b.rules_fit,
-        eq-eqb _ _ o.table.rules_long,
-        beside_fits kind (length ownGiven) (length centres) (length ownCentres) (p.given_are.long ∙ o.given_long) b.centres_long
-            o.table.centres_long,
-        le-leb k 512 (omega (arith, b.rows_few)),
-        le-leb bodies 256 b.bodies_few,
-        le-leb mode 2 b.mode_known,
-        eq-eqb _ _ en,
-        eq-eqb _ _ ew,
-        eq-eqb _ _ b.masses_long,
-        eq-eqb _ _ o.table.solution_long,
-        eq-eqb _ _ o.table.impulses_long,
-      )
+      rw (b.rules_fit, eq-eqb _ _ o.table.rules_long, beside_fits kind (length ownGiven) (length centres) (length ownCentres) (p.given_are.long ∙ o.given_long) b.centres_long o.table.centres_long, le-leb k 512 (omega (arith, b.rows_few)), le-leb bodies 256 b.bodies_few, le-leb mode 2 b.mode_known, eq-eqb _ _ en, eq-eqb _ _ ew, eq-eqb _ _ b.masses_long, eq-eqb _ _ o.table.solution_long, eq-eqb _ _ o.table.impulses_long)
 
 -- ---- the group's problem is that of the table picked; of positions whatever its residual is
-same_given : (kind : Kind) (k bodies : ℕ) (numbers : List Float) (words : List ℕ) (masses centres x y : List Float) (rules : Rules)
-    (shift : Float)
-    → (kind ≡ kinds.Velocity → x ≡ y)
-    → solve_for kind k bodies numbers words masses centres x rules shift ≡ solve_for kind k bodies numbers words masses centres y rules shift
+same_given : (kind : Kind) (k bodies : ℕ) (numbers : List Float) (words : List ℕ) (masses centres x y : List Float) (rules : Rules) (shift : Float) → (kind ≡ kinds.Velocity → x ≡ y) → solve_for kind k bodies numbers words masses centres x rules shift ≡ solve_for kind k bodies numbers words masses centres y rules shift
 same_given kinds.Position k bodies numbers words masses centres x y rules shift e = refl
 same_given kinds.Velocity k bodies numbers words masses centres x y rules shift e = ap (λ (g : List Float). solve_for kinds.Velocity k bodies numbers words masses centres g rules shift) (e refl)
 
-module _ (kind : Kind) (n bodies : ℕ) (words : List ℕ) (masses centres given : List Float) (rules : Rules) (limit mode : ℕ) (shift : Float)
-    (numbers : List Float) (rows : List ℕ) (k : ℕ) (e : k ≡ length rows)
+module _ (kind : Kind) (n bodies : ℕ) (words : List ℕ) (masses centres given : List Float) (rules : Rules) (limit mode : ℕ) (shift : Float) (numbers : List Float) (rows : List ℕ) (k : ℕ) (e : k ≡ length rows)
     {ownNumbers : List Float} {own_words : List ℕ} {given₀ ownGiven : List Float} (p : GroupPicked kind rows numbers words given ownNumbers own_words given₀ ownGiven) where
   pub own_solved : {fits : Bool} {solution impulses newCentres : List Float} {after : Lent} {named namedAfter : List ℕ} {answer : PositionPcg} → fits ≡ true
-      → JobSolved fits rules (solve_for kind k bodies ownNumbers own_words masses centres ownGiven rules shift) (mode_of mode shift) limit
-      (place_of kind) k (record { numbers = ownNumbers; solution = solution; impulses = impulses; centres = newCentres }) after named
-      namedAfter answer
-      → SolvedAlone (bench_of kind n bodies words masses centres given rules limit mode shift) numbers rows
-      (record { numbers = pick_rows nan 27 rows numbers; solution = solution; impulses = impulses; centres = newCentres }) after named
-      namedAfter answer
+      → JobSolved fits rules (solve_for kind k bodies ownNumbers own_words masses centres ownGiven rules shift) (mode_of mode shift) limit (place_of kind) k (record { numbers = ownNumbers; solution = solution; impulses = impulses; centres = newCentres }) after named namedAfter answer
+      → SolvedAlone (bench_of kind n bodies words masses centres given rules limit mode shift) numbers rows (record { numbers = pick_rows nan 27 rows numbers; solution = solution; impulses = impulses; centres = newCentres }) after named namedAfter answer
   own_solved {solution = solution} {impulses} {newCentres} {after} {named} {namedAfter} {answer} f j =
-      subst
-      (λ (q : Problem).
-      JobSolved true rules q (mode_of mode shift) limit (place_of kind) (length rows)
-      (record { numbers = pick_rows nan 27 rows numbers; solution = solution; impulses = impulses; centres = newCentres }) after
-      named namedAfter answer)
+      subst (λ (q : Problem). JobSolved true rules q (mode_of mode shift) limit (place_of kind) (length rows) (record { numbers = pick_rows nan 27 rows numbers; solution = solution; impulses = impulses; centres = newCentres }) after named namedAfter answer)
       (same_given kind (length rows) bodies (pick_rows nan 27 rows numbers) (pick_rows 0 8 rows words) masses centres ownGiven (pick_rows nan 1 rows given) rules shift p.given_are.are)
       (rw (f, e, p.numbers_are, p.words_are) at j)

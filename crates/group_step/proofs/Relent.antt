@@ -23,38 +23,19 @@ abbrev pub lent_with : Lent → List Float → List Float → List Float → Len
 lent_with l solution impulses centres = record { numbers = l.numbers; solution = solution; impulses = impulses; centres = centres }
 
 abbrev pub left_with : PositionPcg → Lent → List Float → List Float → List Float → Lent
-left_with answer after solution impulses centres =
-    record {
-      numbers = after.numbers;
-      solution = chosen answer after.solution solution;
-      impulses = chosen answer after.impulses impulses;
-      centres = chosen answer after.centres centres;
-    }
+left_with answer after solution impulses centres = record { numbers = after.numbers; solution = chosen answer after.solution solution; impulses = chosen answer after.impulses impulses; centres = chosen answer after.centres centres }
 
 module _ (place n : ℕ) (before : Lent) (solution impulses centres : List Float) where
-  relent_own : (a : Answer)
-      → let o = outcome_at place n before a in
-      outcome_at place n (lent_with before solution impulses centres) a
-      ≡ record { answer = o.answer; lent = left_with o.answer o.lent solution impulses centres }
+  relent_own : (a : Answer) → let o = outcome_at place n before a in outcome_at place n (lent_with before solution impulses centres) a ≡ record { answer = o.answer; lent = left_with o.answer o.lent solution impulses centres }
   unfolding proposal_of committed_of
   relent_own (going ((flag, count, v), f)) = refl
   relent_own (ended number) = refl
 
-  relent_outcome : (a : Answer) (answer : PositionPcg) (after : Lent)
-      → outcome_at place n before a ≡ record { answer = answer; lent = after }
-      → outcome_at place n (lent_with before solution impulses centres) a
-      ≡ record { answer = answer; lent = left_with answer after solution impulses centres }
-  relent_outcome a answer after e = subst
-      (λ (x : Outcome).
-      outcome_at place n (lent_with before solution impulses centres) a ≡
-      record { answer = x.answer; lent = left_with x.answer x.lent solution impulses centres })
-      e (relent_own a)
+  relent_outcome : (a : Answer) (answer : PositionPcg) (after : Lent) → outcome_at place n before a ≡ record { answer = answer; lent = after } → outcome_at place n (lent_with before solution impulses centres) a ≡ record { answer = answer; lent = left_with answer after solution impulses centres }
+  relent_outcome a answer after e = subst (λ (x : Outcome). outcome_at place n (lent_with before solution impulses centres) a ≡ record { answer = x.answer; lent = left_with x.answer x.lent solution impulses centres }) e (relent_own a)
 
-module _ {s : Rules} {p : Problem} {mode : Mode} {limit place n : ℕ} {before after : Lent} {named namedAfter : List ℕ}
-    {answer : PositionPcg} (j : JobSolved true s p mode limit place n before after named namedAfter answer) where
-  pub relend : (solution impulses centres : List Float) (names : List ℕ)
-      → JobSolved true s p mode limit place n (lent_with before solution impulses centres) (left_with answer after solution impulses centres)
-      names (chosen answer namedAfter names) answer
+module _ {s : Rules} {p : Problem} {mode : Mode} {limit place n : ℕ} {before after : Lent} {named namedAfter : List ℕ} {answer : PositionPcg} (j : JobSolved true s p mode limit place n before after named namedAfter answer) where
+  pub relend : (solution impulses centres : List Float) (names : List ℕ) → JobSolved true s p mode limit place n (lent_with before solution impulses centres) (left_with answer after solution impulses centres) names (chosen answer namedAfter names) answer
   relend solution impulses centres names =
       let e = relent_outcome place n before solution impulses centres (solve (method_of true p mode) limit) answer after j.answered in
       record { answered = e; means = entry_means (method_of true p mode) limit place n (lent_with before solution impulses centres) (left_with answer after solution impulses centres) answer e; in_place = j.in_place; named = go answer j.named; ruled = j.ruled }
@@ -101,9 +82,7 @@ module _ {s : Rules} {p : Problem} {mode : Mode} {limit place n : ℕ} {before a
       go (answers.Refused number) e = sym e
 
 -- equal lists are lent and left
-pub job_same : {s : Rules} {p : Problem} {mode : Mode} {limit place n : ℕ} {before : Lent}
-    {numbers numbers' solution solution' impulses centres : List Float} {named namedAfter namedAfter' : List ℕ} {answer : PositionPcg}
-    → numbers ≡ numbers' → solution ≡ solution' → namedAfter ≡ namedAfter'
+pub job_same : {s : Rules} {p : Problem} {mode : Mode} {limit place n : ℕ} {before : Lent} {numbers numbers' solution solution' impulses centres : List Float} {named namedAfter namedAfter' : List ℕ} {answer : PositionPcg} → numbers ≡ numbers' → solution ≡ solution' → namedAfter ≡ namedAfter'
     → JobSolved true s p mode limit place n before (record { numbers = numbers; solution = solution; impulses = impulses; centres = centres }) named namedAfter answer
     → JobSolved true s p mode limit place n before (record { numbers = numbers'; solution = solution'; impulses = impulses; centres = centres }) named namedAfter' answer
 job_same a b c j = rw (a, b, c) at j

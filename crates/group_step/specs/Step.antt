@@ -1,7 +1,6 @@
 -- What the functions that solve one group hand to one another.
 use Rattle.std.specs.Prelude.{ℕ, ◌+◌, ◌*◌, ◌<◌, ◌≤◌, ◌≡◌, true, List, length, get_or, Float}
 use Rattle.std.specs.Float.{nan}
-use Rattle.loops.specs.Cleared.{Free}
 use Rattle.kapitsa_joint.specs.Kind.{placed_of}
 use Rattle.kapitsa_joint.specs.declared.kind.Kind.{Kind}
 use Rattle.kapitsa_joint.specs.declared.kind.Kind.TheVariants as kinds
@@ -121,13 +120,3 @@ pub record OwnRoom (kind : Kind) (bodies k : ℕ) (numbers : List Float) (words 
   pub table : TableRoom kind k bodies numbers solution impulses centres rules
   pub words_long : length words ≡ 8 * k
   pub given_long : length given ≡ k
-
--- the memory of the group's own is left free
-pub record OwnFree (numbers numbers₁ : List Float) (words words₁ : List ℕ) (given given₁ solution solution₁ impulses impulses₁ centres centres₁ : List Float) (rules rules₁ : List ℕ) : Type 0 where
-  pub numbers_free : Free numbers numbers₁
-  pub words_free : Free words words₁
-  pub given_free : Free given given₁
-  pub solution_free : Free solution solution₁
-  pub impulses_free : Free impulses impulses₁
-  pub centres_free : Free centres centres₁
-  pub rules_free : Free rules rules₁

@@ -15,10 +15,8 @@ use position_solve::solve_table;
 
 // A residual is looked at for velocities alone.
 fn pick_given(kind: Kind, groups: &[u32], g: u32, rows: usize, given: &[f64], picked: &mut [f64])
-    requires { (rows ≤ length groups.now) × GivenRoom kind (length given.now) rows
-        × (length picked.old ≡ length (rows_of groups.now g rows)) }
-    ensures { GivenPicked kind (rows_of groups.now g rows) given.now picked.old
-        picked.new }
+    requires { (rows ≤ length groups.now) × GivenRoom kind (length given.now) rows × (length picked.old ≡ length (rows_of groups.now g rows)) }
+    ensures { GivenPicked kind (rows_of groups.now g rows) given.now picked.old picked.new }
 {
     match kind {
         Kind::Position => {}
@@ -41,14 +39,9 @@ fn pick_group(
     own_words: &mut [u32],
     own_given: &mut [f64],
 )
-    requires rows_in_bounds { (rows ≤ length groups.now) × (length numbers.now ≡ 27 * rows) × (length words.now ≡ 8 * rows)
-        × GivenRoom kind (length given.now) rows }
-    requires own_numbers_len { (length own_numbers.old ≡ 27 * length (rows_of groups.now g rows))
-        × (length own_words.old ≡ 8 * length (rows_of groups.now g rows))
-        × (length own_given.old ≡ length (rows_of groups.now g rows)) }
-    ensures { GroupPicked kind (rows_of groups.now g rows) numbers.now words.now
-        given.now own_numbers.new own_words.new own_given.old
-        own_given.new }
+    requires rows_in_bounds { (rows ≤ length groups.now) × (length numbers.now ≡ 27 * rows) × (length words.now ≡ 8 * rows) × GivenRoom kind (length given.now) rows }
+    requires own_numbers_len { (length own_numbers.old ≡ 27 * length (rows_of groups.now g rows)) × (length own_words.old ≡ 8 * length (rows_of groups.now g rows)) × (length own_given.old ≡ length (rows_of groups.now g rows)) }
+    ensures { GroupPicked kind (rows_of groups.now g rows) numbers.now words.now given.now own_numbers.new own_words.new own_given.old own_given.new }
 {
     pick_numbers(groups, g, rows, 27, numbers, own_numbers);
     pick_words(groups, g, rows, 8, words, own_words);
@@ -82,26 +75,11 @@ pub fn solve_own(
     own_rules: &mut [u32],
 ) -> PositionPcg
     requires rows_in_bounds { (rows ≤ length groups.now) × (length numbers.now ≡ 27 * rows) × (k ≡ length (rows_of groups.now g rows)) }
-    requires bench_room { BenchRoom kind rows bodies mode words.now masses.now centres.now given.now rule_words.now
-        rule_tolerances.now }
-    requires own_room { OwnRoom kind bodies k own_numbers.old own_words.old own_given.old own_solution.old
-        own_impulses.old own_centres.old own_rules.old }
-    ensures { SolvedAlone
-        (bench_of kind rows bodies words.now masses.now centres.now given.now
-        (rules_in rule_words.now rule_tolerances.now) limit mode shift)
-        numbers.entry.now (rows_of groups.now g rows)
-        record {
-          numbers = pick_rows nan 27 (rows_of groups.now g rows) numbers.entry.now;
-          solution = own_solution.old;
-          impulses = own_impulses.old;
-          centres = own_centres.old;
-        }
-        record {
-          numbers = own_numbers.new;
-          solution = own_solution.new;
-          impulses = own_impulses.new;
-          centres = own_centres.new;
-        }
+    requires bench_room { BenchRoom kind rows bodies mode words.now masses.now centres.now given.now rule_words.now rule_tolerances.now }
+    requires own_room { OwnRoom kind bodies k own_numbers.old own_words.old own_given.old own_solution.old own_impulses.old own_centres.old own_rules.old }
+    ensures { SolvedAlone (bench_of kind rows bodies words.now masses.now centres.now given.now (rules_in rule_words.now rule_tolerances.now) limit mode shift) numbers.entry.now (rows_of groups.now g rows)
+        record { numbers = pick_rows nan 27 (rows_of groups.now g rows) numbers.entry.now; solution = own_solution.old; impulses = own_impulses.old; centres = own_centres.old }
+        record { numbers = own_numbers.new; solution = own_solution.new; impulses = own_impulses.new; centres = own_centres.new }
         own_rules.old own_rules.new result }
 {
     pick_group(

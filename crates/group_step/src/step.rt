@@ -3,7 +3,7 @@ ghost use Rattle.std.specs.Prelude.{◌≡◌, ◌<◌, ◌≤◌, length};
 ghost use Rattle.rules.specs.Rows.{rules_in};
 ghost use Rattle.group_table.specs.Pick.{rows_of};
 ghost use Rattle.group_step.specs.Bench.{bench_of, lending_of};
-ghost use Rattle.group_step.specs.Step.{BenchRoom, TableRoom, ToldRoom, OwnRoom, GroupStep, OwnFree};
+ghost use Rattle.group_step.specs.Step.{BenchRoom, TableRoom, ToldRoom, OwnRoom, GroupStep};
 
 use crate::deliver::deliver_group;
 use crate::own::solve_own;
@@ -44,26 +44,12 @@ pub fn solve_group(
     own_rules: &mut [u32],
 )
     requires groups_len { (length groups.now ≡ rows) × (bodies ≤ length marks.now) × (g < rows) × (k ≡ length (rows_of groups.now g rows)) }
-    requires bench_room { BenchRoom kind rows bodies mode words.now masses.now centres.now given.now rule_words.now
-        rule_tolerances.now }
-    requires table_room { TableRoom kind rows bodies numbers.old solution.old impulses.old new_centres.old
-        rule_numbers.old
-        × ToldRoom rows group_answers.old group_maxima.old }
-    requires own_room { OwnRoom kind bodies k own_numbers.old own_words.old own_given.old own_solution.old
-        own_impulses.old own_centres.old own_rules.old }
-    ensures group_step { GroupStep
-        (bench_of kind rows bodies words.now masses.now centres.now given.now
-        (rules_in rule_words.now rule_tolerances.now) limit mode shift)
-        marks.now g
-        (lending_of numbers.old solution.old impulses.old new_centres.old
-        rule_numbers.old groups.now group_answers.old
-        group_maxima.old)
-        (lending_of numbers.new solution.new impulses.new new_centres.new
-        rule_numbers.new groups.now group_answers.new group_maxima.new) }
-    ensures own_free { OwnFree own_numbers.old own_numbers.new own_words.old
-        own_words.new own_given.old own_given.new own_solution.old
-        own_solution.new own_impulses.old own_impulses.new
-        own_centres.old own_centres.new own_rules.old own_rules.new }
+    requires bench_room { BenchRoom kind rows bodies mode words.now masses.now centres.now given.now rule_words.now rule_tolerances.now }
+    requires table_room { TableRoom kind rows bodies numbers.old solution.old impulses.old new_centres.old rule_numbers.old × ToldRoom rows group_answers.old group_maxima.old }
+    requires own_room { OwnRoom kind bodies k own_numbers.old own_words.old own_given.old own_solution.old own_impulses.old own_centres.old own_rules.old }
+    ensures { GroupStep (bench_of kind rows bodies words.now masses.now centres.now given.now (rules_in rule_words.now rule_tolerances.now) limit mode shift) marks.now g
+        (lending_of numbers.old solution.old impulses.old new_centres.old rule_numbers.old groups.now group_answers.old group_maxima.old)
+        (lending_of numbers.new solution.new impulses.new new_centres.new rule_numbers.new groups.now group_answers.new group_maxima.new) }
 {
     let answer = solve_own(
         kind,

@@ -32,8 +32,7 @@ fn tell_maxima(at: usize, linear: f64, angular: f64, maxima: &mut [f64])
 
 pub fn tell_group(answer: PositionPcg, g: u32, group_answers: &mut [u32], group_maxima: &mut [f64])
     requires { (3 * g + 3 ≤ length group_answers.old) × (2 * g + 2 ≤ length group_maxima.old) }
-    ensures { TellsGroup g answer group_answers.old group_answers.new
-        group_maxima.old group_maxima.new }
+    ensures { TellsGroup g answer group_answers.old group_answers.new group_maxima.old group_maxima.new }
 {
     let at = g as usize;
     match answer {

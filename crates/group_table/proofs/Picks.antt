@@ -54,8 +54,7 @@ module _ {X : Type 0} {d : X} {width : ℕ} {groups : List ℕ} {g : ℕ} {from 
   unfolding rows_of
   picking_none = record { within = omega arith; few = omega arith; count = refl; picked = record { long = refl; at = λ k c l. absurd (omega arith); rest = λ p l. refl } }
 
-  pub picking_more : {n i k r : ℕ} {to₀ to₁ to : List X} → Picking d width groups g n i k from to₀ to₁ → i < n
-      → RowPicked d width groups g i k from to₁ to r → Picking d width groups g n (i + 1) r from to₀ to
+  pub picking_more : {n i k r : ℕ} {to₀ to₁ to : List X} → Picking d width groups g n i k from to₀ to₁ → i < n → RowPicked d width groups g i k from to₁ to r → Picking d width groups g n (i + 1) r from to₀ to
   picking_more {n} {to₀ = to₀} h l p = p.more n to₀ l h
 
   pub picking_count : {n i k : ℕ} {to₀ to : List X} → Picking d width groups g n i k from to₀ to → n ≤ i → k ≡ length (rows_of groups g n)
@@ -88,15 +87,12 @@ module _ {X : Type 0} {d : X} {width : ℕ} {groups : List ℕ} {g : ℕ} {from 
         picked = rw (rows_more groups g i e) (record { long = b.long ∙ h.picked.long; at = λ j c p q. at j c (dec_lt j k) p q; rest = rest });
       }
         where
-          at : (j c : ℕ) → Dec (j < k) → j < length (rows_of groups g i ++ (i ∷ [])) → c < width
-              → get_or to (width * j + c) d ≡ get_or from (width * get_or (rows_of groups g i ++ (i ∷ [])) j 0 + c) d
+          at : (j c : ℕ) → Dec (j < k) → j < length (rows_of groups g i ++ (i ∷ [])) → c < width → get_or to (width * j + c) d ≡ get_or from (width * get_or (rows_of groups g i ++ (i ∷ [])) j 0 + c) d
           at j c (yes m) p q =
-              b.before (width * j + c) (omega (arith, row_before width j k m)) ∙ h.picked.at j c (omega (arith, h.count)) q ∙ ap
-              (λ x. get_or from (width * x + c) d) (sym (snoc_old (rows_of groups g i) i j (omega (arith, h.count))))
+              b.before (width * j + c) (omega (arith, row_before width j k m)) ∙ h.picked.at j c (omega (arith, h.count)) q ∙ ap (λ x. get_or from (width * x + c) d) (sym (snoc_old (rows_of groups g i) i j (omega (arith, h.count))))
           at j c (no m) p q =
               let s : j ≡ k = omega (arith, snoc_length (rows_of groups g i) i, h.count) in
-              ap (λ x. get_or to (width * x + c) d) s ∙ b.here c q ∙ ap (λ x. get_or from (width * x + c) d)
-              (sym (ap (λ x. get_or (rows_of groups g i ++ (i ∷ [])) x 0) (s ∙ h.count) ∙ snoc_new (rows_of groups g i) i))
+              ap (λ x. get_or to (width * x + c) d) s ∙ b.here c q ∙ ap (λ x. get_or from (width * x + c) d) (sym (ap (λ x. get_or (rows_of groups g i ++ (i ∷ [])) x 0) (s ∙ h.count) ∙ snoc_new (rows_of groups g i) i))
 
           rest : (p : ℕ) → width * length (rows_of groups g i ++ (i ∷ [])) ≤ p → get_or to p d ≡ get_or to₀ p d
           rest p m =
@@ -111,8 +107,7 @@ module _ {X : Type 0} {d : X} {width : ℕ} {groups : List ℕ} {g : ℕ} {from 
   unfolding rows_of
   scattering_none = record { within = omega arith; few = omega arith; count = refl; scattered = record { long = refl; at = λ k c l. absurd (omega arith); others = λ i c l e. refl } }
 
-  pub scattering_more : {n i k r : ℕ} {to₀ to₁ to : List X} → Scattering d width groups g n i k from to₀ to₁ → i < n
-      → RowScattered d width groups g i k from to₁ to r → Scattering d width groups g n (i + 1) r from to₀ to
+  pub scattering_more : {n i k r : ℕ} {to₀ to₁ to : List X} → Scattering d width groups g n i k from to₀ to₁ → i < n → RowScattered d width groups g i k from to₁ to r → Scattering d width groups g n (i + 1) r from to₀ to
   scattering_more {n} {to₀ = to₀} h l p = p.more n to₀ l h
 
   pub scattering_end : {n i k : ℕ} {to₀ to : List X} → Scattering d width groups g n i k from to₀ to → n ≤ i → Scattered d width groups g n from to₀ to
@@ -131,8 +126,7 @@ module _ {X : Type 0} {d : X} {width : ℕ} {groups : List ℕ} {g : ℕ} {from 
   }
 
   -- a row of the group
-  pub scatter_one : (i k : ℕ) (to₁ to : List X) → get_or groups i 0 ≡ g → BlockCopied d width (width * k) (width * i) from to₁ to
-      → RowScattered d width groups g i k from to₁ to (k + 1)
+  pub scatter_one : (i k : ℕ) (to₁ to : List X) → get_or groups i 0 ≡ g → BlockCopied d width (width * k) (width * i) from to₁ to → RowScattered d width groups g i k from to₁ to (k + 1)
   scatter_one i k to₁ to e b = record { long = b.long; more = more }
     where
       more : (n : ℕ) (to₀ : List X) → i < n → Scattering d width groups g n i k from to₀ to₁ → Scattering d width groups g n (i + 1) (k + 1) from to₀ to
@@ -140,16 +134,10 @@ module _ {X : Type 0} {d : X} {width : ℕ} {groups : List ℕ} {g : ℕ} {from 
         within = omega arith;
         few = omega (arith, h.few);
         count = rw (rows_more groups g i e) (omega (arith, snoc_length (rows_of groups g i) i, h.count));
-        scattered =
-            record {
-              long = b.long ∙ h.scattered.long;
-              at = rw (rows_more groups g i e) (λ j c p q. at j c (dec_lt j k) p q);
-              others = λ j c q m. others j c q m (dec_lt j i) (ℕ_discrete j i);
-            };
+        scattered = record { long = b.long ∙ h.scattered.long; at = rw (rows_more groups g i e) (λ j c p q. at j c (dec_lt j k) p q); others = λ j c q m. others j c q m (dec_lt j i) (ℕ_discrete j i) };
       }
         where
-          at : (j c : ℕ) → Dec (j < k) → j < length (rows_of groups g i ++ (i ∷ [])) → c < width
-              → get_or to (width * get_or (rows_of groups g i ++ (i ∷ [])) j 0 + c) d ≡ get_or from (width * j + c) d
+          at : (j c : ℕ) → Dec (j < k) → j < length (rows_of groups g i ++ (i ∷ [])) → c < width → get_or to (width * get_or (rows_of groups g i ++ (i ∷ [])) j 0 + c) d ≡ get_or from (width * j + c) d
           at j c (yes m) p q =
               let o : j < length (rows_of groups g i) = omega (arith, h.count) in
               ap (λ x. get_or to (width * x + c) d) (snoc_old (rows_of groups g i) i j o)
@@ -157,9 +145,7 @@ module _ {X : Type 0} {d : X} {width : ℕ} {groups : List ℕ} {g : ℕ} {from 
               ∙ h.scattered.at j c o q
           at j c (no m) p q =
               let s : j ≡ k = omega (arith, snoc_length (rows_of groups g i) i, h.count) in
-              ap (λ x. get_or to (width * x + c) d)
-              (ap (λ x. get_or (rows_of groups g i ++ (i ∷ [])) x 0) (s ∙ h.count) ∙ snoc_new (rows_of groups g i) i) ∙ b.here c q ∙ ap
-              (λ x. get_or from (width * x + c) d) (sym s)
+              ap (λ x. get_or to (width * x + c) d) (ap (λ x. get_or (rows_of groups g i ++ (i ∷ [])) x 0) (s ∙ h.count) ∙ snoc_new (rows_of groups g i) i) ∙ b.here c q ∙ ap (λ x. get_or from (width * x + c) d) (sym s)
 
           others : (j c : ℕ) → c < width → (j < i + 1 → get_or groups j 0 ≡ g → ⊥) → Dec (j < i) → Dec (j ≡ i) → get_or to (width * j + c) d ≡ get_or to₀ (width * j + c) d
           others j c q m (yes u) v = b.before (width * j + c) (omega (arith, row_before width j i u)) ∙ h.scattered.others j c q (λ t. m (omega arith))
@@ -177,17 +163,13 @@ module _ {X : Type 0} (d : X) (width : ℕ) where
       go (no e) (yes q) = (q, mod-lt p (omega arith))
       go (no e) (no q) = absurd (let b : n ≤ p / width = omega arith in let m : width * n ≤ width * (p / width) = mul-le-mul_left width b in omega (arith, div-add-mod p width))
 
-  pub picked_list : (rows : List ℕ) (from to : List X) → length to ≡ width * length rows
-      → ((k c : ℕ) → k < length rows → c < width → get_or to (width * k + c) d ≡ get_or from (width * get_or rows k 0 + c) d)
-      → to ≡ pick_rows d width rows from
+  pub picked_list : (rows : List ℕ) (from to : List X) → length to ≡ width * length rows → ((k c : ℕ) → k < length rows → c < width → get_or to (width * k + c) d ≡ get_or from (width * get_or rows k 0 + c) d) → to ≡ pick_rows d width rows from
   unfolding pick_rows
   picked_list rows from to e h =
       tabulated d _ (width * length rows) to e
       (λ p l. let (a, b) = place p (length rows) l in ap (λ q. get_or to q d) (sym (div-add-mod p width)) ∙ h (p / width) (p % width) a b)
 
-  pub pick_same : (rows : List ℕ) (l m : List X)
-      → ((k c : ℕ) → k < length rows → c < width → get_or l (width * get_or rows k 0 + c) d ≡ get_or m (width * get_or rows k 0 + c) d)
-      → pick_rows d width rows l ≡ pick_rows d width rows m
+  pub pick_same : (rows : List ℕ) (l m : List X) → ((k c : ℕ) → k < length rows → c < width → get_or l (width * get_or rows k 0 + c) d ≡ get_or m (width * get_or rows k 0 + c) d) → pick_rows d width rows l ≡ pick_rows d width rows m
   unfolding pick_rows
   pick_same rows l m h = tabulate_same _ _ (width * length rows) (λ p b. let (x, y) = place p (length rows) b in h (p / width) (p % width) x y)
 
@@ -199,8 +181,7 @@ module _ {X : Type 0} (d : X) (width : ℕ) where
   picked_are rows from to₀ to e h = picked_list rows from to (h.long ∙ e) h.at
 
   -- put back, they are what was put, and the rows of other groups stay
-  pub put_all : (groups : List ℕ) (g n : ℕ) (from to₀ to : List X) → length from ≡ width * length (rows_of groups g n)
-      → Scattered d width groups g n from to₀ to → Put d width groups g n from to₀ to
+  pub put_all : (groups : List ℕ) (g n : ℕ) (from to₀ to : List X) → length from ≡ width * length (rows_of groups g n) → Scattered d width groups g n from to₀ to → Put d width groups g n from to₀ to
   put_all groups g n from to₀ to e h = record {
     long = h.long;
     here = sym (picked_list (rows_of groups g n) to from e (λ k c a b. sym (h.at k c a b)));
@@ -208,27 +189,17 @@ module _ {X : Type 0} (d : X) (width : ℕ) where
   }
 
 module _ {X : Type 0} {d : X} {width : ℕ} {groups : List ℕ} {g : ℕ} {from : List X} where
-  pub picking_list : {n i k : ℕ} {to₀ to : List X} → Picking d width groups g n i k from to₀ to → n ≤ i
-      → length to₀ ≡ width * length (rows_of groups g n) → to ≡ pick_rows d width (rows_of groups g n) from
+  pub picking_list : {n i k : ℕ} {to₀ to : List X} → Picking d width groups g n i k from to₀ to → n ≤ i → length to₀ ≡ width * length (rows_of groups g n) → to ≡ pick_rows d width (rows_of groups g n) from
   picking_list {n} {to₀ = to₀} {to} h l e = picked_are d width (rows_of groups g n) from to₀ to e (picking_end h l)
 
-  pub scattering_put : {n i k : ℕ} {to₀ to : List X} → Scattering d width groups g n i k from to₀ to → n ≤ i
-      → length from ≡ width * length (rows_of groups g n) → Put d width groups g n from to₀ to
+  pub scattering_put : {n i k : ℕ} {to₀ to : List X} → Scattering d width groups g n i k from to₀ to → n ≤ i → length from ≡ width * length (rows_of groups g n) → Put d width groups g n from to₀ to
   scattering_put {n} {to₀ = to₀} {to} h l e = put_all d width groups g n from to₀ to e (scattering_end h l)
 
 -- ---- room for one row more
-pub room_pick : {X : Type 0} {d : X} {width : ℕ} {groups : List ℕ} {g n i k : ℕ} {from to₀ to : List X}
-    → Picking d width groups g n i k from to₀ to → i < n → length to₀ ≡ width * length (rows_of groups g n)
-    → RoomFor groups g i width k (length to)
-room_pick {width = width} {groups} {g} {n} {i} {k} h l e =
-    record {
-      one = λ q. omega
-          (arith, row_before width k (length (rows_of groups g n)) (omega (arith, h.count, rows_few groups g i n q l)), h.picked.long);
-    }
+pub room_pick : {X : Type 0} {d : X} {width : ℕ} {groups : List ℕ} {g n i k : ℕ} {from to₀ to : List X} → Picking d width groups g n i k from to₀ to → i < n → length to₀ ≡ width * length (rows_of groups g n) → RoomFor groups g i width k (length to)
+room_pick {width = width} {groups} {g} {n} {i} {k} h l e = record { one = λ q. omega (arith, row_before width k (length (rows_of groups g n)) (omega (arith, h.count, rows_few groups g i n q l)), h.picked.long) }
 
-pub room_put : {X : Type 0} {d : X} {width : ℕ} {groups : List ℕ} {g n i k : ℕ} {from to₀ to : List X}
-    → Scattering d width groups g n i k from to₀ to → i < n → length from ≡ width * length (rows_of groups g n)
-    → RoomFor groups g i width k (length from)
+pub room_put : {X : Type 0} {d : X} {width : ℕ} {groups : List ℕ} {g n i k : ℕ} {from to₀ to : List X} → Scattering d width groups g n i k from to₀ to → i < n → length from ≡ width * length (rows_of groups g n) → RoomFor groups g i width k (length from)
 room_put {width = width} {groups} {g} {n} {i} {k} h l e = record { one = λ q. omega (arith, row_before width k (length (rows_of groups g n)) (omega (arith, h.count, rows_few groups g i n q l))) }
 
 pub room_one : {groups : List ℕ} {g i width k room : ℕ} → RoomFor groups g i width k room → get_or groups i 0 ≡ g → width * k + width ≤ room
@@ -244,15 +215,7 @@ module _ {groups : List ℕ} {g : ℕ} where
   counting_more {n} h l p = p.more n l h
 
   pub count_one : (i k : ℕ) → get_or groups i 0 ≡ g → RowCounted groups g i k (k + 1)
-  count_one i k e =
-      record {
-        more = λ n l h.
-            record {
-              within = omega arith;
-              few = omega (arith, h.few);
-              count = rw (rows_more groups g i e) (omega (arith, snoc_length (rows_of groups g i) i, h.count));
-            };
-      }
+  count_one i k e = record { more = λ n l h. record { within = omega arith; few = omega (arith, h.few); count = rw (rows_more groups g i e) (omega (arith, snoc_length (rows_of groups g i) i, h.count)) } }
 
   pub count_other : (i k : ℕ) → (get_or groups i 0 ≡ g → ⊥) → RowCounted groups g i k k
   count_other i k e = record { more = λ n l h. record { within = omega arith; few = omega (arith, h.few); count = h.count ∙ ap length (sym (rows_same groups g i e)) } }
@@ -269,8 +232,7 @@ module _ {X : Type 0} {d : X} {width : ℕ} {marks : List ℕ} {mark : ℕ} {fro
   pub marked_none : {n : ℕ} {to₀ : List X} → MarkedBelow d width marks mark n 0 from to₀ to₀
   marked_none = record { within = omega arith; marked = record { long = refl; at = λ b c l. absurd (omega arith); others = λ b c l e. refl } }
 
-  pub marked_more : {n i : ℕ} {to₀ to₁ to : List X} → MarkedBelow d width marks mark n i from to₀ to₁ → i < n
-      → RowMarked d width marks mark i from to₁ to → MarkedBelow d width marks mark n (i + 1) from to₀ to
+  pub marked_more : {n i : ℕ} {to₀ to₁ to : List X} → MarkedBelow d width marks mark n i from to₀ to₁ → i < n → RowMarked d width marks mark i from to₁ to → MarkedBelow d width marks mark n (i + 1) from to₀ to
   marked_more {to₀ = to₀} h l r = record { within = omega arith; marked = r.more to₀ h.marked }
 
   pub marked_end : {n i : ℕ} {to₀ to : List X} → MarkedBelow d width marks mark n i from to₀ to → n ≤ i → Marked d width marks mark n from to₀ to
@@ -279,30 +241,18 @@ module _ {X : Type 0} {d : X} {width : ℕ} {marks : List ℕ} {mark : ℕ} {fro
   pub mark_other : (i : ℕ) (to : List X) → (get_or marks i 0 ≡ mark → ⊥) → RowMarked d width marks mark i from to to
   mark_other i to e = record { long = refl; more = λ to₀ h. record { long = h.long; at = λ b c l m q. at to₀ h b c l m q (dec_lt b i); others = λ b c m q. h.others b c m (λ l. q (omega arith)) } }
     where
-      at : (to₀ : List X) → Marked d width marks mark i from to₀ to → (b c : ℕ) → b < i + 1 → c < width → get_or marks b 0 ≡ mark
-          → Dec (b < i) → get_or to (width * b + c) d ≡ get_or from (width * b + c) d
+      at : (to₀ : List X) → Marked d width marks mark i from to₀ to → (b c : ℕ) → b < i + 1 → c < width → get_or marks b 0 ≡ mark → Dec (b < i) → get_or to (width * b + c) d ≡ get_or from (width * b + c) d
       at to₀ h b c l m q (yes p) = h.at b c p m q
       at to₀ h b c l m q (no p) = let s : b ≡ i = omega arith in absurd (e (ap (λ x. get_or marks x 0) (sym s) ∙ q))
 
   pub mark_one : (i : ℕ) (to₁ to : List X) → get_or marks i 0 ≡ mark → BlockCopied d width (width * i) (width * i) from to₁ to → RowMarked d width marks mark i from to₁ to
-  mark_one i to₁ to e k =
-      record {
-        long = k.long;
-        more = λ to₀ h.
-            record {
-              long = k.long ∙ h.long;
-              at = λ b c l m q. at to₀ h b c l m q (dec_lt b i);
-              others = λ b c m q. others to₀ h b c m q (dec_lt b i) (ℕ_discrete b i);
-            };
-      }
+  mark_one i to₁ to e k = record { long = k.long; more = λ to₀ h. record { long = k.long ∙ h.long; at = λ b c l m q. at to₀ h b c l m q (dec_lt b i); others = λ b c m q. others to₀ h b c m q (dec_lt b i) (ℕ_discrete b i) } }
     where
-      at : (to₀ : List X) → Marked d width marks mark i from to₀ to₁ → (b c : ℕ) → b < i + 1 → c < width → get_or marks b 0 ≡ mark
-          → Dec (b < i) → get_or to (width * b + c) d ≡ get_or from (width * b + c) d
+      at : (to₀ : List X) → Marked d width marks mark i from to₀ to₁ → (b c : ℕ) → b < i + 1 → c < width → get_or marks b 0 ≡ mark → Dec (b < i) → get_or to (width * b + c) d ≡ get_or from (width * b + c) d
       at to₀ h b c l m q (yes p) = k.before (width * b + c) (omega (arith, row_before width b i p)) ∙ h.at b c p m q
       at to₀ h b c l m q (no p) = let s : b ≡ i = omega arith in rw s (k.here c m)
 
-      others : (to₀ : List X) → Marked d width marks mark i from to₀ to₁ → (b c : ℕ) → c < width → (b < i + 1 → get_or marks b 0 ≡ mark → ⊥)
-          → Dec (b < i) → Dec (b ≡ i) → get_or to (width * b + c) d ≡ get_or to₀ (width * b + c) d
+      others : (to₀ : List X) → Marked d width marks mark i from to₀ to₁ → (b c : ℕ) → c < width → (b < i + 1 → get_or marks b 0 ≡ mark → ⊥) → Dec (b < i) → Dec (b ≡ i) → get_or to (width * b + c) d ≡ get_or to₀ (width * b + c) d
       others to₀ h b c m q (yes p) s = k.before (width * b + c) (omega (arith, row_before width b i p)) ∙ h.others b c m (λ l. q (omega arith))
       others to₀ h b c m q (no p) (yes s) = absurd (q (omega arith) (ap (λ x. get_or marks x 0) s ∙ e))
       others to₀ h b c m q (no p) (no s) = k.behind (width * b + c) (omega (arith, row_before width i b (omega arith))) ∙ h.others b c m (λ l. absurd (omega arith))

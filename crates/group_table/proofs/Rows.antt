@@ -32,13 +32,7 @@ module _ (l : List ℕ) (x : ℕ) where
   snoc_new = get_or_at l x [] 0 (length l) refl
 
 in_order_more : (groups : List ℕ) (g n : ℕ) (rows : List ℕ) → InOrder groups g n rows → get_or groups n 0 ≡ g → InOrder groups g (n + 1) (rows ++ (n ∷ []))
-in_order_more groups g n rows h e =
-    record {
-      below = λ k l. below k (dec_lt k (length rows)) l;
-      group = λ k l. group k (dec_lt k (length rows)) l;
-      rising = λ k l p q. rising k l (dec_lt l (length rows)) p q;
-      all = all;
-    }
+in_order_more groups g n rows h e = record { below = λ k l. below k (dec_lt k (length rows)) l; group = λ k l. group k (dec_lt k (length rows)) l; rising = λ k l p q. rising k l (dec_lt l (length rows)) p q; all = all }
   where
     last : (k : ℕ) → k < length (rows ++ (n ∷ [])) → (k < length rows → ⊥) → get_or (rows ++ (n ∷ [])) k 0 ≡ n
     last k l m = let q : k ≡ length rows = omega (arith, snoc_length rows n) in ap (λ j. get_or (rows ++ (n ∷ [])) j 0) q ∙ snoc_new rows n
@@ -72,13 +66,7 @@ in_order_same groups g n rows h e = record { below = λ k l. omega (arith, h.bel
     all i l d (no q) = h.all i (omega arith) d
 
 pub in_order : (groups : List ℕ) (g n : ℕ) → InOrder groups g n (rows_of groups g n)
-in_order groups g zero = unfold rows_of in
-    record {
-      below = λ k l. absurd (omega arith);
-      group = λ k l. absurd (omega arith);
-      rising = λ k l p q. absurd (omega arith);
-      all = λ i l d. absurd (omega arith);
-    }
+in_order groups g zero = unfold rows_of in record { below = λ k l. absurd (omega arith); group = λ k l. absurd (omega arith); rising = λ k l p q. absurd (omega arith); all = λ i l d. absurd (omega arith) }
 in_order groups g (suc n) = rw (← add-one n) (go (ℕ_discrete (get_or groups n 0) g) (in_order groups g n))
   where
     go : Dec (get_or groups n 0 ≡ g) → InOrder groups g n (rows_of groups g n) → InOrder groups g (n + 1) (rows_of groups g (n + 1))

@@ -52,8 +52,7 @@ fn pick_word_row(
 
 // The rows of group `g` among the first `rows`, `width` words each. `to` has room for just them.
 pub fn pick_words(groups: &[u32], g: u32, rows: usize, width: usize, from: &[u32], to: &mut [u32])
-    requires { (rows ≤ length groups.now) × (width * rows ≤ length from.now)
-        × (length to.old ≡ width * length (rows_of groups.now g rows)) }
+    requires { (rows ≤ length groups.now) × (width * rows ≤ length from.now) × (length to.old ≡ width * length (rows_of groups.now g rows)) }
     ensures { to.new ≡ pick_rows 0 width (rows_of groups.now g rows) from.now }
 {
     let mut k = 0;
@@ -86,8 +85,7 @@ fn pick_number_row(
 
 // The same of doubles.
 pub fn pick_numbers(groups: &[u32], g: u32, rows: usize, width: usize, from: &[f64], to: &mut [f64])
-    requires { (rows ≤ length groups.now) × (width * rows ≤ length from.now)
-        × (length to.old ≡ width * length (rows_of groups.now g rows)) }
+    requires { (rows ≤ length groups.now) × (width * rows ≤ length from.now) × (length to.old ≡ width * length (rows_of groups.now g rows)) }
     ensures { to.new ≡ pick_rows nan width (rows_of groups.now g rows) from.now }
 {
     let mut k = 0;

@@ -28,8 +28,7 @@ fn put_word_row(
 
 // The rows of `from`, `width` words each, become the rows of group `g` in `to`. Its other rows stay.
 pub fn put_words(groups: &[u32], g: u32, rows: usize, width: usize, from: &[u32], to: &mut [u32])
-    requires { (rows ≤ length groups.now) × (length from.now ≡ width * length (rows_of groups.now g rows))
-        × (width * rows ≤ length to.old) }
+    requires { (rows ≤ length groups.now) × (length from.now ≡ width * length (rows_of groups.now g rows)) × (width * rows ≤ length to.old) }
     ensures { Put 0 width groups.now g rows from.now to.old to.new }
 {
     let mut k = 0;
@@ -62,8 +61,7 @@ fn put_number_row(
 
 // The same of doubles.
 pub fn put_numbers(groups: &[u32], g: u32, rows: usize, width: usize, from: &[f64], to: &mut [f64])
-    requires { (rows ≤ length groups.now) × (length from.now ≡ width * length (rows_of groups.now g rows))
-        × (width * rows ≤ length to.old) }
+    requires { (rows ≤ length groups.now) × (length from.now ≡ width * length (rows_of groups.now g rows)) × (width * rows ≤ length to.old) }
     ensures { Put nan width groups.now g rows from.now to.old to.new }
 {
     let mut k = 0;

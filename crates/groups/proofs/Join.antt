@@ -11,7 +11,7 @@ use lib.Dec.{eqb}
 use lib.ListN.{length, get_or}
 use lib.Ieee.{Float}
 use Rattle.kapitsa_joint.specs.Mass.{mass_of}
-use Rattle.groups.specs.Together.{massless, Links, joins_in, body_a, body_b, Has, LinksBelow, Together, itself, shared, through}
+use Rattle.groups.specs.Together.{massless, Links, joins_in, body_a, body_b, Has, Linked, Together, itself, shared, through}
 use Rattle.groups.specs.Steps.{Front, renamed, Labels, RowJoined, key_of}
 
 -- ---- one label for another
@@ -47,20 +47,18 @@ module _ {links : Links} {joining : ℕ → Bool} {rows bodies : ℕ} where
 
 module _ (links : Links) (joining : ℕ → Bool) (bodies i : ℕ) (labels : List ℕ) where
   -- where the two labels are one already, if both bodies join
-  kept : (joining (body_a links i) ≡ true → joining (body_b links i) ≡ true → get_or labels (body_a links i) 0 ≡ get_or labels (body_b links i) 0)
-      → RowJoined links joining bodies i labels labels
+  kept : (joining (body_a links i) ≡ true → joining (body_b links i) ≡ true → get_or labels (body_a links i) 0 ≡ get_or labels (body_b links i) 0) → RowJoined links joining bodies i labels labels
   kept e = record {
     long = refl;
     more = λ rows h linked f. record { low = f.low; met = below_more _ _ f.met e; sound = f.sound };
   }
 
-  module _ (from to : ℕ) (ea : get_or labels (body_a links i) 0 ≡ from) (eb : get_or labels (body_b links i) 0 ≡ to)
-      (ja : joining (body_a links i) ≡ true) (jb : joining (body_b links i) ≡ true) (labels' : List ℕ)
+  module _ (from to : ℕ) (ea : get_or labels (body_a links i) 0 ≡ from) (eb : get_or labels (body_b links i) 0 ≡ to) (ja : joining (body_a links i) ≡ true) (jb : joining (body_b links i) ≡ true) (labels' : List ℕ)
       (r : Front (λ b. renamed from to (get_or labels b 0)) bodies labels labels') where
     changed : RowJoined links joining bodies i labels labels'
     changed = record { long = r.long; more = more }
       where
-        more : (rows : ℕ) → i < rows → LinksBelow links rows bodies → Labels links joining rows bodies i labels → Labels links joining rows bodies (i + 1) labels'
+        more : (rows : ℕ) → i < rows → Linked links rows bodies → Labels links joining rows bodies i labels → Labels links joining rows bodies (i + 1) labels'
         more rows h linked f = record { low = low; met = below_more _ _ before now; sound = sound }
           where
             a : body_a links i < bodies
@@ -79,8 +77,7 @@ module _ (links : Links) (joining : ℕ → Bool) (bodies i : ℕ) (labels : Lis
             now p q =
                 r.done _ a ∙ ap (renamed from to) ea ∙ renamed_from from to ∙ ⊎_elim (λ c. sym c.1) (λ c. sym c) (renamed_case from to to) ∙ ap (renamed from to) (sym eb) ∙ sym (r.done _ b)
 
-            sound : (x y j k : ℕ) → x < bodies → y < bodies → joining x ≡ true → joining y ≡ true → get_or labels' x 0 ≡ get_or labels' y 0
-                → j < rows → k < rows → Has links j x → Has links k y → Together links joining rows j k
+            sound : (x y j k : ℕ) → x < bodies → y < bodies → joining x ≡ true → joining y ≡ true → get_or labels' x 0 ≡ get_or labels' y 0 → j < rows → k < rows → Has links j x → Has links k y → Together links joining rows j k
             sound x y j k hx hy jx jy e hj hk p q =
                 ⊎_elim
                 (λ c. ⊎_elim (λ d. one (c.0 ∙ sym d.0)) (λ d. left c.0 (omega (arith, c.1, d, both))) (renamed_case from to (get_or labels y 0)))
@@ -99,10 +96,10 @@ module _ (links : Links) (joining : ℕ → Bool) (bodies i : ℕ) (labels : Lis
                 right : get_or labels x 0 ≡ to → get_or labels y 0 ≡ from → Together links joining rows j k
                 right s t = through j i k (f.sound x _ j i hx b jx jb (s ∙ sym eb) hj h p (inr refl)) (f.sound _ y i k a hy ja jy (ea ∙ sym t) h hk (inl refl) q)
 
-pub linked_a : {links : Links} {rows bodies : ℕ} (i : ℕ) → LinksBelow links rows bodies → i < rows → body_a links i < bodies
+pub linked_a : {links : Links} {rows bodies : ℕ} (i : ℕ) → Linked links rows bodies → i < rows → body_a links i < bodies
 linked_a i t h = t.a i h
 
-pub linked_b : {links : Links} {rows bodies : ℕ} (i : ℕ) → LinksBelow links rows bodies → i < rows → body_b links i < bodies
+pub linked_b : {links : Links} {rows bodies : ℕ} (i : ℕ) → Linked links rows bodies → i < rows → body_b links i < bodies
 linked_b i t h = t.b i h
 
 -- ---- the ways through `join_row`; a and b are the two bodies as the code has them
@@ -117,8 +114,7 @@ module _ (links : Links) (masses : List Float) (bodies i : ℕ) (labels : List �
     pub join_one : get_or labels a 0 ≡ get_or labels b 0 → RowJoined links (joins_in masses) bodies i labels labels
     join_one e = kept links (joins_in masses) bodies i labels (λ p q. ap (λ x. get_or labels x 0) (sym ea) ∙ e ∙ ap (λ x. get_or labels x 0) eb)
 
-    pub join_two : (s t : Bool) → s ≡ massless (mass_of masses a) → s ≡ false → t ≡ massless (mass_of masses b) → t ≡ false
-        → (labels' : List ℕ) → Front (λ x. renamed (get_or labels a 0) (get_or labels b 0) (get_or labels x 0)) bodies labels labels'
+    pub join_two : (s t : Bool) → s ≡ massless (mass_of masses a) → s ≡ false → t ≡ massless (mass_of masses b) → t ≡ false → (labels' : List ℕ) → Front (λ x. renamed (get_or labels a 0) (get_or labels b 0) (get_or labels x 0)) bodies labels labels'
         → RowJoined links (joins_in masses) bodies i labels labels'
     join_two s t es ms et mt labels' r =
         changed links (joins_in masses) bodies i labels (get_or labels a 0) (get_or labels b 0) (ap (λ x. get_or labels x 0) (sym ea)) (ap (λ x. get_or labels x 0) (sym eb))
@@ -127,16 +123,15 @@ module _ (links : Links) (masses : List Float) (bodies i : ℕ) (labels : List �
 -- ---- the loop over the rows
 pub record Joining (links : Links) (joining : ℕ → Bool) (rows bodies i : ℕ) (labels₀ labels : List ℕ) : Type 0 where
   pub within : i ≤ rows
-  pub linked : LinksBelow links rows bodies
+  pub linked : Linked links rows bodies
   pub long : length labels ≡ length labels₀
   pub known : Labels links joining rows bodies i labels
 
 module _ {links : Links} {joining : ℕ → Bool} {rows bodies : ℕ} {l₀ : List ℕ} where
-  pub joining_none : {l : List ℕ} → LinksBelow links rows bodies → Front (λ b. b) bodies l₀ l → Joining links joining rows bodies 0 l₀ l
+  pub joining_none : {l : List ℕ} → Linked links rows bodies → Front (λ b. b) bodies l₀ l → Joining links joining rows bodies 0 l₀ l
   joining_none t f = record { within = omega arith; linked = t; long = f.long; known = labels_own f }
 
-  pub joining_more : {i : ℕ} {l l' : List ℕ} → Joining links joining rows bodies i l₀ l → i < rows → RowJoined links joining bodies i l l'
-      → Joining links joining rows bodies (i + 1) l₀ l'
+  pub joining_more : {i : ℕ} {l l' : List ℕ} → Joining links joining rows bodies i l₀ l → i < rows → RowJoined links joining bodies i l l' → Joining links joining rows bodies (i + 1) l₀ l'
   joining_more h b r = record { within = omega arith; linked = h.linked; long = r.long ∙ h.long; known = r.more rows b h.linked h.known }
 
   pub joining_end : {i : ℕ} {l : List ℕ} → Joining links joining rows bodies i l₀ l → rows ≤ i → Labels links joining rows bodies rows l
@@ -158,7 +153,7 @@ module _ (links : Links) (masses : List Float) (bodies i : ℕ) (labels : List �
     key_own m = rw (← ea, ← es, not-false s ms, ← eb, ← et, not-false t m)
 
 -- ---- keys
-module _ (links : Links) (joining : ℕ → Bool) (rows bodies : ℕ) (labels : List ℕ) (linked : LinksBelow links rows bodies) (f : Labels links joining rows bodies rows labels) where
+module _ (links : Links) (joining : ℕ → Bool) (rows bodies : ℕ) (labels : List ℕ) (linked : Linked links rows bodies) (f : Labels links joining rows bodies rows labels) where
   -- what the key of a row is
   data Keyed (i : ℕ) : Type 0 where
     labelled : (x : ℕ) → Has links i x → x < bodies → joining x ≡ true → key_of links joining bodies labels i ≡ get_or labels x 0 → Keyed i

@@ -1,7 +1,7 @@
 -- The group of each body: what the rows that have told it leave, and that each body has at most one. Assumes nothing.
 use Prim.Native.Nat.{ℕ, ◌+◌, ◌<◌, ◌≤◌}
 use mathlib.Core.Path.{◌≡◌, refl, sym, ap, ◌∙◌}
-use mathlib.Core.Bool.{Bool, true, false, cond}
+use mathlib.Core.Bool.{Bool, true, false, not, cond}
 use mathlib.Core.List.{List}
 use mathlib.Core.Logic.{◌⊎◌, inl, inr, ⊎_elim}
 use native.Mathlib.Omega.{arith}
@@ -10,7 +10,7 @@ use lib.ListN.{length, get_or, set, length-set}
 use lib.Seq.{get_or-set_same, get_or-set_other}
 use lib.Ieee.{Float}
 use Rattle.kapitsa_joint.specs.Mass.{mass_of}
-use Rattle.groups.specs.Together.{massless, Links, joins_in, body_a, body_b, Has, LinksBelow, Grouped}
+use Rattle.groups.specs.Together.{massless, Links, joins_in, body_a, body_b, Has, Linked, Grouped}
 use Rattle.groups.specs.Steps.{Marks, marked_by, RowMarked, Zeros}
 use Rattle.groups.proofs.Least.{body_group}
 
@@ -64,8 +64,7 @@ module _ (links : Links) (joining : ℕ → Bool) (i : ℕ) (groups marks₀ : L
   pub row_marked : RowMarked links joining i groups marks₀ twice
   row_marked = record { long = marked_long joining (body_b links i) mark once ∙ marked_long joining (body_a links i) mark marks₀; more = more }
     where
-      more : (rows count bodies : ℕ) → i < rows → bodies ≤ length marks₀ → LinksBelow links rows bodies
-          → Grouped links joining rows groups count → Marks links joining i groups marks₀ → Marks links joining (i + 1) groups twice
+      more : (rows count bodies : ℕ) → i < rows → bodies ≤ length marks₀ → Linked links rows bodies → Grouped links joining rows groups count → Marks links joining i groups marks₀ → Marks links joining (i + 1) groups twice
       more rows count bodies l room linked grouped h = record { some = some; none = none }
         where
           -- a body that is not of the row keeps its mark
@@ -115,36 +114,25 @@ module _ (links : Links) (joining : ℕ → Bool) (i : ℕ) (groups marks₀ : L
               go false e = still e (body_b links i) once ∙ still e (body_a links i) marks₀ ∙ before
 
 -- `mark_row`, whose two calls answer so
-pub marked_row : (links : Links) (joining : ℕ → Bool) (i : ℕ) (groups marks₀ marks₁ marks₂ : List ℕ) (a b mark : ℕ) → a ≡ body_a links i
-    → b ≡ body_b links i → mark ≡ get_or groups i 0 + 1 → marks₁ ≡ marked_by joining a mark marks₀ → marks₂ ≡ marked_by joining b mark marks₁
+pub marked_row : (links : Links) (joining : ℕ → Bool) (i : ℕ) (groups marks₀ marks₁ marks₂ : List ℕ) (a b mark : ℕ) → a ≡ body_a links i → b ≡ body_b links i → mark ≡ get_or groups i 0 + 1 → marks₁ ≡ marked_by joining a mark marks₀ → marks₂ ≡ marked_by joining b mark marks₁
     → RowMarked links joining i groups marks₀ marks₂
 marked_row links joining i groups marks₀ marks₁ marks₂ a b mark ea eb em e d = rw (d, e, ea, eb, em) (row_marked links joining i groups marks₀)
 
 -- ---- the loop over the rows
 pub record Telling (links : Links) (joining : ℕ → Bool) (rows bodies count : ℕ) (groups : List ℕ) (i : ℕ) (marks₀ marks : List ℕ) : Type 0 where
   pub within : i ≤ rows
-  pub linked : LinksBelow links rows bodies
+  pub linked : Linked links rows bodies
   pub grouped : Grouped links joining rows groups count
   pub room : bodies ≤ length marks₀
   pub long : length marks ≡ length marks₀
   pub told : Marks links joining i groups marks
 
 module _ {links : Links} {joining : ℕ → Bool} {rows bodies count : ℕ} {groups marks₀ : List ℕ} where
-  pub telling_none : LinksBelow links rows bodies → Grouped links joining rows groups count → bodies ≤ length marks₀ → Zeros marks₀
-      → Telling links joining rows bodies count groups 0 marks₀ marks₀
+  pub telling_none : Linked links rows bodies → Grouped links joining rows groups count → bodies ≤ length marks₀ → Zeros marks₀ → Telling links joining rows bodies count groups 0 marks₀ marks₀
   telling_none t g r z = record { within = omega arith; linked = t; grouped = g; room = r; long = refl; told = record { some = λ i b l. absurd (omega arith); none = λ b n. z.at b } }
 
-  pub telling_more : {i : ℕ} {m m' : List ℕ} → Telling links joining rows bodies count groups i marks₀ m → i < rows
-      → RowMarked links joining i groups m m' → Telling links joining rows bodies count groups (i + 1) marks₀ m'
-  telling_more h l r =
-      record {
-        within = omega arith;
-        linked = h.linked;
-        grouped = h.grouped;
-        room = h.room;
-        long = r.long ∙ h.long;
-        told = r.more rows count bodies l (omega (arith, h.long, h.room)) h.linked h.grouped h.told;
-      }
+  pub telling_more : {i : ℕ} {m m' : List ℕ} → Telling links joining rows bodies count groups i marks₀ m → i < rows → RowMarked links joining i groups m m' → Telling links joining rows bodies count groups (i + 1) marks₀ m'
+  telling_more h l r = record { within = omega arith; linked = h.linked; grouped = h.grouped; room = h.room; long = r.long ∙ h.long; told = r.more rows count bodies l (omega (arith, h.long, h.room)) h.linked h.grouped h.told }
 
   pub telling_end : {i : ℕ} {m : List ℕ} → Telling links joining rows bodies count groups i marks₀ m → rows ≤ i → Marks links joining rows groups m
   telling_end {i} {m} h l = let e : i ≡ rows = omega (arith, h.within) in rw e at h.told

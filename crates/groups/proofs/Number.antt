@@ -9,7 +9,7 @@ use native.Mathlib.Decide.{ℕ_discrete, dec_lt}
 use borrow.Author.Count.{below_more}
 use lib.ListN.{length, get_or, set, length-set, replicate, get_or-replicate, length-replicate, get_or-eq_default}
 use lib.Seq.{get_or-set_same, get_or-set_other}
-use Rattle.groups.specs.Together.{Links, LinksBelow, First, Grouped}
+use Rattle.groups.specs.Together.{Links, Linked, First, Grouped}
 use Rattle.groups.specs.Steps.{Part, RowNumbered, Numbered, Front, key_of, Labels, KeysBelow, Zeros, Zeroed, Unchanged}
 use Rattle.groups.proofs.Join.{keys_iff, keys_low}
 
@@ -24,8 +24,7 @@ part_none keys table z = record {
 }
 
 -- the firsts of the numbers in use stay, where row i is written
-firsts_stay : (i v : ℕ) (groups : List ℕ) (g r : ℕ) → r < i → get_or groups r 0 ≡ g → ((j : ℕ) → j < r → get_or groups j 0 < g)
-    → (r : ℕ) × (r < i + 1) × (get_or (set groups i v) r 0 ≡ g) × ((j : ℕ) → j < r → get_or (set groups i v) j 0 < g)
+firsts_stay : (i v : ℕ) (groups : List ℕ) (g r : ℕ) → r < i → get_or groups r 0 ≡ g → ((j : ℕ) → j < r → get_or groups j 0 < g) → (r : ℕ) × (r < i + 1) × (get_or (set groups i v) r 0 ≡ g) × ((j : ℕ) → j < r → get_or (set groups i v) j 0 < g)
 firsts_stay i v groups g r l e m = (r, omega arith, get_or-set_other groups i r v 0 (ne_of_lt l) ∙ e, λ j h. omega (arith, get_or-set_other groups i j v 0 (λ q. omega arith), m j h))
 
 module _ (i : ℕ) (groups table : List ℕ) (count at : ℕ) (ea : at ≡ get_or groups i 0) (hi : i < length groups) (ha : get_or groups i 0 < length table) where
@@ -75,8 +74,7 @@ module _ (i : ℕ) (groups table : List ℕ) (count at : ℕ) (ea : at ≡ get_o
           here : get_or (set table at (count + 1)) (get_or keys i 0) 0 ≡ get_or (set groups i count) i 0 + 1
           here = ap (λ x. get_or (set table at (count + 1)) x 0) (sym key) ∙ omega (arith, there, get_or-set_same groups i count 0 hi)
 
-          apart : (x y : ℕ) → Dec (x ≡ at) → Dec (y ≡ at) → 0 < get_or (set table at (count + 1)) x 0
-              → get_or (set table at (count + 1)) x 0 ≡ get_or (set table at (count + 1)) y 0 → x ≡ y
+          apart : (x y : ℕ) → Dec (x ≡ at) → Dec (y ≡ at) → 0 < get_or (set table at (count + 1)) x 0 → get_or (set table at (count + 1)) x 0 ≡ get_or (set table at (count + 1)) y 0 → x ≡ y
           apart x y (yes p) (yes q) h e = p ∙ sym q
           apart x y (yes p) (no q) h e = absurd (omega (arith, ap (λ x. get_or (set table at (count + 1)) x 0) p, there, else y q, f.top y))
           apart x y (no p) (yes q) h e = absurd (omega (arith, ap (λ x. get_or (set table at (count + 1)) x 0) q, there, else x p, f.top x))
@@ -99,13 +97,11 @@ pub record Numbering (keys table₀ : List ℕ) (n i : ℕ) (groups table : List
 pub numbering_none : (keys table : List ℕ) (n : ℕ) → Zeros table → Numbering keys table n 0 keys table 0
 numbering_none keys table n z = record { within = omega arith; long_groups = refl; long_table = refl; part = part_none keys table z.at }
 
-pub numbering_more : {keys table₀ : List ℕ} {n i : ℕ} {groups table groups' table' : List ℕ} {count count' : ℕ}
-    → Numbering keys table₀ n i groups table count → i < n → RowNumbered i groups table count groups' table' count'
+pub numbering_more : {keys table₀ : List ℕ} {n i : ℕ} {groups table groups' table' : List ℕ} {count count' : ℕ} → Numbering keys table₀ n i groups table count → i < n → RowNumbered i groups table count groups' table' count'
     → Numbering keys table₀ n (i + 1) groups' table' count'
 numbering_more {keys} h l r = record { within = omega arith; long_groups = r.long_groups ∙ h.long_groups; long_table = r.long_table ∙ h.long_table; part = r.more keys h.part }
 
-pub numbering_key : {keys table₀ : List ℕ} {n i : ℕ} {groups table : List ℕ} {count : ℕ} → Numbering keys table₀ n i groups table count
-    → i < n → KeysBelow keys n (length table₀) → get_or groups i 0 < length table
+pub numbering_key : {keys table₀ : List ℕ} {n i : ℕ} {groups table : List ℕ} {count : ℕ} → Numbering keys table₀ n i groups table count → i < n → KeysBelow keys n (length table₀) → get_or groups i 0 < length table
 numbering_key {i = i} h l k = omega (arith, h.part.rest i (omega arith), k.at i l, h.long_table)
 
 module _ (keys table₀ : List ℕ) (n : ℕ) (groups table : List ℕ) (count : ℕ) (h : Numbering keys table₀ n n groups table count) where
@@ -129,12 +125,7 @@ module _ (keys table₀ : List ℕ) (n : ℕ) (groups table : List ℕ) (count :
     few = h.part.few;
     long = h.long_groups;
     rest = h.part.rest;
-    same = λ i j hi hj. (
-      λ e.
-          h.part.apart (get_or keys i 0) (get_or keys j 0) (omega (arith, h.part.seen i hi))
-          (omega (arith, h.part.seen i hi, h.part.seen j hj)),
-      λ e. omega (arith, ap (λ x. get_or table x 0) e, h.part.seen i hi, h.part.seen j hj),
-    );
+    same = λ i j hi hj. (λ e. h.part.apart (get_or keys i 0) (get_or keys j 0) (omega (arith, h.part.seen i hi)) (omega (arith, h.part.seen i hi, h.part.seen j hj)), λ e. omega (arith, ap (λ x. get_or table x 0) e, h.part.seen i hi, h.part.seen j hj));
     below = numbered_below;
     first = numbered_first;
     ordered = numbered_ordered;
@@ -158,7 +149,7 @@ module _ {l₀ l : List ℕ} (z : Zeroed l₀ l) where
   pub zeroed_all : (k : List ℕ) → length l₀ ≡ length k → l ≡ replicate (length k) 0
   zeroed_all k e = z.all ∙ ap (λ n. replicate n 0) e
 
-module _ (links : Links) (joining : ℕ → Bool) (rows bodies : ℕ) (linked : LinksBelow links rows bodies) (labels : List ℕ) (f : Labels links joining rows bodies rows labels) (groups₀ keys : List ℕ)
+module _ (links : Links) (joining : ℕ → Bool) (rows bodies : ℕ) (linked : Linked links rows bodies) (labels : List ℕ) (f : Labels links joining rows bodies rows labels) (groups₀ keys : List ℕ)
     (k : Front (key_of links joining bodies labels) rows groups₀ keys) where
   pub group_keys : (m : ℕ) → bodies + rows ≤ m → KeysBelow keys rows m
   group_keys m l = record { at = λ i h. omega (arith, k.done i h, keys_low links joining rows bodies labels linked f i h) }

@@ -12,8 +12,7 @@ use Rattle.groups.specs.Together.{Links, First, Grouped}
 module _ (links : Links) (joining : ℕ → Bool) (rows : ℕ) (u v : List ℕ) (m n : ℕ) (p : Grouped links joining rows u m) (q : Grouped links joining rows v n) where
   -- a row's number, where those before it agree
   one : (i : ℕ) → i < rows → ((j : ℕ) → j < i → get_or u j 0 ≡ get_or v j 0) → get_or u i 0 ≡ get_or v i 0
-  one i h before = let (f, r) = p.first (get_or u i 0) (p.below i h) in let (e, s) = q.first (get_or v i 0) (q.below i h) in go f r e s
-      (dec_lt f i) (dec_lt (get_or u i 0) (get_or v i 0)) (dec_lt (get_or v i 0) (get_or u i 0))
+  one i h before = let (f, r) = p.first (get_or u i 0) (p.below i h) in let (e, s) = q.first (get_or v i 0) (q.below i h) in go f r e s (dec_lt f i) (dec_lt (get_or u i 0) (get_or v i 0)) (dec_lt (get_or v i 0) (get_or u i 0))
     where
       -- where v has the higher number there, a row before i has u's number
       lower : (f : ℕ) → First u rows (get_or u i 0) f → (f < i → ⊥) → (e : ℕ) → First v rows (get_or v i 0) e → get_or u i 0 < get_or v i 0 → ⊥
@@ -42,8 +41,7 @@ module _ (links : Links) (joining : ℕ → Bool) (rows : ℕ) (u v : List ℕ) 
               let k : get_or u j 0 ≡ get_or u i 0 = (p.together j i t.within h).1 ((q.together j i t.within h).0 d) in
               omega (arith, k, t.here)
 
-      go : (f : ℕ) → First u rows (get_or u i 0) f → (e : ℕ) → First v rows (get_or v i 0) e → Dec (f < i) → Dec (get_or u i 0 < get_or v i 0)
-          → Dec (get_or v i 0 < get_or u i 0) → get_or u i 0 ≡ get_or v i 0
+      go : (f : ℕ) → First u rows (get_or u i 0) f → (e : ℕ) → First v rows (get_or v i 0) e → Dec (f < i) → Dec (get_or u i 0 < get_or v i 0) → Dec (get_or v i 0 < get_or u i 0) → get_or u i 0 ≡ get_or v i 0
       go f r e s (yes a) b c = sym r.here ∙ before f a ∙ (q.together f i r.within h).1 ((p.together f i r.within h).0 r.here)
       go f r e s (no a) (yes b) c = absurd (lower f r a e s b)
       go f r e s (no a) (no b) (yes c) = absurd (higher f r a c)

@@ -1,7 +1,7 @@
 -- What the functions of src/group.rt hand to one another.
 use Rattle.std.specs.Prelude.{ℕ, ◌+◌, ◌<◌, ◌≤◌, ◌≡◌, Bool, true, cond, List, ◌↔◌, eqb, length, get_or, set}
 use Rattle.loops.specs.Cleared.{cleared_words}
-use Rattle.groups.specs.Together.{Links, body_a, body_b, Has, LinksBelow, Together, First, Grouped}
+use Rattle.groups.specs.Together.{Links, body_a, body_b, Has, Linked, Together, First, Grouped}
 
 -- the first n of `l` are g 0 .. g (n - 1), and the others as they were in l₀
 pub record Front (g : ℕ → ℕ) (n : ℕ) (l₀ l : List ℕ) : Type 0 where
@@ -22,7 +22,7 @@ pub record Labels (links : Links) (joining : ℕ → Bool) (rows bodies k : ℕ)
 -- one row joins its bodies
 pub record RowJoined (links : Links) (joining : ℕ → Bool) (bodies i : ℕ) (labels₀ labels : List ℕ) : Type 0 where
   pub long : length labels ≡ length labels₀
-  pub more : (rows : ℕ) → i < rows → LinksBelow links rows bodies → Labels links joining rows bodies i labels₀ → Labels links joining rows bodies (i + 1) labels
+  pub more : (rows : ℕ) → i < rows → Linked links rows bodies → Labels links joining rows bodies i labels₀ → Labels links joining rows bodies (i + 1) labels
 
 -- a row's key: the label of a joining body, or a number of its own
 unfoldable pub key_of : Links → (ℕ → Bool) → ℕ → List ℕ → ℕ → ℕ
@@ -82,4 +82,4 @@ marked_by joining b mark marks = cond (joining b) (set marks b mark) marks
 -- both bodies of row i get theirs
 pub record RowMarked (links : Links) (joining : ℕ → Bool) (i : ℕ) (groups marks₀ marks : List ℕ) : Type 0 where
   pub long : length marks ≡ length marks₀
-  pub more : (rows count bodies : ℕ) → i < rows → bodies ≤ length marks₀ → LinksBelow links rows bodies → Grouped links joining rows groups count → Marks links joining i groups marks₀ → Marks links joining (i + 1) groups marks
+  pub more : (rows count bodies : ℕ) → i < rows → bodies ≤ length marks₀ → Linked links rows bodies → Grouped links joining rows groups count → Marks links joining i groups marks₀ → Marks links joining (i + 1) groups marks

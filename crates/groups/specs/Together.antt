@@ -41,7 +41,7 @@ abbrev pub Has : Links → ℕ → ℕ → Type 0
 Has links i b = (body_a links i ≡ b) ⊎ (body_b links i ≡ b)
 
 -- the body numbers of the first `rows` rows are below the body count
-pub record LinksBelow (links : Links) (rows bodies : ℕ) : Type 0 where
+pub record Linked (links : Links) (rows bodies : ℕ) : Type 0 where
   pub a : (i : ℕ) → i < rows → body_a links i < bodies
   pub b : (i : ℕ) → i < rows → body_b links i < bodies
 

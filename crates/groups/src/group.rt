@@ -1,7 +1,7 @@
 // A group number for each row: labels of bodies, joined row by row; then a key for each row; then numbers by lowest row.
 ghost use Rattle.std.specs.Prelude.{◌≡◌, ◌+◌, ◌*◌, ◌<◌, ◌≤◌, length, get_or};
 ghost use Rattle.loops.specs.Cleared.{cleared_words};
-ghost use Rattle.groups.specs.Together.{links_in, joins_in, body_a, body_b, LinksBelow, Grouped};
+ghost use Rattle.groups.specs.Together.{links_in, joins_in, body_a, body_b, Linked, Grouped};
 ghost use Rattle.groups.specs.Steps.{renamed, Front, Labels, RowJoined, key_of, RowNumbered, Numbered, KeysBelow, Zeros, Zeroed, Unchanged};
 
 use crate::mass::is_massless;
@@ -32,8 +32,7 @@ fn relabel(labels: &mut [u32], bodies: usize, from: u32, to: u32)
 fn join_row(words: &[u32], masses: &[f64], bodies: usize, labels: &mut [u32], i: usize)
     requires i_in_bounds { (8 * i + 8 ≤ length words.now) × (10 * bodies ≤ length masses.now) × (bodies ≤ length labels.old) }
     requires i_bound { (body_a (links_in words.now) i < bodies) × (body_b (links_in words.now) i < bodies) }
-    ensures { RowJoined (links_in words.now) (joins_in masses.now) bodies i
-        labels.old labels.new }
+    ensures { RowJoined (links_in words.now) (joins_in masses.now) bodies i labels.old labels.new }
 {
     let at = 8 * i;
     let a = wide(words[at + 2]);
@@ -54,9 +53,8 @@ fn join_row(words: &[u32], masses: &[f64], bodies: usize, labels: &mut [u32], i:
 
 // After all rows have joined their bodies, joining bodies of rows that belong together, and no others, have one label.
 fn join_rows(words: &[u32], masses: &[f64], rows: usize, bodies: usize, labels: &mut [u32])
-    requires rows_in_bounds { (8 * rows ≤ length words.now) × (10 * bodies ≤ length masses.now) × (bodies ≤ length labels.old)
-        × (bodies ≤ 4294967296) }
-    requires links_below { LinksBelow (links_in words.now) rows bodies }
+    requires rows_in_bounds { (8 * rows ≤ length words.now) × (10 * bodies ≤ length masses.now) × (bodies ≤ length labels.old) × (bodies ≤ 4294967296) }
+    requires linked { Linked (links_in words.now) rows bodies }
     ensures labels_len_unchanged { length labels.new ≡ length labels.old }
     ensures labels { Labels (links_in words.now) (joins_in masses.now) rows bodies rows labels.new }
 {
@@ -81,8 +79,7 @@ fn own_labels(labels: &mut [u32], bodies: usize)
 }
 
 fn key(words: &[u32], masses: &[f64], bodies: usize, labels: &[u32], i: usize) -> u32
-    requires i_in_bounds { (8 * i + 8 ≤ length words.now) × (10 * bodies ≤ length masses.now) × (bodies ≤ length labels.now)
-        × (bodies + i < 4294967296) }
+    requires i_in_bounds { (8 * i + 8 ≤ length words.now) × (10 * bodies ≤ length masses.now) × (bodies ≤ length labels.now) × (bodies + i < 4294967296) }
     requires i_bound { (body_a (links_in words.now) i < bodies) × (body_b (links_in words.now) i < bodies) }
     ensures { result ≡ key_of (links_in words.now) (joins_in masses.now) bodies labels.now i }
 {
@@ -106,12 +103,9 @@ fn key_rows(
     labels: &[u32],
     keys: &mut [u32],
 )
-    requires rows_in_bounds { (8 * rows ≤ length words.now) × (10 * bodies ≤ length masses.now) × (bodies ≤ length labels.now)
-        × (bodies + rows ≤ 4294967296) × (rows ≤ length keys.old) }
-    requires links_below { LinksBelow (links_in words.now) rows bodies }
-    ensures { Front
-        (key_of (links_in words.now) (joins_in masses.now) bodies labels.now) rows
-        keys.old keys.new }
+    requires rows_in_bounds { (8 * rows ≤ length words.now) × (10 * bodies ≤ length masses.now) × (bodies ≤ length labels.now) × (bodies + rows ≤ 4294967296) × (rows ≤ length keys.old) }
+    requires linked { Linked (links_in words.now) rows bodies }
+    ensures { Front (key_of (links_in words.now) (joins_in masses.now) bodies labels.now) rows keys.old keys.new }
 {
     let mut i = 0;
     while i < rows {
@@ -171,7 +165,7 @@ pub fn group_rows(
 ) -> u32
     requires rows_in_bounds { (8 * rows ≤ length words.now) × (10 * bodies ≤ length masses.now) × (rows ≤ length groups.old) }
     requires rows_in_bounds_2 { (bodies + rows ≤ length work.old) × (bodies + rows < 4294967296) }
-    requires links_below { LinksBelow (links_in words.now) rows bodies }
+    requires linked { Linked (links_in words.now) rows bodies }
     ensures grouped { Grouped (links_in words.now) (joins_in masses.now) rows groups.new result }
     ensures upper_bound { result ≤ rows }
     ensures unchanged { Unchanged rows groups.old groups.new }

@@ -1,6 +1,6 @@
 // The group of each body, as a word: the group's number and one, or 0 where the body has no mass or is in no row.
 ghost use Rattle.std.specs.Prelude.{◌≡◌, ◌+◌, ◌*◌, ◌<◌, ◌≤◌, length, get_or};
-ghost use Rattle.groups.specs.Together.{links_in, joins_in, body_a, body_b, LinksBelow, Grouped};
+ghost use Rattle.groups.specs.Together.{links_in, joins_in, body_a, body_b, Linked, Grouped};
 ghost use Rattle.groups.specs.Steps.{Marks, marked_by, RowMarked, Zeros};
 
 use crate::mass::is_massless;
@@ -25,12 +25,9 @@ fn mark_row(
     marks: &mut [u32],
     i: usize,
 )
-    requires i_in_bounds { (8 * i + 8 ≤ length words.now) × (10 * bodies ≤ length masses.now) × (i < length groups.now)
-        × (bodies ≤ length marks.old) }
-    requires i_bound { (body_a (links_in words.now) i < bodies) × (body_b (links_in words.now) i < bodies)
-        × (get_or groups.now i 0 + 1 < 4294967296) }
-    ensures { RowMarked (links_in words.now) (joins_in masses.now) i groups.now
-        marks.old marks.new }
+    requires i_in_bounds { (8 * i + 8 ≤ length words.now) × (10 * bodies ≤ length masses.now) × (i < length groups.now) × (bodies ≤ length marks.old) }
+    requires i_bound { (body_a (links_in words.now) i < bodies) × (body_b (links_in words.now) i < bodies) × (get_or groups.now i 0 + 1 < 4294967296) }
+    ensures { RowMarked (links_in words.now) (joins_in masses.now) i groups.now marks.old marks.new }
 {
     let at = 8 * i;
     let mark = groups[i] + 1;
@@ -48,9 +45,8 @@ pub fn mark_bodies(
     groups: &[u32],
     marks: &mut [u32],
 )
-    requires rows_in_bounds { (8 * rows ≤ length words.now) × (10 * bodies ≤ length masses.now) × (rows ≤ length groups.now)
-        × (bodies ≤ length marks.old) × (count + 1 < 4294967296) }
-    requires links_below { LinksBelow (links_in words.now) rows bodies }
+    requires rows_in_bounds { (8 * rows ≤ length words.now) × (10 * bodies ≤ length masses.now) × (rows ≤ length groups.now) × (bodies ≤ length marks.old) × (count + 1 < 4294967296) }
+    requires linked { Linked (links_in words.now) rows bodies }
     requires grouped { Grouped (links_in words.now) (joins_in masses.now) rows groups.now count }
     requires zeros { Zeros marks.old }
     ensures marks_len_unchanged { length marks.new ≡ length marks.old }

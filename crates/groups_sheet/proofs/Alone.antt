@@ -1,7 +1,7 @@
 -- The rows of one group as a job of their own: the memory for it, and its text. Assumes nothing.
-use Prim.Native.Nat.{ℕ, ◌≤◌}
-use mathlib.Core.Path.{◌≡◌}
-use mathlib.Core.List.{List}
+use Prim.Native.Nat.{ℕ, ◌+◌, ◌*◌, ◌<◌, ◌≤◌}
+use mathlib.Core.Path.{◌≡◌, refl, sym, ap, ◌∙◌}
+use mathlib.Core.List.{List, ◌++◌}
 use native.Mathlib.Omega.{arith}
 use lib.ListN.{length}
 use lib.Ieee.{Float, nan}
@@ -23,14 +23,12 @@ pub bench_after : {t : Trailer} {numbers words masses centres groups numbers' wo
 bench_after r a b c d e = rw (a, b, c, d, e) r
 
 -- a group has at most as many rows as a file
-pub count_few : {t : Trailer} {numbers words masses centres groups : ℕ} → BenchRoom t numbers words masses centres groups
-    → (l : List ℕ) (g : ℕ) {count : ℕ} → count ≡ length (rows_of l g t.rows) → count ≤ 128
+pub count_few : {t : Trailer} {numbers words masses centres groups : ℕ} → BenchRoom t numbers words masses centres groups → (l : List ℕ) (g : ℕ) {count : ℕ} → count ≡ length (rows_of l g t.rows) → count ≤ 128
 count_few {t} r l g e = let n = r.few_rows in let k = rows_few l g t.rows in omega arith
 
 -- the group's rows have what a job of so many rows needs
 pub own_room : {t own : Trailer} {count numbers words masses centres groups ownNumbers own_words solution impulses newCentres ownNumbers' ownWords' : ℕ}
-    → BenchRoom t numbers words masses centres groups → OwnRoom count t.bodies ownNumbers own_words solution impulses newCentres → count ≤
-    t.rows → own ≡ with_rows t count → ownNumbers' ≡ ownNumbers → ownWords' ≡ own_words
+    → BenchRoom t numbers words masses centres groups → OwnRoom count t.bodies ownNumbers own_words solution impulses newCentres → count ≤ t.rows → own ≡ with_rows t count → ownNumbers' ≡ ownNumbers → ownWords' ≡ own_words
     → JobRoom own ownNumbers' ownWords' masses centres solution impulses newCentres
 own_room {t} {own} {count} r o few e f g =
     let rows = r.few_rows in
@@ -53,8 +51,6 @@ module _ (t : Trailer) (numbers : List Float) (words : List ℕ) (masses centres
   alone = rw (f, e, p, q)
 
   -- the line, and behind it the sheet
-  pub group_wrote : {out out₁ out₂ : List ℕ} {at end : ℕ} → Wrote out 0 (group_line g rows) out₁ at
-      → Wrote out₁ at (job_sheet sheets.Job (job_with own ownNumbers own_words masses centres)) out₂ end
-      → Wrote out 0 (group_text (job_with t numbers words masses centres) g rows) out₂ end
+  pub group_wrote : {out out₁ out₂ : List ℕ} {at end : ℕ} → Wrote out 0 (group_line g rows) out₁ at → Wrote out₁ at (job_sheet sheets.Job (job_with own ownNumbers own_words masses centres)) out₂ end → Wrote out 0 (group_text (job_with t numbers words masses centres) g rows) out₂ end
   unfolding group_text
   group_wrote w v = wrote_join w (wrote_as alone v)

@@ -38,8 +38,7 @@ job_in (ended number) other = other
 
 file_four : (file : List ℕ) (j : Job) → job_of file ≡ going j → passes4 (job_table j) ≡ true
 unfolding job_of on AllPass
-file_four file j = go (job_with (trailer_of file) (file_numbers file) (file_words file) (file_masses file) (file_centres file))
-    (judge (tests file)) (λ e. sym (four_same file) ∙ ((judge_going (tests file)).0 e).1.1.1.0)
+file_four file j = go (job_with (trailer_of file) (file_numbers file) (file_words file) (file_masses file) (file_centres file)) (judge (tests file)) (λ e. sym (four_same file) ∙ ((judge_going (tests file)).0 e).1.1.1.0)
   where
     go : (read : Job) (r : Run Unit ℕ) → (r ≡ going tt → passes4 (job_table read) ≡ true) → on r (λ _. going read) ended ≡ going j → passes4 (job_table j) ≡ true
     go read (going _) four h = ap (λ k. passes4 (job_table k)) (sym (ap (λ k. job_in k read) h)) ∙ four refl

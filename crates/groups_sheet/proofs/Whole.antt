@@ -1,8 +1,9 @@
 -- The ways through the whole table's tests, and what they tell of its rows. Assumes nothing.
-use Prim.Native.Nat.{ℕ, ◌<◌}
+use Prim.Native.Nat.{ℕ, ◌*◌, ◌<◌, ◌≤◌}
 use mathlib.Core.Path.{◌≡◌, refl, sym, ap, subst, ◌∙◌}
 use mathlib.Core.Bool.{Bool, true, false, not, ◌&&◌, true≢false}
-use mathlib.Core.List.{List}
+use mathlib.Core.List.{List, [], ◌∷◌}
+use native.Mathlib.Omega.{arith}
 use lib.Ieee.{Float}
 use borrow.Author.Tests.{not-true, not-false}
 use Rattle.loops.specs.Run.{Run, going, ended, on, check}
@@ -15,8 +16,8 @@ use Rattle.kapitsa_joint.specs.Centre.{centres_in}
 use Rattle.joint_refusals.specs.Refusals.{mass_finite_of, is_valid_of, passes6, passes7, centres_finite}
 use Rattle.joint_refusals.specs.Tolerances.{passes26}
 use Rattle.joint_refusals.proofs.Valid.{valid_bodies}
-use Rattle.groups.specs.Together.{links_in, joins_in, LinksBelow, Grouped}
-use Rattle.job_file.specs.Job.{Job, tests, job_with, judged_of, answer_of}
+use Rattle.groups.specs.Together.{links_in, joins_in, Linked, Grouped}
+use Rattle.job_file.specs.Job.{Job, tests, job_of, job_with, judged_of, answer_of}
 use Rattle.job_file.specs.File.{trailer_of, section_numbers, section_words, section_masses, section_centres}
 use Rattle.job_file.specs.declared.trailer.Trailer.{Trailer}
 use Rattle.job_file.specs.declared.judge.FileJudged.{FileJudged}
@@ -44,8 +45,7 @@ module _ (t : Trailer) (numbers : List Float) (words : List ℕ) (masses centres
   pub odd : not fit ≡ true → JobGrouped (job_with t numbers words masses centres) groups groups (Refused 26)
   odd n = refused _ groups 26 (unfold judge test check on in rw (← p, not-true fit n))
 
-  module _ (u : not fit ≡ false) {bodies : ℕ} (eb : bodies ≡ t.bodies) {m c : Bool}
-      (em : m ≡ every (λ b. mass_finite_of (mass_of masses b)) bodies) (ec : c ≡ centres_finite (centres_in bodies centres)) where
+  module _ (u : not fit ≡ false) {bodies : ℕ} (eb : bodies ≡ t.bodies) {m c : Bool} (em : m ≡ every (λ b. mass_finite_of (mass_of masses b)) bodies) (ec : c ≡ centres_finite (centres_in bodies centres)) where
     six : (passes6 (record { rows = t.rows; bodies = t.bodies; row = row_of numbers words; mass = mass_of masses }) && centres_finite (centres_in t.bodies centres)) ≡ (m && c)
     unfolding passes6
     six = rw (em, ec, eb)
@@ -65,7 +65,7 @@ module _ (t : Trailer) (numbers : List Float) (words : List ℕ) (masses centres
 
       module _ (n : not valid ≡ false) where
         -- every row's bodies are there
-        pub linked : LinksBelow (links_in words) rows bodies
+        pub linked : Linked (links_in words) rows bodies
         unfolding row_of words_of
         linked = record { a = λ i l. rw eb (valid_bodies t.bodies (row_of numbers words i) (row i l)).a; b = λ i l. rw eb (valid_bodies t.bodies (row_of numbers words i) (row i l)).b }
           where
@@ -73,8 +73,7 @@ module _ (t : Trailer) (numbers : List Float) (words : List ℕ) (masses centres
             row = (every_iff (λ i. is_valid_of t.bodies (row_of numbers words i)) rows).0 (sym ev ∙ not-false valid n)
 
         -- all pass
-        pub passes : {after : List ℕ} {count : ℕ} → Grouped (links_in words) (joins_in masses) rows after count
-            → JobGrouped (job_with t numbers words masses centres) groups after (Groups count)
+        pub passes : {after : List ℕ} {count : ℕ} → Grouped (links_in words) (joins_in masses) rows after count → JobGrouped (job_with t numbers words masses centres) groups after (Groups count)
         passes {after} {count} g = record {
           kept = λ number q. absurd (true≢false (ap is_groups q));
           judged = unfold judge test check on in rw (← p, not-false fit u, six, not-false (m && c) v, seven, not-false valid n);
@@ -96,21 +95,12 @@ trailer_is file t h = sym (ap (λ r. trailer_in r (trailer_of file)) h) ∙ go (
     go (ended number) = refl
 
 module _ (file : List ℕ) (t : Trailer) (h : judged_of file ≡ judgements.Passed t) {numbers : List Float} {words : List ℕ} {masses centres : List Float}
-    (p : numbers ≡ section_numbers file t.row_offset t.rows) (q : words ≡ section_words file t.row_offset t.rows)
-    (r : masses ≡ section_masses file t.mass_offset t.spare t.bodies)
-    (c : centres ≡ section_centres file t.mass_offset t.spare t.bodies) where
+    (p : numbers ≡ section_numbers file t.row_offset t.rows) (q : words ≡ section_words file t.row_offset t.rows) (r : masses ≡ section_masses file t.mass_offset t.spare t.bodies) (c : centres ≡ section_centres file t.mass_offset t.spare t.bodies) where
   -- what the sections decode to is the file's job
-  pub read_is : {before groups : List ℕ} {answer : Grouping} → JobGrouped (job_with t numbers words masses centres) before groups answer
-      → BenchRead file (job_with t numbers words masses centres) before groups answer
+  pub read_is : {before groups : List ℕ} {answer : Grouping} → JobGrouped (job_with t numbers words masses centres) before groups answer → BenchRead file (job_with t numbers words masses centres) before groups answer
   read_is g = record {
     read = passed_job file h
-        ∙ ap
-        (λ (u : Trailer).
-        going
-        (job_with t (section_numbers file u.row_offset u.rows) (section_words file u.row_offset u.rows)
-        (section_masses file u.mass_offset u.spare u.bodies)
-        (section_centres file u.mass_offset u.spare u.bodies)))
-        (sym (trailer_is file t h))
+        ∙ ap (λ (u : Trailer). going (job_with t (section_numbers file u.row_offset u.rows) (section_words file u.row_offset u.rows) (section_masses file u.mass_offset u.spare u.bodies) (section_centres file u.mass_offset u.spare u.bodies))) (sym (trailer_is file t h))
         ∙ rw (p, q, r, c);
     answered = g;
   }

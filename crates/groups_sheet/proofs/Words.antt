@@ -136,6 +136,5 @@ pub groups_room : (out : List ℕ) (refusal count : ℕ) → refusal < 429496729
 groups_room out refusal count h k l = let s = groups_short refusal count h k in record { fits = omega arith }
 
 -- the sheet that follows has its room too
-pub behind_room : (out out' groups : List ℕ) (g n at : ℕ) → g < 4294967296 → n ≤ 128 → 17024 ≤ length out → length out' ≡ length out
-    → Wrote out 0 (group_line g (rows_of groups g n)) out' at → at + 16384 ≤ length out'
+pub behind_room : (out out' groups : List ℕ) (g n at : ℕ) → g < 4294967296 → n ≤ 128 → 17024 ≤ length out → length out' ≡ length out → Wrote out 0 (group_line g (rows_of groups g n)) out' at → at + 16384 ≤ length out'
 behind_room out out' groups g n at h m l e w = let s = group_short groups g n h m in let p = w.after in omega arith

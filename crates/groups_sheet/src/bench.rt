@@ -19,11 +19,8 @@ fn group_job(
     centres: &[f64],
     groups: &mut [u32],
 ) -> Grouping
-    requires { BenchRoom trailer (length numbers.now) (length words.now) (length masses.now)
-        (length centres.now) (length groups.old) }
-    ensures { JobGrouped
-        (job_with trailer numbers.now words.now masses.now centres.now)
-        groups.old groups.new result }
+    requires { BenchRoom trailer (length numbers.now) (length words.now) (length masses.now) (length centres.now) (length groups.old) }
+    ensures { JobGrouped (job_with trailer numbers.now words.now masses.now centres.now) groups.old groups.new result }
 {
     let rows = wide(trailer.rows);
     let bodies = wide(trailer.bodies);
@@ -52,11 +49,8 @@ pub fn read_bench(
     groups: &mut [u32],
 ) -> Grouping
     requires file_value { judged_of file.now ≡ Passed trailer }
-    requires bench_room { BenchRoom trailer (length numbers.old) (length words.old) (length masses.old)
-        (length centres.old) (length groups.old) }
-    ensures { BenchRead file.now
-        (job_with trailer numbers.new words.new masses.new centres.new)
-        groups.old groups.new result }
+    requires bench_room { BenchRoom trailer (length numbers.old) (length words.old) (length masses.old) (length centres.old) (length groups.old) }
+    ensures { BenchRead file.now (job_with trailer numbers.new words.new masses.new centres.new) groups.old groups.new result }
 {
     let rows = trailer.rows as usize;
     let bodies = trailer.bodies as usize;

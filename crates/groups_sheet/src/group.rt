@@ -46,13 +46,9 @@ fn write_behind(
     out: &mut [u8],
     at: usize,
 ) -> usize
-    requires job_room { JobRoom trailer (length numbers.old) (length words.now) (length masses.now)
-        (length centres.now) (length solution.old) (length impulses.old) (length new_centres.old) }
+    requires job_room { JobRoom trailer (length numbers.old) (length words.now) (length masses.now) (length centres.now) (length solution.old) (length impulses.old) (length new_centres.old) }
     requires at_in_bounds { at + 16384 ≤ length out.old }
-    ensures { Wrote out.old at
-        (job_sheet sheets.Job
-        (job_with trailer numbers.old words.now masses.now centres.now))
-        out.new result }
+    ensures { Wrote out.old at (job_sheet sheets.Job (job_with trailer numbers.old words.now masses.now centres.now)) out.new result }
 {
     let end = write_job(
         Sheet::Job,
@@ -86,17 +82,10 @@ fn write_picked(
     new_centres: &mut [f64],
     out: &mut [u8],
 ) -> usize
-    requires bench_room { BenchRoom trailer (length numbers.now) (length words.now) (length masses.now)
-        (length centres.now) (length groups.now) }
-    requires count_value { (count ≡ length (rows_of groups.now g trailer.rows))
-        × OwnRoom count trailer.bodies (length own_numbers.old) (length own_words.old)
-        (length solution.old) (length impulses.old) (length new_centres.old) }
+    requires bench_room { BenchRoom trailer (length numbers.now) (length words.now) (length masses.now) (length centres.now) (length groups.now) }
+    requires count_value { (count ≡ length (rows_of groups.now g trailer.rows)) × OwnRoom count trailer.bodies (length own_numbers.old) (length own_words.old) (length solution.old) (length impulses.old) (length new_centres.old) }
     requires in_bounds { 17024 ≤ length out.old }
-    ensures { Wrote out.old 0
-        (group_text
-        (job_with trailer numbers.now words.now masses.now centres.now) g
-        (rows_of groups.now g trailer.rows))
-        out.new result }
+    ensures { Wrote out.old 0 (group_text (job_with trailer numbers.now words.now masses.now centres.now) g (rows_of groups.now g trailer.rows)) out.new result }
 {
     let rows = trailer.rows as usize;
     pick_numbers(groups, g, rows, 27, numbers, own_numbers);
@@ -127,14 +116,9 @@ pub fn write_group(
     centres: &[f64],
     out: &mut [u8],
 ) -> usize
-    requires bench_room { BenchRoom trailer (length numbers.now) (length words.now) (length masses.now)
-        (length centres.now) (length groups.now) }
+    requires bench_room { BenchRoom trailer (length numbers.now) (length words.now) (length masses.now) (length centres.now) (length groups.now) }
     requires in_bounds { 17024 ≤ length out.old }
-    ensures { Wrote out.old 0
-        (group_text
-        (job_with trailer numbers.now words.now masses.now centres.now) g
-        (rows_of groups.now g trailer.rows))
-        out.new result }
+    ensures { Wrote out.old 0 (group_text (job_with trailer numbers.now words.now masses.now centres.now) g (rows_of groups.now g trailer.rows)) out.new result }
 {
     let mut own_numbers: [f64; 3456] = [0.0; 3456];
     let mut own_words: [u32; 1024] = [0; 1024];

@@ -44,8 +44,7 @@ fn put_rows(out: &mut [u8], at: usize, groups: &[u32], g: u32, rows: u32) -> usi
 
 // Of group `g`, which has `count` of the first `rows` rows.
 pub fn group_line(groups: &[u32], g: u32, rows: u32, count: u32, out: &mut [u8]) -> usize
-    requires { (rows ≤ length groups.now) × (count ≡ length (rows_of groups.now g rows))
-        × Room out.old 0 (group_line g (rows_of groups.now g rows)) }
+    requires { (rows ≤ length groups.now) × (count ≡ length (rows_of groups.now g rows)) × Room out.old 0 (group_line g (rows_of groups.now g rows)) }
     ensures { Wrote out.old 0 (group_line g (rows_of groups.now g rows)) out.new result }
 {
     let a = put_text(out, 0, b"group");

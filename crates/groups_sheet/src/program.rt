@@ -27,8 +27,7 @@ fn print_group(
     masses: &[f64],
     centres: &[f64],
 ) -> bool
-    requires { BenchRoom trailer (length numbers.now) (length words.now) (length masses.now)
-        (length centres.now) (length groups.now) }
+    requires { BenchRoom trailer (length numbers.now) (length words.now) (length masses.now) (length centres.now) (length groups.now) }
 {
     let mut text: [u8; 17024] = [0; 17024];
     let end = write_group(
@@ -47,8 +46,7 @@ fn print_each(
     masses: &[f64],
     centres: &[f64],
 )
-    requires { BenchRoom trailer (length numbers.now) (length words.now) (length masses.now)
-        (length centres.now) (length groups.now) }
+    requires { BenchRoom trailer (length numbers.now) (length words.now) (length masses.now) (length centres.now) (length groups.now) }
 {
     if !print_first(0, count) {
         return;
@@ -73,8 +71,7 @@ fn print_bench(
     groups: &mut [u32],
 )
     requires file_value { judged_of file.now ≡ Passed trailer }
-    requires bench_room { BenchRoom trailer (length numbers.old) (length words.old) (length masses.old)
-        (length centres.old) (length groups.old) }
+    requires bench_room { BenchRoom trailer (length numbers.old) (length words.old) (length masses.old) (length centres.old) (length groups.old) }
 {
     match read_bench(file, trailer, numbers, words, masses, centres, groups) {
         Grouping::Refused(number) => {

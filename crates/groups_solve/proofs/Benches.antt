@@ -33,20 +33,15 @@ zeros_there n = record { at = λ x. go x (dec_lt x n) }
     go x (no h) = get_or-eq_default (replicate n 0) 0 (omega (arith, length-replicate {A = ℕ} n 0))
 
 -- ---- the rows and masses of the lent lists are those of the table
-pub grouped_table : (b : Bench) (numbers : List Float) (groups : List ℕ) (count : ℕ)
-    → Grouped (links_in b.words) (joins_in b.masses) b.rows groups count
-    → Grouped (links_of (bench_table b numbers)) (joins_of (bench_table b numbers)) b.rows groups count
+pub grouped_table : (b : Bench) (numbers : List Float) (groups : List ℕ) (count : ℕ) → Grouped (links_in b.words) (joins_in b.masses) b.rows groups count → Grouped (links_of (bench_table b numbers)) (joins_of (bench_table b numbers)) b.rows groups count
 unfolding row_of words_of
 grouped_table b numbers groups count h = h
 
-pub marks_table : (b : Bench) (numbers : List Float) (groups marks : List ℕ)
-    → Marks (links_in b.words) (joins_in b.masses) b.rows groups marks
-    → Marks (links_of (bench_table b numbers)) (joins_of (bench_table b numbers)) b.rows groups marks
+pub marks_table : (b : Bench) (numbers : List Float) (groups marks : List ℕ) → Marks (links_in b.words) (joins_in b.masses) b.rows groups marks → Marks (links_of (bench_table b numbers)) (joins_of (bench_table b numbers)) b.rows groups marks
 unfolding row_of words_of
 marks_table b numbers groups marks h = h
 
-module _ (b : Bench) (few : b.bodies ≤ 256) (groups marks : List ℕ) (count : ℕ) (t₀ : Lent) (r₀ g₀ a₀ : List ℕ) (m₀ : List Float)
-    (impulses centres : List Float) (t : Lent) (r a : List ℕ) (m : List Float) where
+module _ (b : Bench) (few : b.bodies ≤ 256) (groups marks : List ℕ) (count : ℕ) (t₀ : Lent) (r₀ g₀ a₀ : List ℕ) (m₀ : List Float) (impulses centres : List Float) (t : Lent) (r a : List ℕ) (m : List Float) where
   abbrev before : Lending
   before = record { table = t₀; rules = r₀; groups = g₀; answers = a₀; maxima = m₀ }
 
@@ -57,21 +52,11 @@ module _ (b : Bench) (few : b.bodies ≤ 256) (groups marks : List ℕ) (count :
   abbrev after : Lending
   after = record { table = t; rules = r; groups = groups; answers = a; maxima = m }
 
-  module _ (marked : Marks (links_of (bench_table b t₀.numbers)) (joins_of (bench_table b t₀.numbers)) b.rows groups marks)
-      (p : BodiesPut marks 0 b.bodies (placed_of b.kind b.bodies) (zeros 1536) b.centres t₀.impulses t₀.centres impulses
-      centres)
-      (s : EachSolved b marks count now after) where
-    one : (g : ℕ) → g < count
-        → GroupSolved (Member (links_of (bench_table b t₀.numbers)) (joins_of (bench_table b t₀.numbers)) b.rows groups g) b g
-        (rows_of groups g b.rows) before after
+  module _ (marked : Marks (links_of (bench_table b t₀.numbers)) (joins_of (bench_table b t₀.numbers)) b.rows groups marks) (p : BodiesPut marks 0 b.bodies (placed_of b.kind b.bodies) (zeros 1536) b.centres t₀.impulses t₀.centres impulses centres) (s : EachSolved b marks count now after) where
+    one : (g : ℕ) → g < count → GroupSolved (Member (links_of (bench_table b t₀.numbers)) (joins_of (bench_table b t₀.numbers)) b.rows groups g) b g (rows_of groups g b.rows) before after
     one g l =
-        group_mine (λ body. get_or marks body 0 ≡ g + 1)
-        (Member (links_of (bench_table b t₀.numbers)) (joins_of (bench_table b t₀.numbers)) b.rows groups g)
-        (λ body _ x. marked.some x.row body x.within x.has x.joins ∙ ap (λ y. y + 1) x.group)
-        (λ body k. omega (arith, placed_few b.kind b.bodies))
-        (group_from (λ body. get_or marks body 0 ≡ g + 1) b g (rows_of groups g b.rows) (s.each g l) refl refl refl
-        (λ body c k q e. p.impulses_put_lem.others body c q (λ _ d. omega arith))
-        (λ body c k q e. p.centres_put_lem.others body c q (λ _ d. omega arith)) refl refl)
+        group_mine (λ body. get_or marks body 0 ≡ g + 1) (Member (links_of (bench_table b t₀.numbers)) (joins_of (bench_table b t₀.numbers)) b.rows groups g) (λ body _ x. marked.some x.row body x.within x.has x.joins ∙ ap (λ y. y + 1) x.group) (λ body k. omega (arith, placed_few b.kind b.bodies))
+        (group_from (λ body. get_or marks body 0 ≡ g + 1) b g (rows_of groups g b.rows) (s.each g l) refl refl refl (λ body c k q e. p.impulses_put_lem.others body c q (λ _ d. omega arith)) (λ body c k q e. p.centres_put_lem.others body c q (λ _ d. omega arith)) refl refl)
 
     none : (body : ℕ) → Apart (links_of (bench_table b t₀.numbers)) (joins_of (bench_table b t₀.numbers)) b.rows body → get_or marks body 0 ≡ 0
     none body (inl e) = marked.none body (λ i l h j. true≢false (sym j ∙ e))
@@ -85,17 +70,12 @@ module _ (b : Bench) (few : b.bodies ≤ 256) (groups marks : List ℕ) (count :
           centre = λ c q k. s.centres.same body c q k (λ h o d. omega arith) ∙ p.centres_put_lem.at body c q k e;
         }
 
-    pub bench_solved : Grouped (links_of (bench_table b t₀.numbers)) (joins_of (bench_table b t₀.numbers)) b.rows groups count
-        → SameLengths before after → BenchSolved b before after count
+    pub bench_solved : Grouped (links_of (bench_table b t₀.numbers)) (joins_of (bench_table b t₀.numbers)) b.rows groups count → SameLengths before after → BenchSolved b before after count
     bench_solved g l = record { grouped = g; each = one; apart = still; answers_behind = s.answers.same; maxima_behind = s.maxima.same; long = l }
 
 -- `still_bodies`, which puts for as many as have a centre
-pub still_put : (kind : Kind) {marks : List ℕ} {bodies placed : ℕ} {ownImpulses ownCentres impulses₀ centres₀ impulses centres : List Float}
-    → placed ≡ placed_of kind bodies → BodiesPut marks 0 bodies placed ownImpulses ownCentres impulses₀ centres₀ impulses centres
-    → BodiesPut marks 0 bodies (placed_of kind bodies) ownImpulses ownCentres impulses₀ centres₀ impulses centres
+pub still_put : (kind : Kind) {marks : List ℕ} {bodies placed : ℕ} {ownImpulses ownCentres impulses₀ centres₀ impulses centres : List Float} → placed ≡ placed_of kind bodies → BodiesPut marks 0 bodies placed ownImpulses ownCentres impulses₀ centres₀ impulses centres → BodiesPut marks 0 bodies (placed_of kind bodies) ownImpulses ownCentres impulses₀ centres₀ impulses centres
 still_put kind e h = rw e at h
 
-pub still_room : {kind : Kind} {n bodies : ℕ} {numbers solution impulses₀ centres₀ impulses centres : List Float} {rules : List ℕ}
-    → TableRoom kind n bodies numbers solution impulses₀ centres₀ rules → length impulses ≡ length impulses₀
-    → length centres ≡ length centres₀ → TableRoom kind n bodies numbers solution impulses centres rules
+pub still_room : {kind : Kind} {n bodies : ℕ} {numbers solution impulses₀ centres₀ impulses centres : List Float} {rules : List ℕ} → TableRoom kind n bodies numbers solution impulses₀ centres₀ rules → length impulses ≡ length impulses₀ → length centres ≡ length centres₀ → TableRoom kind n bodies numbers solution impulses centres rules
 still_room h e d = record { numbers_long = h.numbers_long; solution_long = h.solution_long; impulses_long = e ∙ h.impulses_long; centres_long = d ∙ h.centres_long; rules_long = h.rules_long }

@@ -50,35 +50,18 @@ module _ (b : Bench) (before : Lending) {x y p q : Bool} (e : x ≡ p) (d : y �
   groups_three h = record { answered = judge_fail 3 (p && q) (bench_tests (bench_problem b before.table.numbers)) (lent_two e d) h; kept = λ number a. refl; solved = λ count a. apart (sym a) }
 
   module _ (h : not (x && y) ≡ false) where
-    pub groups_refused : (w : Whole) (number : ℕ) → judge (bench_tests (bench_problem b before.table.numbers)) ≡ whole_out w
-        → w ≡ whole.Refused number → GroupsSolved (p && q) b before before (Refused number)
-    groups_refused w number j a =
-        record {
-          answered = judge_pass 3 (p && q) (bench_tests (bench_problem b before.table.numbers)) (lent_two e d) h
-              (j ∙ ap whole_out a);
-          kept = λ number a. refl;
-          solved = λ count a. apart (sym a);
-        }
+    pub groups_refused : (w : Whole) (number : ℕ) → judge (bench_tests (bench_problem b before.table.numbers)) ≡ whole_out w → w ≡ whole.Refused number → GroupsSolved (p && q) b before before (Refused number)
+    groups_refused w number j a = record { answered = judge_pass 3 (p && q) (bench_tests (bench_problem b before.table.numbers)) (lent_two e d) h (j ∙ ap whole_out a); kept = λ number a. refl; solved = λ count a. apart (sym a) }
 
-    pub groups_solved : (w : Whole) (after : Lending) (count : ℕ)
-        → judge (bench_tests (bench_problem b before.table.numbers)) ≡ whole_out w → w ≡ whole.Passed → BenchSolved b before after count
-        → GroupsSolved (p && q) b before after (Groups count)
+    pub groups_solved : (w : Whole) (after : Lending) (count : ℕ) → judge (bench_tests (bench_problem b before.table.numbers)) ≡ whole_out w → w ≡ whole.Passed → BenchSolved b before after count → GroupsSolved (p && q) b before after (Groups count)
     unfolding counted
-    groups_solved w after count j a s =
-        record {
-          answered = judge_pass 3 (p && q) (bench_tests (bench_problem b before.table.numbers)) (lent_two e d) h
-              (j ∙ ap whole_out a);
-          kept = λ number c. apart c;
-          solved = λ n c. subst (BenchSolved b before after) (ap counted c) s;
-        }
+    groups_solved w after count j a s = record { answered = judge_pass 3 (p && q) (bench_tests (bench_problem b before.table.numbers)) (lent_two e d) h (j ∙ ap whole_out a); kept = λ number c. apart c; solved = λ n c. subst (BenchSolved b before after) (ap counted c) s }
 
 -- the entry of velocities lends no centres, and takes none back
 none : (l : List Float) → length l ≡ 0 → l ≡ []
 none [] e = refl
 none (x ∷ l) e = absurd (omega arith)
 
-pub moving_groups : {fits : Bool} {b : Bench} {before : Lending} {numbers solution impulses : List Float} (centres : List Float)
-    {rules groups answers : List ℕ} {maxima : List Float} {answer : Grouping}
-    → length centres ≡ 0 → GroupsSolved fits b before (lending_of numbers solution impulses centres rules groups answers maxima) answer
+pub moving_groups : {fits : Bool} {b : Bench} {before : Lending} {numbers solution impulses : List Float} (centres : List Float) {rules groups answers : List ℕ} {maxima : List Float} {answer : Grouping} → length centres ≡ 0 → GroupsSolved fits b before (lending_of numbers solution impulses centres rules groups answers maxima) answer
     → GroupsSolved fits b before (lending_of numbers solution impulses [] rules groups answers maxima) answer
 moving_groups centres e h = rw (none centres e) at h

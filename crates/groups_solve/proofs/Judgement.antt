@@ -24,9 +24,7 @@ use Rattle.position_steps.specs.Opening.{given_fits}
 use Rattle.groups_solve.specs.Judged.{centres_pass}
 
 -- ---- 6, of masses and centres
-pub masses_centres : (kind : Kind) (rows bodies : ℕ) (numbers : List Float) (words : List ℕ) (masses centres : List Float) (r p : Bool)
-    → r ≡ every (λ b. mass_finite_of (mass_of masses b)) bodies → p ≡ centres_pass kind bodies centres
-    → (r && p) ≡ (passes6 (table_of rows bodies numbers words masses) && centres_pass kind bodies centres)
+pub masses_centres : (kind : Kind) (rows bodies : ℕ) (numbers : List Float) (words : List ℕ) (masses centres : List Float) (r p : Bool) → r ≡ every (λ b. mass_finite_of (mass_of masses b)) bodies → p ≡ centres_pass kind bodies centres → (r && p) ≡ (passes6 (table_of rows bodies numbers words masses) && centres_pass kind bodies centres)
 unfolding passes6
 masses_centres kind rows bodies numbers words masses centres r p e d = rw (e, d)
 

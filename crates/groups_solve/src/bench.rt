@@ -3,7 +3,7 @@ ghost use Rattle.std.specs.Prelude.{◌≡◌, ◌+◌, ◌*◌, ◌<◌, ◌≤
 ghost use Rattle.loops.specs.Cleared.{zeros};
 ghost use Rattle.kapitsa_joint.specs.Kind.{placed_of};
 ghost use Rattle.rules.specs.Rows.{rules_in};
-ghost use Rattle.groups.specs.Together.{links_in, LinksBelow};
+ghost use Rattle.groups.specs.Together.{links_in, Linked};
 ghost use Rattle.group_step.specs.Bench.{bench_of, lending_of};
 ghost use Rattle.group_step.specs.Step.{BodiesPut, BenchRoom, TableRoom, ToldRoom};
 ghost use Rattle.groups_solve.specs.Each.{EachSolved};
@@ -24,10 +24,8 @@ fn still_bodies(
     impulses: &mut [f64],
     new_centres: &mut [f64],
 )
-    requires { (bodies ≤ 256) × (bodies ≤ length marks.now) × (6 * bodies ≤ length impulses.old)
-        × (3 * placed_of kind bodies ≤ length centres.now) × (3 * placed_of kind bodies ≤ length new_centres.old) }
-    ensures { BodiesPut marks.now 0 bodies (placed_of kind bodies) (zeros 1536) centres.now
-        impulses.old new_centres.old impulses.new new_centres.new }
+    requires { (bodies ≤ 256) × (bodies ≤ length marks.now) × (6 * bodies ≤ length impulses.old) × (3 * placed_of kind bodies ≤ length centres.now) × (3 * placed_of kind bodies ≤ length new_centres.old) }
+    ensures { BodiesPut marks.now 0 bodies (placed_of kind bodies) (zeros 1536) centres.now impulses.old new_centres.old impulses.new new_centres.new }
 {
     let still: [f64; 1536] = [0.0; 1536];
     put_bodies(
@@ -68,20 +66,11 @@ fn solve_each(
     group_maxima: &mut [f64],
 )
     requires groups_len { (length groups.now ≡ rows) × (bodies ≤ length marks.now) × (count ≤ rows) }
-    requires bench_room { BenchRoom kind rows bodies mode words.now masses.now centres.now given.now rule_words.now
-        rule_tolerances.now }
-    requires table_room { TableRoom kind rows bodies numbers.old solution.old impulses.old new_centres.old
-        rule_numbers.old
-        × ToldRoom rows group_answers.old group_maxima.old }
-    ensures { EachSolved
-        (bench_of kind rows bodies words.now masses.now centres.now given.now
-        (rules_in rule_words.now rule_tolerances.now) limit mode shift)
-        marks.now count
-        (lending_of numbers.old solution.old impulses.old new_centres.old
-        rule_numbers.old groups.now group_answers.old
-        group_maxima.old)
-        (lending_of numbers.new solution.new impulses.new new_centres.new
-        rule_numbers.new groups.now group_answers.new group_maxima.new) }
+    requires bench_room { BenchRoom kind rows bodies mode words.now masses.now centres.now given.now rule_words.now rule_tolerances.now }
+    requires table_room { TableRoom kind rows bodies numbers.old solution.old impulses.old new_centres.old rule_numbers.old × ToldRoom rows group_answers.old group_maxima.old }
+    ensures { EachSolved (bench_of kind rows bodies words.now masses.now centres.now given.now (rules_in rule_words.now rule_tolerances.now) limit mode shift) marks.now count
+        (lending_of numbers.old solution.old impulses.old new_centres.old rule_numbers.old groups.now group_answers.old group_maxima.old)
+        (lending_of numbers.new solution.new impulses.new new_centres.new rule_numbers.new groups.now group_answers.new group_maxima.new) }
 {
     let mut own_numbers: [f64; 13824] = [0.0; 13824];
     let mut own_words: [u32; 4096] = [0; 4096];
@@ -155,22 +144,12 @@ pub fn solve_bench(
     group_answers: &mut [u32],
     group_maxima: &mut [f64],
 ) -> u32
-    requires group_numbers_len { (length group_numbers.old ≡ rows) × LinksBelow (links_in words.now) rows bodies }
-    requires bench_room { BenchRoom kind rows bodies mode words.now masses.now centres.now given.now rule_words.now
-        rule_tolerances.now }
-    requires table_room { TableRoom kind rows bodies numbers.old solution.old impulses.old new_centres.old
-        rule_numbers.old
-        × ToldRoom rows group_answers.old group_maxima.old }
-    ensures { BenchSolved
-        (bench_of kind rows bodies words.now masses.now centres.now given.now
-        (rules_in rule_words.now rule_tolerances.now) limit mode shift)
-        (lending_of numbers.old solution.old impulses.old new_centres.old
-        rule_numbers.old group_numbers.old group_answers.old
-        group_maxima.old)
-        (lending_of numbers.new solution.new impulses.new new_centres.new
-        rule_numbers.new group_numbers.new group_answers.new
-        group_maxima.new)
-        result }
+    requires group_numbers_len { (length group_numbers.old ≡ rows) × Linked (links_in words.now) rows bodies }
+    requires bench_room { BenchRoom kind rows bodies mode words.now masses.now centres.now given.now rule_words.now rule_tolerances.now }
+    requires table_room { TableRoom kind rows bodies numbers.old solution.old impulses.old new_centres.old rule_numbers.old × ToldRoom rows group_answers.old group_maxima.old }
+    ensures { BenchSolved (bench_of kind rows bodies words.now masses.now centres.now given.now (rules_in rule_words.now rule_tolerances.now) limit mode shift)
+        (lending_of numbers.old solution.old impulses.old new_centres.old rule_numbers.old group_numbers.old group_answers.old group_maxima.old)
+        (lending_of numbers.new solution.new impulses.new new_centres.new rule_numbers.new group_numbers.new group_answers.new group_maxima.new) result }
 {
     let mut labels: [u32; 768] = [0; 768];
     let mut marks: [u32; 256] = [0; 256];

@@ -63,15 +63,8 @@ pub fn judge_bench(
     given: &[f64],
     shift: f64,
 ) -> Whole
-    requires { (27 * rows ≤ length numbers.now) × (8 * rows ≤ length words.now)
-        × (10 * bodies ≤ length masses.now) × (3 * placed_of kind bodies ≤ length centres.now)
-        × (3 * length rule_tolerances.now ≤ length rule_words.now) × GivenRoom kind (length given.now) rows }
-    ensures { judge
-        (bench_tests
-        (solve_for kind rows bodies numbers.now words.now masses.now
-        centres.now given.now
-        (rules_in rule_words.now rule_tolerances.now) shift))
-        ≡ whole_out result }
+    requires { (27 * rows ≤ length numbers.now) × (8 * rows ≤ length words.now) × (10 * bodies ≤ length masses.now) × (3 * placed_of kind bodies ≤ length centres.now) × (3 * length rule_tolerances.now ≤ length rule_words.now) × GivenRoom kind (length given.now) rows }
+    ensures { judge (bench_tests (solve_for kind rows bodies numbers.now words.now masses.now centres.now given.now (rules_in rule_words.now rule_tolerances.now) shift)) ≡ whole_out result }
 {
     if !shift_fits(shift) {
         return Whole::Refused(25);

@@ -36,22 +36,10 @@ pub fn solve_groups(
     group_answers: &mut [u32],
     group_maxima: &mut [f64],
 ) -> Grouping
-    ensures { GroupsSolved
-        (job_fits kind rows bodies mode (length numbers.old) (length words.now)
-        (length masses.now) (length solution.old) (length impulses.old)
-        (length centres.now) (length new_centres.old) (length rule_words.now)
-        (length rule_tolerances.now) (length rule_numbers.old) (length given.now)
-        && groups_lent rows (length group_numbers.old) (length group_answers.old)
-        (length group_maxima.old))
-        (bench_of kind rows bodies words.now masses.now centres.now given.now
-        (rules_in rule_words.now rule_tolerances.now) limit mode shift)
-        (lending_of numbers.old solution.old impulses.old new_centres.old
-        rule_numbers.old group_numbers.old group_answers.old
-        group_maxima.old)
-        (lending_of numbers.new solution.new impulses.new new_centres.new
-        rule_numbers.new group_numbers.new group_answers.new
-        group_maxima.new)
-        result }
+    ensures { GroupsSolved (job_fits kind rows bodies mode (length numbers.old) (length words.now) (length masses.now) (length solution.old) (length impulses.old) (length centres.now) (length new_centres.old) (length rule_words.now) (length rule_tolerances.now) (length rule_numbers.old) (length given.now) && groups_lent rows (length group_numbers.old) (length group_answers.old) (length group_maxima.old))
+        (bench_of kind rows bodies words.now masses.now centres.now given.now (rules_in rule_words.now rule_tolerances.now) limit mode shift)
+        (lending_of numbers.old solution.old impulses.old new_centres.old rule_numbers.old group_numbers.old group_answers.old group_maxima.old)
+        (lending_of numbers.new solution.new impulses.new new_centres.new rule_numbers.new group_numbers.new group_answers.new group_maxima.new) result }
 {
     let lent = groups_lent(
         rows,
@@ -143,22 +131,10 @@ pub fn solve_position_groups(
     group_answers: &mut [u32],
     group_maxima: &mut [f64],
 ) -> Grouping
-    ensures { GroupsSolved
-        (job_fits Position rows bodies mode (length numbers.old) (length words.now)
-        (length masses.now) (length solution.old) (length impulses.old)
-        (length centres.now) (length new_centres.old) (length rule_words.now)
-        (length rule_tolerances.now) (length rule_numbers.old) 0 && groups_lent rows
-        (length group_numbers.old) (length group_answers.old)
-        (length group_maxima.old))
-        (bench_of Position rows bodies words.now masses.now centres.now []
-        (rules_in rule_words.now rule_tolerances.now) limit mode shift)
-        (lending_of numbers.old solution.old impulses.old new_centres.old
-        rule_numbers.old group_numbers.old group_answers.old
-        group_maxima.old)
-        (lending_of numbers.new solution.new impulses.new new_centres.new
-        rule_numbers.new group_numbers.new group_answers.new
-        group_maxima.new)
-        result }
+    ensures { GroupsSolved (job_fits Position rows bodies mode (length numbers.old) (length words.now) (length masses.now) (length solution.old) (length impulses.old) (length centres.now) (length new_centres.old) (length rule_words.now) (length rule_tolerances.now) (length rule_numbers.old) 0 && groups_lent rows (length group_numbers.old) (length group_answers.old) (length group_maxima.old))
+        (bench_of Position rows bodies words.now masses.now centres.now [] (rules_in rule_words.now rule_tolerances.now) limit mode shift)
+        (lending_of numbers.old solution.old impulses.old new_centres.old rule_numbers.old group_numbers.old group_answers.old group_maxima.old)
+        (lending_of numbers.new solution.new impulses.new new_centres.new rule_numbers.new group_numbers.new group_answers.new group_maxima.new) result }
 {
     let none: [f64; 0] = [0.0; 0];
     solve_groups(
@@ -205,21 +181,10 @@ pub fn solve_velocity_groups(
     group_answers: &mut [u32],
     group_maxima: &mut [f64],
 ) -> Grouping
-    ensures { GroupsSolved
-        (job_fits Velocity rows bodies mode (length numbers.old) (length words.now)
-        (length masses.now) (length solution.old) (length impulses.old) 0 0
-        (length rule_words.now) (length rule_tolerances.now)
-        (length rule_numbers.old) (length given.now) && groups_lent rows
-        (length group_numbers.old) (length group_answers.old)
-        (length group_maxima.old))
-        (bench_of Velocity rows bodies words.now masses.now [] given.now
-        (rules_in rule_words.now rule_tolerances.now) limit mode shift)
-        (lending_of numbers.old solution.old impulses.old []
-        rule_numbers.old group_numbers.old group_answers.old
-        group_maxima.old)
-        (lending_of numbers.new solution.new impulses.new [] rule_numbers.new
-        group_numbers.new group_answers.new group_maxima.new)
-        result }
+    ensures { GroupsSolved (job_fits Velocity rows bodies mode (length numbers.old) (length words.now) (length masses.now) (length solution.old) (length impulses.old) 0 0 (length rule_words.now) (length rule_tolerances.now) (length rule_numbers.old) (length given.now) && groups_lent rows (length group_numbers.old) (length group_answers.old) (length group_maxima.old))
+        (bench_of Velocity rows bodies words.now masses.now [] given.now (rules_in rule_words.now rule_tolerances.now) limit mode shift)
+        (lending_of numbers.old solution.old impulses.old [] rule_numbers.old group_numbers.old group_answers.old group_maxima.old)
+        (lending_of numbers.new solution.new impulses.new [] rule_numbers.new group_numbers.new group_answers.new group_maxima.new) result }
 {
     let none: [f64; 0] = [0.0; 0];
     let mut no_centres: [f64; 0] = [0.0; 0];

@@ -13,7 +13,7 @@ use Rattle.loops.specs.Run.{Run, going, ended, on, check}
 use Rattle.loops.specs.Cleared.{cleared_words}
 use Rattle.mass_operator.specs.System.{System}
 use Rattle.sparse.specs.Triangle.{Sparse}
-use Rattle.sparse.specs.Cholesky.{factor_run, or_thirteen}
+use Rattle.sparse.specs.Cholesky.{Factor, factor_run, or_thirteen}
 use Rattle.sparse.proofs.Left.{free, free_past}
 use Rattle.sparse.specs.Kept.{Kept, numbers}
 use Rattle.sparse.specs.Marks.{AtMost}
@@ -50,8 +50,7 @@ module _ (w rows : ℕ) (ew : w ≡ rows) where
   pub marks_fit : (order : List ℕ) (diagonal : List Float) (k : ℕ) → length order ≡ rows + k → length diagonal ≡ rows → length (take w order) ≡ length diagonal
   marks_fit order diagonal k h e = length-take-le w order (omega arith) ∙ omega arith
 
-  pub order_fit : (pattern order₀ order : List ℕ) (k : ℕ) → length pattern ≡ rows + 1 + k → length order₀ ≡ rows + 2 * k
-      → length order ≡ length order₀ → length order ≡ rows + 2 * length (rest_of (w + 1) pattern)
+  pub order_fit : (pattern order₀ order : List ℕ) (k : ℕ) → length pattern ≡ rows + 1 + k → length order₀ ≡ rows + 2 * k → length order ≡ length order₀ → length order ≡ rows + 2 * length (rest_of (w + 1) pattern)
   order_fit pattern order₀ order k h h₀ e = omega (arith, columns_lent_long w rows ew pattern k h)
 
 module _ (w rows : ℕ) (ew : w ≡ rows) (pattern : List ℕ) (diagonal₀ values₀ values diagonal : List Float) (f : Factored)
@@ -112,8 +111,7 @@ module _ (s : System) (starts columns : List ℕ) (values₀ values : List Float
   unfolding pairs_run judged_pairs
   refused_as k t = ten_or_twelve (ltb pair_limit (pair_count (pattern_of s) s.rows)) (finite_pairs (pairs_of s) s.rows) (pairs_of s) k (pairs_refused k t)
 
-  pub build_refused : (order : List ℕ) (diagonal : List Float) (k : ℕ) → r ≡ paired.Refused k
-      → FactorHeld s diagonal (built.Refused k) starts columns order order values₀ values diagonal
+  pub build_refused : (order : List ℕ) (diagonal : List Float) (k : ℕ) → r ≡ paired.Refused k → FactorHeld s diagonal (built.Refused k) starts columns order order values₀ values diagonal
   unfolding cholesky_run on
   build_refused order diagonal k t = record {
     answered = rw (pairs_refused k t);
@@ -130,8 +128,7 @@ module _ (s : System) (starts columns : List ℕ) (values₀ values : List Float
     made_of : factor_run (pairs_of s) diagonal₀ ≡ finish_out b (numbers starts columns values') diagonal
     made_of = ap (λ (L : Sparse). factor_run L diagonal₀) (sym (held.done count t).pairs) ∙ h.answered
 
-    told : (q : Built) → ((k : ℕ) → q ≡ built.Refused k → k ≡ 13)
-        → or_thirteen (finish_out q (numbers starts columns values') diagonal) ≡ build_out q (numbers starts columns values') diagonal
+    told : (q : Built) → ((k : ℕ) → q ≡ built.Refused k → k ≡ 13) → or_thirteen (finish_out q (numbers starts columns values') diagonal) ≡ build_out q (numbers starts columns values') diagonal
     unfolding on
     told (built.Done c) n = refl
     told (built.Refused k) n = let z : k ≡ 13 = n k refl in rw z
@@ -148,8 +145,7 @@ module _ (s : System) (starts columns : List ℕ) (values₀ values : List Float
       thirteen = λ e. (made_of ∙ rw e, (h.refused 13 e).1);
     }
 
-pub factor_past : (rows count : ℕ) (pattern₀ pattern order₀ order : List ℕ) (values₀ values : List Float) → length pattern ≡ length pattern₀
-    → length order ≡ length order₀ → length values ≡ length values₀ → FactorPast rows count pattern₀ pattern order₀ order values₀ values
+pub factor_past : (rows count : ℕ) (pattern₀ pattern order₀ order : List ℕ) (values₀ values : List Float) → length pattern ≡ length pattern₀ → length order ≡ length order₀ → length values ≡ length values₀ → FactorPast rows count pattern₀ pattern order₀ order values₀ values
 factor_past rows count pattern₀ pattern order₀ order values₀ values p o v = record {
   pairs = pairs_free rows count pattern₀ pattern values₀ values p v;
   index = free_past (rows + 2 * count) order₀ order o;

@@ -29,8 +29,7 @@ fn factor_afresh(
     marks: &mut [u32],
 ) -> Factored
     requires kept { Kept starts.now columns.now }
-    requires values_len { (length values.old ≡ length columns.now) × (length starts.now ≡ length diagonal.old + 1)
-        × (length marks.old ≡ length diagonal.old) }
+    requires values_len { (length values.old ≡ length columns.now) × (length starts.now ≡ length diagonal.old + 1) × (length marks.old ≡ length diagonal.old) }
     ensures { factor_run (numbers starts.now columns.now values.old) diagonal.old
         ≡ factor_out result (numbers starts.now columns.now values.new) diagonal.new }
 {
@@ -47,8 +46,7 @@ fn finish(
     rows: u32,
 ) -> Built
     requires kept { Kept (starts_in rows pattern.now) (columns_in rows pattern.now) }
-    requires diagonal_len { (length diagonal.old ≡ rows) × (length pattern.now ≡ rows + 1 + length values.old)
-        × (length order.old ≡ rows + 2 * length values.old) }
+    requires diagonal_len { (length diagonal.old ≡ rows) × (length pattern.now ≡ rows + 1 + length values.old) × (length order.old ≡ rows + 2 * length values.old) }
     ensures { Finished rows diagonal.old result (starts_in rows pattern.now) (columns_in rows pattern.now)
         order.old order.new values.old values.new diagonal.new }
 {
@@ -79,19 +77,12 @@ pub fn build_incomplete_cholesky_preconditioner(
 ) -> Built
     requires rows_in_bounds { (12 * rows ≤ length jacobians.now) × (2 * rows ≤ length links.now) × (10 * bodies ≤ length masses.now) }
     requires linked { Linked links.now rows bodies }
-    requires diagonal_len { (length diagonal.old ≡ rows) × (length pattern.old ≡ rows + 1 + pair_room rows)
-        × (length order.old ≡ rows + 2 * pair_room rows) × (length values.old ≡ pair_room rows)
-        × (room ≡ pair_room rows) }
-    ensures factor_held { FactorHeld
-        (compact_system rows bodies jacobians.now links.now masses.now)
-        diagonal.old result (starts_in rows pattern.new) (columns_in rows pattern.new)
-        order.old order.new values.old values.new diagonal.new }
-    ensures factor_past { FactorPast rows
-        (pair_count
-        (pattern_of (compact_system rows bodies jacobians.now links.now masses.now))
-        rows)
-        pattern.old pattern.new order.old order.new values.old
-        values.new }
+    requires diagonal_len { (length diagonal.old ≡ rows) × (length pattern.old ≡ rows + 1 + pair_room rows) × (length order.old ≡ rows + 2 * pair_room rows)
+        × (length values.old ≡ pair_room rows) × (room ≡ pair_room rows) }
+    ensures factor_held { FactorHeld (compact_system rows bodies jacobians.now links.now masses.now) diagonal.old result
+        (starts_in rows pattern.new) (columns_in rows pattern.new) order.old order.new values.old values.new diagonal.new }
+    ensures factor_past { FactorPast rows (pair_count (pattern_of (compact_system rows bodies jacobians.now links.now masses.now)) rows)
+        pattern.old pattern.new order.old order.new values.old values.new }
 {
     match pairs(
         jacobians, links, masses, rows, bodies, pattern, values, room,

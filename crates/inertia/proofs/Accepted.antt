@@ -65,20 +65,17 @@ row_none Means = record { accepted = λ v k. absurd (none k) }
     none : {v : Vec3} → rows.NotPositive ≡ rows.Done v → ⊥
     none k = let z : ◌≡◌ {A = ℕ} 0 1 = cc in omega arith
 
-pub first_tells : (n : Mat3) {r : PivotRoot} {p : Float} → PivotTells (less_sum n.x.x plus_zero) r → r ≡ pivots.Root p
-    → RowTells FirstMeaning (rows.Done record { x = p; y = plus_zero; z = plus_zero })
+pub first_tells : (n : Mat3) {r : PivotRoot} {p : Float} → PivotTells (less_sum n.x.x plus_zero) r → r ≡ pivots.Root p → RowTells FirstMeaning (rows.Done record { x = p; y = plus_zero; z = plus_zero })
 first_tells n {p = p} t h = tells record { x = p; y = plus_zero; z = plus_zero } (record { pivot = (t.accepted p h).1; above = (refl, refl) })
 
-pub second_tells : (n : Mat3) (a : Vec3) {r : PivotRoot} {p : Float} → PivotTells (second_pivot n a) r → r ≡ pivots.Root p
-    → RowTells SecondMeaning (rows.Done record { x = second_x n a; y = p; z = plus_zero })
+pub second_tells : (n : Mat3) (a : Vec3) {r : PivotRoot} {p : Float} → PivotTells (second_pivot n a) r → r ≡ pivots.Root p → RowTells SecondMeaning (rows.Done record { x = second_x n a; y = p; z = plus_zero })
 unfolding second_pivot
 second_tells n a {p = p} t h =
     let x = second_x n a in
     let (f, q) = t.accepted p h in
     tells record { x = x; y = p; z = plus_zero } (record { left = one_finite x (less_finite n.y.y (sum_of_one x x) f); pivot = q; above = refl })
 
-pub third_tells : (n : Mat3) (a b : Vec3) {r : PivotRoot} {p : Float} → PivotTells (third_pivot n a b) r → r ≡ pivots.Root p
-    → RowTells ThirdMeaning (rows.Done record { x = third_x n a; y = third_y n a b; z = p })
+pub third_tells : (n : Mat3) (a b : Vec3) {r : PivotRoot} {p : Float} → PivotTells (third_pivot n a b) r → r ≡ pivots.Root p → RowTells ThirdMeaning (rows.Done record { x = third_x n a; y = third_y n a b; z = p })
 unfolding third_pivot
 third_tells n a b {p = p} t h =
     let x = third_x n a in
@@ -105,8 +102,7 @@ rows_meaning a b c scale f s t = record {
 factor_inside : {f g : Cholesky3} → factors.Factor f ≡ factors.Factor g → f ≡ g
 factor_inside k = cc
 
-pub triangle_tells : (scale : Float) {r s t : Row} {a b c : Vec3} → RowTells FirstMeaning r → r ≡ rows.Done a → RowTells SecondMeaning s
-    → s ≡ rows.Done b → RowTells ThirdMeaning t → t ≡ rows.Done c
+pub triangle_tells : (scale : Float) {r s t : Row} {a b c : Vec3} → RowTells FirstMeaning r → r ≡ rows.Done a → RowTells SecondMeaning s → s ≡ rows.Done b → RowTells ThirdMeaning t → t ≡ rows.Done c
     → TriangleTells (factors.Factor record { first = a; second = b; third = c; scale = scale })
 triangle_tells scale {a = a} {b = b} {c = c} p e q f o g =
     record { accepted = λ h k. subst TriangleMeaning (factor_inside k) (rows_meaning a b c scale (p.accepted a e) (q.accepted b f) (o.accepted c g)) }

@@ -1,5 +1,5 @@
 -- The scale, the divided numbers and their symmetry, as the code puts them together. Assumes nothing.
-use mathlib.Core.Path.{◌≡◌}
+use mathlib.Core.Path.{◌≡◌, refl}
 use mathlib.Core.Bool.{Bool, not, ◌&&◌}
 use lib.Ieee.{Float, binary64, sub, lt}
 use Rattle.binary64.specs.Order.{absolute, larger}
@@ -17,8 +17,7 @@ pub scale_is : (m : Mat3) {a b c : Float} → a ≡ largest_of m.x plus_zero →
 unfolding scale_of
 scale_is m p q r = rw (r, q, p)
 
-pub divided_is : (m : Mat3) (s : Float) {a b c : Vec3} → a ≡ divided_vec_of m.x s → b ≡ divided_vec_of m.y s → c ≡ divided_vec_of m.z s
-    → ◌≡◌ {A = Mat3} record { x = a; y = b; z = c } (divided_of m s)
+pub divided_is : (m : Mat3) (s : Float) {a b c : Vec3} → a ≡ divided_vec_of m.x s → b ≡ divided_vec_of m.y s → c ≡ divided_vec_of m.z s → ◌≡◌ {A = Mat3} record { x = a; y = b; z = c } (divided_of m s)
 unfolding divided_of
 divided_is m s p q r = rw (p, q, r)
 

@@ -12,21 +12,21 @@ use Rattle.inertia.specs.declared.triangle.Cholesky3.{Cholesky3}
 use Rattle.inertia.specs.declared.triangle.CholeskyError.{CholeskyError}
 use Rattle.inertia.specs.declared.triangle.Factored.{Factored}
 use Rattle.inertia.specs.declared.triangle.Factored.TheVariants as factors
-use Rattle.inertia.specs.declared.substitution.SolvedVector.{SolvedVector}
-use Rattle.inertia.specs.declared.substitution.SolvedVector.TheVariants as solutions
+use Rattle.inertia.specs.declared.substitution.Solved.{Solved}
+use Rattle.inertia.specs.declared.substitution.Solved.TheVariants as solutions
 use Rattle.inertia.specs.declared.inverse.Inverted.{Inverted}
 
-module _ (f : Cholesky3) {r : SolvedVector} (e : solve_run f unit_x ≡ solved_out r) where
+module _ (f : Cholesky3) {r : Solved} (e : solve_run f unit_x ≡ solved_out r) where
   pub columns_x : {x : CholeskyError} → r ≡ solutions.Refused x → columns_run f ≡ ended (number_of x)
   unfolding columns_run
   columns_x h = on_ended _ _ _ (e ∙ ap solved_out h)
 
-  module _ {a : Vec3} (h : r ≡ solutions.Solution a) {s : SolvedVector} (p : solve_run f unit_y ≡ solved_out s) where
+  module _ {a : Vec3} (h : r ≡ solutions.Solution a) {s : Solved} (p : solve_run f unit_y ≡ solved_out s) where
     pub columns_y : {x : CholeskyError} → s ≡ solutions.Refused x → columns_run f ≡ ended (number_of x)
     unfolding columns_run
     columns_y k = on_going _ _ _ (e ∙ ap solved_out h) ∙ on_ended _ _ _ (p ∙ ap solved_out k)
 
-    module _ {b : Vec3} (k : s ≡ solutions.Solution b) {t : SolvedVector} (q : solve_run f unit_z ≡ solved_out t) where
+    module _ {b : Vec3} (k : s ≡ solutions.Solution b) {t : Solved} (q : solve_run f unit_z ≡ solved_out t) where
       pub columns_z : {x : CholeskyError} → t ≡ solutions.Refused x → columns_run f ≡ ended (number_of x)
       unfolding columns_run
       columns_z l = on_going _ _ _ (e ∙ ap solved_out h) ∙ on_going _ _ _ (p ∙ ap solved_out k) ∙ on_ended _ _ _ (q ∙ ap solved_out l)

@@ -54,8 +54,7 @@ units_plus (inf s) p = absurd p
 units_plus (fin true m e) p = absurd p
 units_plus (fin false m e) p = refl
 
-pivot_small : (x s p : Float) → T (fits binary64 x) → T (fits binary64 s) → plus binary64 x ≤ 2 ^ low binary64 → less binary64 s ≡ 0
-    → pivot_run (less_sum x s) ≡ going p → AtMostOne p
+pivot_small : (x s p : Float) → T (fits binary64 x) → T (fits binary64 s) → plus binary64 x ≤ 2 ^ low binary64 → less binary64 s ≡ 0 → pivot_run (less_sum x s) ≡ going p → AtMostOne p
 unfolding pivot_run passes_pivot less_sum
 pivot_small x s p t u h k g =
     let v = sub binary64 x s in
@@ -78,8 +77,7 @@ one_no_less a = sum_no_less binary64 plus_zero (mul binary64 a a) zero_fits (mul
 
 two_no_less : (a b : Float) → less binary64 (sum_of_two a a b b) ≡ 0
 unfolding sum_of_two
-two_no_less a b = sum_no_less binary64 (sum_of_one a a) (mul binary64 b b) (unfold sum_of_one in add-fits binary64 plus_zero (mul binary64 a a))
-    (mul-fits binary64 b b) (one_no_less a) (square_no_less binary64 b)
+two_no_less a b = sum_no_less binary64 (sum_of_one a a) (mul binary64 b b) (unfold sum_of_one in add-fits binary64 plus_zero (mul binary64 a a)) (mul-fits binary64 b b) (one_no_less a) (square_no_less binary64 b)
 
 record Small (f : Cholesky3) : Type 0 where
   first : AtMostOne f.first.x
@@ -109,9 +107,7 @@ module _ (m : Mat3) (s : Float) where
       let x = third_x n a in
       let y = third_y n a b in
       let (p, e, q) = (next_going (pivot_run (third_pivot n a b)) _ c).0 g in
-      subst (λ (v : Vec3). AtMostOne v.z) (going_inj q)
-      (pivot_small n.z.z (sum_of_two x x y y) p (div-fits binary64 m.z.z s) (add-fits binary64 (sum_of_one x x) (mul binary64 y y))
-      h (two_no_less x y) e)
+      subst (λ (v : Vec3). AtMostOne v.z) (going_inj q) (pivot_small n.z.z (sum_of_two x x y y) p (div-fits binary64 m.z.z s) (add-fits binary64 (sum_of_one x x) (mul binary64 y y)) h (two_no_less x y) e)
 
 record FactorSmall (f : Cholesky3) : Type 0 where
   small : Small f

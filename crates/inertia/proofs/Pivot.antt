@@ -132,8 +132,7 @@ module _ (x : Float) {r : Bool} (e : r ≡ finite x) where
 held : {b : Bool} → b ≡ true → T b
 held e = rw e tt
 
-pub pivot_tells : (x : Float) {r : Bool} {a : RootAnswer} {y : Float} → T (fits binary64 x) → r ≡ finite x → not r ≡ false
-    → le x plus_zero ≡ false → RootMeaning x a → a ≡ Value y → PivotTells x (Root y)
+pub pivot_tells : (x : Float) {r : Bool} {a : RootAnswer} {y : Float} → T (fits binary64 x) → r ≡ finite x → not r ≡ false → le x plus_zero ≡ false → RootMeaning x a → a ≡ Value y → PivotTells x (Root y)
 pivot_tells x {r = r} {y = y} t e h l m v =
     let f = sym e ∙ not-false r h in
     record { accepted = λ p k. (held f, subst (λ (z : Float). T (positive z)) (root_inside k) (root_positive x t (above_positive x f l) m v)) }

@@ -15,8 +15,7 @@ use Rattle.inertia.specs.Divided.{largest_of, scale_of, divided_vec_of, divided_
 use Rattle.inertia.specs.Triangle.{passes_pivot, pivot_run, less_sum, sum_of_one, sum_of_two, first_run, second_x, second_pivot, second_run, third_x, third_y, third_pivot, third_run, triangle_run}
 use Rattle.inertia.specs.Factor.{has_scale, matrix_tests, factor_run}
 use Rattle.inertia.specs.Solve.{less_product, forward_x, forward_y, forward_z, forward_of, backward_x, backward_y, backward_z, backward_of, solution_of, solve_run}
-use Rattle.binary64.specs.One.{one}
-use Rattle.inertia.specs.Inverse.{columns_run, inverse_run}
+use Rattle.inertia.specs.Inverse.{one, columns_run, inverse_run}
 
 -- by columns: a on the diagonal, then b, then c, and d across it
 abbrev matrix : Float → Float → Float → Float → Mat3

@@ -12,8 +12,8 @@ use Rattle.inertia.specs.declared.triangle.Row.{Row}
 use Rattle.inertia.specs.declared.triangle.Row.TheVariants as rows
 use Rattle.inertia.specs.declared.triangle.Factored.{Factored}
 use Rattle.inertia.specs.declared.triangle.Factored.TheVariants as factors
-use Rattle.inertia.specs.declared.substitution.SolvedVector.{SolvedVector}
-use Rattle.inertia.specs.declared.substitution.SolvedVector.TheVariants as solutions
+use Rattle.inertia.specs.declared.substitution.Solved.{Solved}
+use Rattle.inertia.specs.declared.substitution.Solved.TheVariants as solutions
 use Rattle.inertia.specs.declared.inverse.Inverted.{Inverted}
 use Rattle.inertia.specs.declared.inverse.Inverted.TheVariants as inverses
 
@@ -36,7 +36,7 @@ abbrev pub factored_out : Factored → Run Cholesky3 ℕ
 factored_out (factors.Factor f) = going f
 factored_out (factors.Refused e) = ended (number_of e)
 
-abbrev pub solved_out : SolvedVector → Run Vec3 ℕ
+abbrev pub solved_out : Solved → Run Vec3 ℕ
 solved_out (solutions.Solution v) = going v
 solved_out (solutions.Refused e) = ended (number_of e)
 

@@ -5,7 +5,7 @@ ghost use Rattle.inertia.specs.Answers.{inverted_out};
 ghost use Rattle.inertia.specs.MinusZero.{InverseMeaning};
 
 use crate::factor::factor_spd;
-use crate::substitution::{SolvedVector, solve};
+use crate::substitution::{Solved, solve};
 use crate::triangle::{Cholesky3, CholeskyError, Factored};
 use kapitsa_math::{Mat3, Vec3};
 
@@ -37,14 +37,14 @@ fn columns(f: Cholesky3) -> Inverted
     ensures { columns_run f ≡ inverted_out result }
 {
     match solve(f, X) {
-        SolvedVector::Solution(x) => match solve(f, Y) {
-            SolvedVector::Solution(y) => match solve(f, Z) {
-                SolvedVector::Solution(z) => Inverted::Inverse(Mat3 { x: x, y: y, z: z }),
-                SolvedVector::Refused(error) => Inverted::Refused(error),
+        Solved::Solution(x) => match solve(f, Y) {
+            Solved::Solution(y) => match solve(f, Z) {
+                Solved::Solution(z) => Inverted::Inverse(Mat3 { x: x, y: y, z: z }),
+                Solved::Refused(error) => Inverted::Refused(error),
             },
-            SolvedVector::Refused(error) => Inverted::Refused(error),
+            Solved::Refused(error) => Inverted::Refused(error),
         },
-        SolvedVector::Refused(error) => Inverted::Refused(error),
+        Solved::Refused(error) => Inverted::Refused(error),
     }
 }
 

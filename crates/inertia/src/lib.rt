@@ -9,5 +9,5 @@ pub mod triangle; // triangle.rt: Cholesky3 and its errors, and the triangle row
 pub use factor::factor_spd;
 pub use inverse::{Inverted, inverse_spd};
 pub use lent::{inverse_in, mat_at, put_mat};
-pub use substitution::{SolvedVector, solve};
+pub use substitution::{Solved, solve};
 pub use triangle::{Cholesky3, CholeskyError, Factored};

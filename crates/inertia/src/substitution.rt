@@ -8,7 +8,7 @@ use crate::triangle::{Cholesky3, CholeskyError};
 use kapitsa_math::Vec3;
 
 #[derive(Drop)]
-pub enum SolvedVector {
+pub enum Solved {
     Solution(Vec3),
     Refused(CholeskyError),
 }
@@ -37,19 +37,19 @@ fn backward(f: Cholesky3, v: Vec3) -> Vec3
     Vec3 { x: x, y: y, z: z }
 }
 
-pub fn solve(f: Cholesky3, rhs: Vec3) -> SolvedVector
+pub fn solve(f: Cholesky3, rhs: Vec3) -> Solved
     ensures { solve_run f rhs ≡ solved_out result }
 {
     if !rhs.is_finite() {
-        return SolvedVector::Refused(CholeskyError::NonFiniteInput);
+        return Solved::Refused(CholeskyError::NonFiniteInput);
     }
     let b = divided_vec(rhs, f.scale);
     if !b.is_finite() {
-        return SolvedVector::Refused(CholeskyError::ResultOutOfRange);
+        return Solved::Refused(CholeskyError::ResultOutOfRange);
     }
     let solution = backward(f, forward(f, b));
     if !solution.is_finite() {
-        return SolvedVector::Refused(CholeskyError::ResultOutOfRange);
+        return Solved::Refused(CholeskyError::ResultOutOfRange);
     }
-    SolvedVector::Solution(solution)
+    Solved::Solution(solution)
 }

@@ -2,7 +2,7 @@
 ghost use Rattle.std.specs.Prelude.{◌+◌, ◌≤◌, length};
 
 use crate::tally::{DIFFER, SIGN, Seen};
-use inertia::{Cholesky3, Factored, Inverted, SolvedVector, factor_spd, inverse_spd, solve};
+use inertia::{Cholesky3, Factored, Inverted, Solved, factor_spd, inverse_spd, solve};
 use kapitsa_math::{Mat3, Vec3};
 use little_endian::{double, word};
 
@@ -86,8 +86,8 @@ fn solve_seen(bytes: &[u8], f: Cholesky3) -> u32
 {
     let number = byte(bytes, 73);
     match solve(f, vec(bytes, 136)) {
-        SolvedVector::Solution(v) => same(0, number) | vec_alike(bytes, 160, v),
-        SolvedVector::Refused(error) => same(error.number(), number),
+        Solved::Solution(v) => same(0, number) | vec_alike(bytes, 160, v),
+        Solved::Refused(error) => same(error.number(), number),
     }
 }
 

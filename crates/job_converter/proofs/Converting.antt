@@ -65,13 +65,11 @@ module _ (file : List ℕ) (layout out : ℕ) where
   assoc true b c = refl
   assoc false b c = refl
 
-  sizes_same : (passes3 file && output_fits (trailer_of file) layout out) ≡ writer.sizes_fit read.head (length read.numbers)
-      (length read.words) (length read.masses) (length read.centres) out
+  sizes_same : (passes3 file && output_fits (trailer_of file) layout out) ≡ writer.sizes_fit read.head (length read.numbers) (length read.words) (length read.masses) (length read.centres) out
   unfolding passes3 output_fits writer.sizes_fit writer.head_fits writer.lengths_fit job_bits_of head_of
   sizes_same =
       let t = trailer_of file in
-      rw (eq-eqb _ _ numbers_long, eq-eqb _ _ words_long, eq-eqb _ _ masses_long, eq-eqb _ _ centres_long)
-      (assoc (counts_fit t.rows t.bodies t.mode) (leb layout 1) (eqb out (converted_length t layout)))
+      rw (eq-eqb _ _ numbers_long, eq-eqb _ _ words_long, eq-eqb _ _ masses_long, eq-eqb _ _ centres_long) (assoc (counts_fit t.rows t.bodies t.mode) (leb layout 1) (eqb out (converted_length t layout)))
 
   words_same : passes4 file ≡ writer.words_fit read.words read.head.rows
   unfolding passes4 keys_fit job_bits_of head_of
@@ -124,11 +122,8 @@ module _ (job : JobBits) (f : Fits job) (layout : ℕ) (known : layout ≤ 1) (f
 
 -- there, into an output of the right length, and back into one as long as the first file
 pub there_and_back : (job : JobBits) → Fits job → (layout : ℕ) → layout ≤ 1 → centres_fit job.centres layout ≡ true
-    → let there = written (in_layout layout job) in (converted_of (written job) layout (length there) ≡ going there) ×
-    (converted_of there job.head.layout (length (written job)) ≡ going (written job))
+    → let there = written (in_layout layout job) in (converted_of (written job) layout (length there) ≡ going there) × (converted_of there job.head.layout (length (written job)) ≡ going (written job))
 there_and_back job f layout known fit = (
   rw (length_written (in_layout layout job)) (convert_written job f layout known fit),
-  rw (length_written job)
-      (convert_written (in_layout layout job) (fits_in job f layout known fit) job.head.layout f.layout_known
-      (zero_centres job.centres job.head.layout f.layout_known f.old_centres)),
+  rw (length_written job) (convert_written (in_layout layout job) (fits_in job f layout known fit) job.head.layout f.layout_known (zero_centres job.centres job.head.layout f.layout_known f.old_centres)),
 )

@@ -32,9 +32,7 @@ pub converted_short : {file : List ℕ} {t : Trailer} (layout : ℕ) → Opened 
 converted_short {file} {t} layout o h = let r = o.few_rows in let b = o.few_bodies in let m = masses_most layout t.bodies h in omega arith
 
 -- an output of just this length is all written
-pub wrote_converted : {file : List ℕ} {t : Trailer} (layout : ℕ) {out out' : List ℕ} {end : ℕ} → Opened file t
-    → length out ≡ converted_length t layout → Wrote out 0 (written (in_layout layout (job_bits_of file))) out' end
-    → out' ≡ written (in_layout layout (job_bits_of file))
+pub wrote_converted : {file : List ℕ} {t : Trailer} (layout : ℕ) {out out' : List ℕ} {end : ℕ} → Opened file t → length out ≡ converted_length t layout → Wrote out 0 (written (in_layout layout (job_bits_of file))) out' end → out' ≡ written (in_layout layout (job_bits_of file))
 unfolding job_bits_of head_of
 wrote_converted {file} {t} layout o l w = wrote_whole (in_layout layout (job_bits_of file)) (l ∙ ap (λ t. converted_length t layout) o.same) w
 

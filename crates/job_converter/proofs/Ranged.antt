@@ -84,7 +84,6 @@ module _ {file : List ℕ} (b : Bytes file) where
     convert_back = ap job_bits_of convert_text ∙ written_back _ convert_fits
 
 -- "identical jobs": the bytes are equal exactly where the jobs are, whatever the placement of their sections
-pub convert_iff : {a b : List ℕ} → Bytes a → Bytes b → (layout m n : ℕ) {x y : List ℕ} → converted_of a layout m ≡ going x
-    → converted_of b layout n ≡ going y → (x ≡ y) ↔ (in_layout layout (job_bits_of a) ≡ in_layout layout (job_bits_of b))
+pub convert_iff : {a b : List ℕ} → Bytes a → Bytes b → (layout m n : ℕ) {x y : List ℕ} → converted_of a layout m ≡ going x → converted_of b layout n ≡ going y → (x ≡ y) ↔ (in_layout layout (job_bits_of a) ≡ in_layout layout (job_bits_of b))
 convert_iff p q layout m n e f =
     (λ s. sym (convert_back p layout m e) ∙ ap job_bits_of s ∙ convert_back q layout n f, λ s. convert_text p layout m e ∙ ap written s ∙ sym (convert_text q layout n f))

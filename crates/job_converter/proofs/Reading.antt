@@ -53,8 +53,7 @@ module _ {file : List ℕ} {t : Trailer} (o : Opened file t) where
     unfolding head_of
     layout_same = ap (λ h. h.layout) head
 
-    pub lent_read : {n w m c : ℕ} (numbers words masses centres : List ℕ) → layout ≤ 1 → BitsRoom t n w m c → length numbers ≡ n
-        → length words ≡ w → length masses ≡ m → length centres ≡ c → Lent h numbers words masses centres
+    pub lent_read : {n w m c : ℕ} (numbers words masses centres : List ℕ) → layout ≤ 1 → BitsRoom t n w m c → length numbers ≡ n → length words ≡ w → length masses ≡ m → length centres ≡ c → Lent h numbers words masses centres
     lent_read numbers words masses centres k r x y z u =
         record {
           few_rows = rw rows_same o.few_rows;
@@ -66,12 +65,10 @@ module _ {file : List ℕ} {t : Trailer} (o : Opened file t) where
           centres_long = rw bodies_same (u ∙ r.centres_long);
         }
 
-    pub room_read : (numbers words masses centres out : List ℕ) → converted_length t layout ≤ length out
-        → Room out 0 (written (record { head = h; numbers = numbers; words = words; masses = masses; centres = centres }))
+    pub room_read : (numbers words masses centres out : List ℕ) → converted_length t layout ≤ length out → Room out 0 (written (record { head = h; numbers = numbers; words = words; masses = masses; centres = centres }))
     room_read numbers words masses centres out g =
         let e = length_written (record { head = h; numbers = numbers; words = words; masses = masses; centres = centres }) in
-        let s : length (written (record { head = h; numbers = numbers; words = words; masses = masses; centres = centres })) ≡
-        converted_length t layout = e ∙ rw (rows_same, bodies_same, layout_same) in
+        let s : length (written (record { head = h; numbers = numbers; words = words; masses = masses; centres = centres })) ≡ converted_length t layout = e ∙ rw (rows_same, bodies_same, layout_same) in
         record { fits = omega arith }
 
     pub job_read : {numbers words masses centres : List ℕ} → numbers ≡ file_number_bits file → words ≡ file_words file → masses ≡ file_mass_bits file → centres ≡ file_centre_bits file

@@ -20,11 +20,8 @@ pub fn read_bits(
     masses: &mut [u64],
     centres: &mut [u64],
 )
-    requires { Opened file.now trailer
-        × BitsRoom trailer (length numbers.old) (length words.old) (length masses.old) (length centres.old) }
-    ensures { (numbers.new ≡ file_number_bits file.now)
-        × (words.new ≡ file_words file.now) × (masses.new ≡ file_mass_bits file.now)
-        × (centres.new ≡ file_centre_bits file.now) }
+    requires { Opened file.now trailer × BitsRoom trailer (length numbers.old) (length words.old) (length masses.old) (length centres.old) }
+    ensures { (numbers.new ≡ file_number_bits file.now) × (words.new ≡ file_words file.now) × (masses.new ≡ file_mass_bits file.now) × (centres.new ≡ file_centre_bits file.now) }
 {
     let rows = trailer.rows as usize;
     let bodies = trailer.bodies as usize;

@@ -55,9 +55,7 @@ Numbers a b c = fsep (usize.own_val a (vint w64 a ∷ [])) (fsep (usize.own_val 
 module _ {M : Type 1} {𝓤 : Ura M} (𝓛 : Logic 𝓤) where
   pub three : (a b c : ℕ) → a < 2 ^ 64 → b < 2 ^ 64 → c < 2 ^ 64 → ent 𝓤 (sem 𝓛 ftrue) (sem 𝓛 (Numbers a b c))
   three a b c p q r =
-      qed 𝓛 (‵ ftrue ∷ []) ∵ owned ! usize (Is usize) (uint_Makes 𝓛 w64) c _ (refl, r) $ fjoin ! $ owned ! usize (Is usize)
-      (uint_Makes 𝓛 w64) b _ (refl, q) $ fjoin ! $ owned ! usize (Is usize) (uint_Makes 𝓛 w64) a _ (refl, p) $ fjoin ! $
-      done !
+      qed 𝓛 (‵ ftrue ∷ []) ∵ owned ! usize (Is usize) (uint_Makes 𝓛 w64) c _ (refl, r) $ fjoin ! $ owned ! usize (Is usize) (uint_Makes 𝓛 w64) b _ (refl, q) $ fjoin ! $ owned ! usize (Is usize) (uint_Makes 𝓛 w64) a _ (refl, p) $ fjoin ! $ done !
 
 module _ {M : Type 1} {𝓤 : Ura M} (𝓛 : Logic 𝓤) (κ : Lft) where
   module _ (d : Reader) where
@@ -72,8 +70,6 @@ module _ {M : Type 1} {𝓤 : Ura M} (𝓛 : Logic 𝓤) (κ : Lft) where
         -- [what the file owns; what the numbers own; what the reader owns]
         move ! (1 ∷ []) $ drop ! $ frame ! $ done !)
 
-  pub makes : (s : Bor (List ℕ)) (offset rows row : ℕ) → offset < 2 ^ 64 → rows < 2 ^ 64 → row < 2 ^ 64
-      → ent 𝓤 (sem 𝓛 (FileOwn κ s)) (sem 𝓛 (Own κ (reader_of s offset rows row)))
+  pub makes : (s : Bor (List ℕ)) (offset rows row : ℕ) → offset < 2 ^ 64 → rows < 2 ^ 64 → row < 2 ^ 64 → ent 𝓤 (sem 𝓛 (FileOwn κ s)) (sem 𝓛 (Own κ (reader_of s offset rows row)))
   makes s offset rows row o n i =
-      qed 𝓛 (‵ (FileOwn κ s) ∷ []) ∵ nothing ! $ use1 𝓛 (‵ (Numbers offset rows row)) (three 𝓛 offset rows row o n i) $ move !
-      (1 ∷ 0 ∷ []) $ fjoin ! $ by ! (own_shut 𝓛 (D (κ, tt)) (L (κ, tt)) (s, (offset, (rows, (row, tt)))))
+      qed 𝓛 (‵ (FileOwn κ s) ∷ []) ∵ nothing ! $ use1 𝓛 (‵ (Numbers offset rows row)) (three 𝓛 offset rows row o n i) $ move ! (1 ∷ 0 ∷ []) $ fjoin ! $ by ! (own_shut 𝓛 (D (κ, tt)) (L (κ, tt)) (s, (offset, (rows, (row, tt)))))

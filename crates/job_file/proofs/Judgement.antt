@@ -106,8 +106,7 @@ module _ (file : List ℕ) {r : FileJudged} (o : r ≡ opened_of file) where
     unfolding passes2 sections_fit
     ends = let (_, h) = both (limits_fit (trailer_of file) && apart (trailer_of file)) (ends_fit (trailer_of file) (length file - 48)) passed.two in h
 
-    ends_both : (leb (rows_end (trailer_of file).row_offset (trailer_of file).rows) (length file - 48) ≡ true) ×
-        (leb (masses_end (trailer_of file).mass_offset (trailer_of file).spare (trailer_of file).bodies) (length file - 48) ≡ true)
+    ends_both : (leb (rows_end (trailer_of file).row_offset (trailer_of file).rows) (length file - 48) ≡ true) × (leb (masses_end (trailer_of file).mass_offset (trailer_of file).spare (trailer_of file).bodies) (length file - 48) ≡ true)
     unfolding ends_fit
     ends_both = both _ _ ends
 
@@ -116,10 +115,7 @@ module _ (file : List ℕ) {r : FileJudged} (o : r ≡ opened_of file) where
     rows_inside = rw passed.same (let h : rows_end (trailer_of file).row_offset (trailer_of file).rows ≤ length file - 48 = leb-true _ _ ends_both.0 in omega arith)
 
     pub masses_inside : masses_end t.mass_offset t.spare t.bodies ≤ length file
-    masses_inside = rw passed.same
-        (let h : masses_end (trailer_of file).mass_offset (trailer_of file).spare (trailer_of file).bodies ≤ length file - 48 = leb-true _
-        _ ends_both.1 in
-        omega arith)
+    masses_inside = rw passed.same (let h : masses_end (trailer_of file).mass_offset (trailer_of file).spare (trailer_of file).bodies ≤ length file - 48 = leb-true _ _ ends_both.1 in omega arith)
 
     module _ {p : Bool} (four : p ≡ keys_fit file t.row_offset t.rows) where
       pub is4 : p ≡ passes4 file

@@ -42,8 +42,7 @@ job_going file h = on_going _ _ _ h
 
 pub passed_job : (file : List ℕ) {t : Trailer} → judged_of file ≡ Passed t → job_of file ≡ going (job_with t (file_numbers file) (file_words file) (file_masses file) (file_centres file))
 unfolding judged_of
-passed_job file {t} h = let (j, e) = answer_passed (trailer_of file) t (tests file) h in job_going file j ∙ ap
-    (λ t. going (job_with t (file_numbers file) (file_words file) (file_masses file) (file_centres file))) (sym e)
+passed_job file {t} h = let (j, e) = answer_passed (trailer_of file) t (tests file) h in job_going file j ∙ ap (λ t. going (job_with t (file_numbers file) (file_words file) (file_masses file) (file_centres file))) (sym e)
 
 -- one that is refused holds none, and the numbers are the same
 pub refused_job : (file : List ℕ) (n : ℕ) → (judged_of file ≡ Refused n) ↔ (job_of file ≡ ended n)
@@ -72,10 +71,7 @@ lent_passed t true true false e d h = h
 lent_passed t true true true true d h = h
 lent_passed t true true true false d h = absurd (apart _ h refl)
 
-pub read_job : (file : List ℕ) (numbers : List Float) (words : List ℕ) (masses centres : List Float) (t : Trailer) (numbers' : List Float)
-    (words' : List ℕ) (masses' centres' : List Float)
-    → Reads file numbers words masses centres (Passed t) numbers' words' masses' centres'
-    → job_of file ≡ going (job_with t numbers' words' masses' centres')
+pub read_job : (file : List ℕ) (numbers : List Float) (words : List ℕ) (masses centres : List Float) (t : Trailer) (numbers' : List Float) (words' : List ℕ) (masses' centres' : List Float) → Reads file numbers words masses centres (Passed t) numbers' words' masses' centres' → job_of file ≡ going (job_with t numbers' words' masses' centres')
 unfolding read_of lent_after
 read_job file numbers words masses centres t numbers' words' masses' centres' h =
     let (j, e) = answer_passed (trailer_of file) t _ (sym h.answer) in

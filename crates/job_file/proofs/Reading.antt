@@ -19,8 +19,7 @@ use Rattle.job_file.specs.declared.judge.FileJudged.{FileJudged}
 use Rattle.job_file.specs.declared.judge.FileJudged.TheVariants.{Passed, Refused}
 use Rattle.job_file.proofs.Judgement.{passed, is4}
 
-refused_lent : (t : Trailer) (a b c e d : Bool) (n : ℕ) → answer_of t ((1, a) ∷ (2, b) ∷ (3, c) ∷ []) ≡ Refused n
-    → answer_of t ((1, a) ∷ (2, b) ∷ (3, c && e) ∷ (4, d) ∷ []) ≡ Refused n
+refused_lent : (t : Trailer) (a b c e d : Bool) (n : ℕ) → answer_of t ((1, a) ∷ (2, b) ∷ (3, c) ∷ []) ≡ Refused n → answer_of t ((1, a) ∷ (2, b) ∷ (3, c && e) ∷ (4, d) ∷ []) ≡ Refused n
 unfolding answer_of judge test check on
 refused_lent t false b c e d n h = h
 refused_lent t true false c e d n h = h
@@ -52,8 +51,7 @@ module _ (t : Trailer) (n w m c : ℕ) {p : Bool} (fit : p ≡ lengths_fit t n w
   centres_long = eqb-true _ _ fits.1
 
 module _ (file : List ℕ) (numbers : List Float) (words : List ℕ) (masses centres : List Float) {r : FileJudged} (o : r ≡ opened_of file) where
-  kept : (n : ℕ) → Refused n ≡ read_of file (length numbers) (length words) (length masses) (length centres)
-      → Reads file numbers words masses centres (Refused n) numbers words masses centres
+  kept : (n : ℕ) → Refused n ≡ read_of file (length numbers) (length words) (length masses) (length centres) → Reads file numbers words masses centres (Refused n) numbers words masses centres
   unfolding lent_after
   kept n e = record { answer = e; of_numbers = refl; of_words = refl; of_masses = refl; of_centres = refl }
 
@@ -74,11 +72,7 @@ module _ (file : List ℕ) (numbers : List Float) (words : List ℕ) (masses cen
       unfolding read_of answer_of judge test check on
       reads_4 n = kept 4 (rw ((passed file o e).one, (passed file o e).two, (passed file o e).three, ← is_fit, not-false q h, ← is4 file o e four, not-true p n))
 
-      pub reads_passed : not p ≡ false → {numbers' : List Float} → numbers' ≡ section_numbers file t.row_offset t.rows
-          → {words' : List ℕ} → words' ≡ section_words file t.row_offset t.rows → {masses' : List Float}
-          → masses' ≡ section_masses file t.mass_offset t.spare t.bodies → {centres' : List Float}
-          → centres' ≡ section_centres file t.mass_offset t.spare t.bodies
-          → Reads file numbers words masses centres (Passed t) numbers' words' masses' centres'
+      pub reads_passed : not p ≡ false → {numbers' : List Float} → numbers' ≡ section_numbers file t.row_offset t.rows → {words' : List ℕ} → words' ≡ section_words file t.row_offset t.rows → {masses' : List Float} → masses' ≡ section_masses file t.mass_offset t.spare t.bodies → {centres' : List Float} → centres' ≡ section_centres file t.mass_offset t.spare t.bodies → Reads file numbers words masses centres (Passed t) numbers' words' masses' centres'
       unfolding read_of answer_of judge test check on lent_after
       reads_passed n x y z u =
           record {

@@ -19,8 +19,7 @@ use Rattle.job_file.specs.Refusals.{keys_fit, passes4}
 use Rattle.job_file.specs.Job.{file_numbers, file_words, file_masses}
 
 -- element j of part i of a list in parts of n
-part_at : {X : Type 0} (f : ℕ → ℕ → X) (d : X) (n i j count : ℕ) → (n * i + j) / n ≡ i → (n * i + j) % n ≡ j → n * i + j < n * count
-    → get_or (tabulate (λ k. f (k / n) (k % n)) (n * count)) (n * i + j) d ≡ f i j
+part_at : {X : Type 0} (f : ℕ → ℕ → X) (d : X) (n i j count : ℕ) → (n * i + j) / n ≡ i → (n * i + j) % n ≡ j → n * i + j < n * count → get_or (tabulate (λ k. f (k / n) (k % n)) (n * count)) (n * i + j) d ≡ f i j
 part_at f d n i j count p q h = get_d_tabulate _ (n * count) (n * i + j) d h ∙ ap (λ a. f a ((n * i + j) % n)) p ∙ ap (f i) q
 
 module _ (file : List ℕ) (offset : ℕ) where
@@ -44,18 +43,8 @@ module _ (file : List ℕ) (offset : ℕ) where
   pub words_at : (rows i : ℕ) → i < rows → row.words_of (section_words file offset rows) (8 * i) ≡ row_words file offset i
   unfolding row.words_of row_words
   words_at rows i h =
-      let first : get_or (section_words file offset rows) (8 * i) 0 ≡ row_word file offset i 0 = ap
-      (λ k. get_or (section_words file offset rows) k 0) (sym (add-zero (8 * i))) ∙ word_at rows i 0 h (omega arith) in
-      rw (
-        first,
-        word_at rows i 1 h (omega arith),
-        word_at rows i 2 h (omega arith),
-        word_at rows i 3 h (omega arith),
-        word_at rows i 4 h (omega arith),
-        word_at rows i 5 h (omega arith),
-        word_at rows i 6 h (omega arith),
-        word_at rows i 7 h (omega arith),
-      )
+      let first : get_or (section_words file offset rows) (8 * i) 0 ≡ row_word file offset i 0 = ap (λ k. get_or (section_words file offset rows) k 0) (sym (add-zero (8 * i))) ∙ word_at rows i 0 h (omega arith) in
+      rw (first, word_at rows i 1 h (omega arith), word_at rows i 2 h (omega arith), word_at rows i 3 h (omega arith), word_at rows i 4 h (omega arith), word_at rows i 5 h (omega arith), word_at rows i 6 h (omega arith), word_at rows i 7 h (omega arith))
 
 -- the file passes 4 exactly where the table that it is read into does
 pub four_same : (file : List ℕ) → let t = trailer_of file in passes4 file ≡ table.passes4 (table_of t.rows t.bodies (file_numbers file) (file_words file) (file_masses file))

@@ -69,8 +69,7 @@ module _ {M : Type 1} {𝓤 : Ura M} (𝓛 : Logic 𝓤) (κ : Lft) (s : Bor (Li
   twice = (shr_slice_copy 𝓛 (named 0) κ u8).twice s (file_val s ∷ [])
 
   pub stands : (i : ℕ) → i < 2 ^ 64 → ent 𝓤 (sem 𝓛 (FileOwn κ s)) (sep 𝓤 (sem 𝓛 (Own κ (at_row κ s offset rows i))) (sem 𝓛 (FileOwn κ s)))
-  stands i f = qed 𝓛 (‵ (FileOwn κ s) ∷ []) ∵ use1 𝓛 (‵ (FileOwn κ s) ⊛ ‵ (FileOwn κ s)) twice $ split ! $ use1 𝓛
-      (‵ (Own κ (at_row κ s offset rows i))) (makes 𝓛 κ s offset rows i o n f) $ frame ! $ done !
+  stands i f = qed 𝓛 (‵ (FileOwn κ s) ∷ []) ∵ use1 𝓛 (‵ (FileOwn κ s) ⊛ ‵ (FileOwn κ s)) twice $ split ! $ use1 𝓛 (‵ (Own κ (at_row κ s offset rows i))) (makes 𝓛 κ s offset rows i o n f) $ frame ! $ done !
 
   module _ (mem : Memory → SProp 𝓤) (run : Routine → Fun 𝓤) (q : Share) where
     abbrev pub to_make : (Make 𝓛 mem run).Ghost
@@ -81,16 +80,9 @@ module _ {M : Type 1} {𝓤 : Ura M} (𝓛 : Logic 𝓤) (κ : Lft) (s : Bor (Li
         qed 𝓛 (‵ (flft κ q) ∷ ‵ (FileOwn κ s) ∷ []) ∵ move ! (1 ∷ []) $ use1 𝓛 (‵ (FileOwn κ s) ⊛ ‵ (FileOwn κ s)) twice $ split ! $
         nothing ! $ use1 𝓛 (‵ (Numbers offset rows 0)) (three 𝓛 offset rows 0 o n (lit< tt)) $ move ! (1 ∷ 0 ∷ []) $ fjoin ! $ nothing ! $ move ! (3 ∷ 0 ∷ []) $ join ! $
         -- [the token; what is passed; what the file owns]
-        use2 𝓛 (raw ((Make 𝓛 mem run).pre to_make))
-        (qed 𝓛
-        ((‵ (flft κ q) ⊛ ‵ ftrue) ∷ ‵
-        (owns (ShrSlice (named 0) κ u8 ∷ usize ∷ usize ∷ usize ∷ []) (made_of κ s offset rows) (made_at κ s offset rows)) ∷ [])
-        ∵ join ! $ frame ! $ done !)
-        $ frame ! $ done !
+        use2 𝓛 (raw ((Make 𝓛 mem run).pre to_make)) (qed 𝓛 ((‵ (flft κ q) ⊛ ‵ ftrue) ∷ ‵ (owns (ShrSlice (named 0) κ u8 ∷ usize ∷ usize ∷ usize ∷ []) (made_of κ s offset rows) (made_at κ s offset rows)) ∷ []) ∵ join ! $ frame ! $ done !) $ frame ! $ done !
 
-    pub make_said : (r : Reader)
-        → ent 𝓤 (ensured 𝓛 reader_at.ended (reader_at.clauses 𝓛 mem run) (κ, tt) (made_of κ s offset rows) tt r)
-        (fact 𝓤 (r ≡ at_row κ s offset rows 0))
+    pub make_said : (r : Reader) → ent 𝓤 (ensured 𝓛 reader_at.ended (reader_at.clauses 𝓛 mem run) (κ, tt) (made_of κ s offset rows) tt r) (fact 𝓤 (r ≡ at_row κ s offset rows 0))
     make_said r = ex_e 𝓤 _ (λ ws. snd∗ 𝓤 (sem 𝓛 (lasts reader_at.ended (κ, tt) (made_of κ s offset rows) ws)) (fact 𝓤 (r ≡ at_row κ s offset rows 0)))
 
     module _ (i : ℕ) (f : i < 2 ^ 64) where
@@ -99,15 +91,8 @@ module _ {M : Type 1} {𝓤 : Ura M} (𝓛 : Logic 𝓤) (κ : Lft) (s : Bor (Li
 
       pub goes_next : i < rows → ent 𝓤 (⋆ 𝓛 (‵ (flft κ q) ∷ ‵ (FileOwn κ s) ∷ [])) (sep 𝓤 ((Next 𝓛 mem run).pre to_next) (sem 𝓛 (FileOwn κ s)))
       goes_next less =
-          qed 𝓛 (‵ (flft κ q) ∷ ‵ (FileOwn κ s) ∷ []) ∵ move ! (1 ∷ []) $ use1 𝓛 (‵ (Own κ (at_row κ s offset rows i)) ⊛ ‵ (FileOwn κ s))
-          (stands i f) $ split ! $ nothing ! $ move ! (1 ∷ 0 ∷ []) $ fjoin ! $ nothing ! $ move ! (3 ∷ 0 ∷ []) $ join ! $
-          use2 𝓛 (raw ((Next 𝓛 mem run).pre to_next))
-          (qed 𝓛
-          ((‵ (flft κ q) ⊛ ‵ ftrue) ∷ ‵ (owns (B (κ, tt) ∷ []) (at_row κ s offset rows i, tt) (mach κ s offset rows i ∷ [], tt)) ∷ [])
-          ∵ says ! less $ frame ! $ done !)
-          $ frame ! $ done !
+          qed 𝓛 (‵ (flft κ q) ∷ ‵ (FileOwn κ s) ∷ []) ∵ move ! (1 ∷ []) $ use1 𝓛 (‵ (Own κ (at_row κ s offset rows i)) ⊛ ‵ (FileOwn κ s)) (stands i f) $ split ! $ nothing ! $ move ! (1 ∷ 0 ∷ []) $ fjoin ! $ nothing ! $ move ! (3 ∷ 0 ∷ []) $ join ! $
+          use2 𝓛 (raw ((Next 𝓛 mem run).pre to_next)) (qed 𝓛 ((‵ (flft κ q) ⊛ ‵ ftrue) ∷ ‵ (owns (B (κ, tt) ∷ []) (at_row κ s offset rows i, tt) (mach κ s offset rows i ∷ [], tt)) ∷ []) ∵ says ! less $ frame ! $ done !) $ frame ! $ done !
 
-      pub next_said : (r : Reader)
-          → ent 𝓤 (ensured 𝓛 next_row.ended (next_row.clauses 𝓛 mem run) (κ, tt) (at_row κ s offset rows i, tt) tt r)
-          (fact 𝓤 (r ≡ at_row κ s offset rows (i + 1)))
+      pub next_said : (r : Reader) → ent 𝓤 (ensured 𝓛 next_row.ended (next_row.clauses 𝓛 mem run) (κ, tt) (at_row κ s offset rows i, tt) tt r) (fact 𝓤 (r ≡ at_row κ s offset rows (i + 1)))
       next_said r = ex_e 𝓤 _ (λ ws. snd∗ 𝓤 (sem 𝓛 (lasts next_row.ended (κ, tt) (at_row κ s offset rows i, tt) ws)) (fact 𝓤 (r ≡ at_row κ s offset rows (i + 1))))

@@ -19,13 +19,10 @@ use Rattle.job_file.proofs.Counted.{filled_count}
 use Rattle.job_file.proofs.Written.{fills_row}
 
 -- a list in parts of c: where the parts below i are read and part i is written, those below i + 1 are
-part_next : {X : Type 0} {d : X} (h : ℕ → ℕ → X) (c count i : ℕ) {l l' : List X} → c * i + c ≡ c * (i + 1) → c * i + c ≤ c * count
-    → ((k : ℕ) → k < c → (c * i + k) / c ≡ i) → ((k : ℕ) → k < c → (c * i + k) % c ≡ k)
+part_next : {X : Type 0} {d : X} (h : ℕ → ℕ → X) (c count i : ℕ) {l l' : List X} → c * i + c ≡ c * (i + 1) → c * i + c ≤ c * count → ((k : ℕ) → k < c → (c * i + k) / c ≡ i) → ((k : ℕ) → k < c → (c * i + k) % c ≡ k)
     → Fills d (λ k. h (k / c) (k % c)) (c * count) (c * i) l → l' ≡ written (h i) (c * i) c l → Fills d (λ k. h (k / c) (k % c)) (c * count) (c * (i + 1)) l'
 part_next {X} {d} h c count i {l} next room p q read e =
-    rw e
-    (subst (λ m. Fills d (λ k. h (k / c) (k % c)) (c * count) m (written (h i) (c * i) c l)) next
-    (fills_row (h i) c read room (λ k own. sym (ap (λ a. h a ((c * i + k) % c)) (p k own) ∙ ap (h i) (q k own)))))
+    rw e (subst (λ m. Fills d (λ k. h (k / c) (k % c)) (c * count) m (written (h i) (c * i) c l)) next (fills_row (h i) c read room (λ k own. sym (ap (λ a. h a ((c * i + k) % c)) (p k own) ∙ ap (h i) (q k own)))))
 
 module _ (file : List ℕ) (offset rows : ℕ) where
   -- so many rows are read
@@ -56,24 +53,12 @@ module _ (file : List ℕ) (offset rows : ℕ) where
   abbrev pub begun : (xs : List Float) (ys : List ℕ) → length xs ≡ 27 * rows → length ys ≡ 8 * rows → Walking
   begun xs ys p q = record { row = 0; numbers = xs; words = ys; within = omega arith; of_numbers = none_read 27 (omega arith) p; of_words = none_read 8 (omega arith) q }
 
-  abbrev pub onward : (t : Walking) {xs : List Float} {ys : List ℕ} → t.row < rows → xs ≡ row_numbers_over file offset t.row t.numbers
-      → ys ≡ row_words_over file offset t.row t.words → Walking
-  onward t {xs} {ys} b p q =
-      record {
-        row = t.row + 1;
-        numbers = xs;
-        words = ys;
-        within = omega arith;
-        of_numbers = numbers_next t.row b t.of_numbers p;
-        of_words = words_next t.row b t.of_words q;
-      }
+  abbrev pub onward : (t : Walking) {xs : List Float} {ys : List ℕ} → t.row < rows → xs ≡ row_numbers_over file offset t.row t.numbers → ys ≡ row_words_over file offset t.row t.words → Walking
+  onward t {xs} {ys} b p q = record { row = t.row + 1; numbers = xs; words = ys; within = omega arith; of_numbers = numbers_next t.row b t.of_numbers p; of_words = words_next t.row b t.of_words q }
 
   pub over : (t : Walking) → rows ≤ t.row → (t.numbers ≡ section_numbers file offset rows) × (t.words ≡ section_words file offset rows)
   unfolding section_numbers section_words
-  over t b = (
-    let end : 27 * rows ≤ 27 * t.row = omega arith in filled_count t.of_numbers end (omega arith),
-    let end : 8 * rows ≤ 8 * t.row = omega arith in filled_count t.of_words end (omega arith),
-  )
+  over t b = (let end : 27 * rows ≤ 27 * t.row = omega arith in filled_count t.of_numbers end (omega arith), let end : 8 * rows ≤ 8 * t.row = omega arith in filled_count t.of_words end (omega arith))
 
 -- ---- refusal 4, row by row
 

@@ -15,8 +15,7 @@ pub fn read_job(
     masses: &mut [f64],
     centres: &mut [f64],
 ) -> FileJudged
-    ensures { Reads file.now numbers.old words.old masses.old
-        centres.old result numbers.new words.new masses.new centres.new }
+    ensures { Reads file.now numbers.old words.old masses.old centres.old result numbers.new words.new masses.new centres.new }
 {
     let opened = judge_trailer(file);
     let FileJudged::Passed(trailer) = opened else {

@@ -69,8 +69,7 @@ pub fn keys_fit(file: &[u8], offset: usize, rows: usize) -> bool
 // The 27 numbers and 8 words of the row where it stands, to the places that are the row's.
 pub fn row_here<'a, 'b, 'c>(r: Reader<'a>, numbers: &'b mut [f64], words: &'c mut [u32])
     requires { Standing r × (27 * (r.row + 1) ≤ length numbers.old) × (8 * (r.row + 1) ≤ length words.old) }
-    ensures { (numbers.new ≡ numbers_here r.entry numbers.old)
-        × (words.new ≡ words_here r.entry words.old) }
+    ensures { (numbers.new ≡ numbers_here r.entry numbers.old) × (words.new ≡ words_here r.entry words.old) }
 {
     put_row(r.file, r.offset, r.row, numbers, words)
 }
@@ -78,8 +77,7 @@ pub fn row_here<'a, 'b, 'c>(r: Reader<'a>, numbers: &'b mut [f64], words: &'c mu
 // All rows.
 pub fn read_rows(file: &[u8], offset: usize, rows: usize, numbers: &mut [f64], words: &mut [u32])
     requires { (rows_end offset rows ≤ length file.now) × (length numbers.old ≡ 27 * rows) × (length words.old ≡ 8 * rows) }
-    ensures { (numbers.new ≡ section_numbers file.now offset rows)
-        × (words.new ≡ section_words file.now offset rows) }
+    ensures { (numbers.new ≡ section_numbers file.now offset rows) × (words.new ≡ section_words file.now offset rows) }
 {
     let mut r = reader_at(file, offset, rows, 0);
     while r.row < r.rows {

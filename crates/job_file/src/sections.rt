@@ -86,10 +86,8 @@ fn put_words(file: &[u8], offset: usize, i: usize, words: &mut [u32])
 
 // and both.
 pub fn put_row(file: &[u8], offset: usize, i: usize, numbers: &mut [f64], words: &mut [u32])
-    requires { (rows_end offset (i + 1) ≤ length file.now) × (27 * (i + 1) ≤ length numbers.old)
-        × (8 * (i + 1) ≤ length words.old) }
-    ensures { (numbers.new ≡ row_numbers_over file.now offset i numbers.old)
-        × (words.new ≡ row_words_over file.now offset i words.old) }
+    requires { (rows_end offset (i + 1) ≤ length file.now) × (27 * (i + 1) ≤ length numbers.old) × (8 * (i + 1) ≤ length words.old) }
+    ensures { (numbers.new ≡ row_numbers_over file.now offset i numbers.old) × (words.new ≡ row_words_over file.now offset i words.old) }
 {
     put_numbers(file, offset, i, numbers);
     put_words(file, offset, i, words)

@@ -29,9 +29,7 @@ use Rattle.job_sheet.specs.declared.which.Sheet.TheVariants as sheets
 -- ---- room
 
 -- every word being one of 32 bits
-pub row_room : (out : List ℕ) (number i : ℕ) (words : List ℕ) (place : ℕ) → number < 4294967296 → i < 4294967296
-    → ((k : ℕ) → get_or words k 0 < 4294967296) → 16384 ≤ length out
-    → Room out 0 (refused_listing number ++ refused_row_line i (get_or words place 0))
+pub row_room : (out : List ℕ) (number i : ℕ) (words : List ℕ) (place : ℕ) → number < 4294967296 → i < 4294967296 → ((k : ℕ) → get_or words k 0 < 4294967296) → 16384 ≤ length out → Room out 0 (refused_listing number ++ refused_row_line i (get_or words place 0))
 row_room out number i words place n p w l = let s = refused_row_short number i (get_or words place 0) n p (w place) in record { fits = omega arith }
 
 pub body_room : (out : List ℕ) (number b : ℕ) → number < 4294967296 → b < 4294967296 → 16384 ≤ length out → Room out 0 (refused_listing number ++ refused_body_line b)
@@ -80,23 +78,16 @@ module _ (rows bodies : ℕ) (numbers : List Float) (words : List ℕ) (masses c
   unfolding first_of count_of named_at
   first_row {i} = go (eqb number 6) (eqb number 27)
     where
-      go : (a b : Bool)
-          → (let n = cond a bodies (cond b (rule_count s) rows) in
-          cond (ltb (led n) n) (cond a (places.Body (led n)) (cond b (places.Rule (led n)) (places.Row (led n)))) places.None)
-          ≡ places.Row i
-          → i < rows
+      go : (a b : Bool) → (let n = cond a bodies (cond b (rule_count s) rows) in cond (ltb (led n) n) (cond a (places.Body (led n)) (cond b (places.Rule (led n)) (places.Row (led n)))) places.None) ≡ places.Row i → i < rows
       go true b h = bodies_no (ltb (led bodies) bodies) (led bodies) h
       go false true h = rules_no (ltb (led (rule_count s)) (rule_count s)) (led (rule_count s)) h
       go false false h = rows_only (ltb (led rows) rows) (led rows) (ltb-true (led rows) rows) h
 
   row_held : {i : ℕ} → place_in Position rows bodies numbers words masses centres s number limit ≡ places.Row i → 8 * i + 8 ≤ length words
   unfolding place_in place_of
-  row_held {i} = go (tables_fit Position rows bodies numbers words masses centres s)
-      (λ h. (given_is Position rows bodies numbers words masses centres s h).words) (eqb number 5 && (not (eqb rows 0) && eqb limit 0))
+  row_held {i} = go (tables_fit Position rows bodies numbers words masses centres s) (λ h. (given_is Position rows bodies numbers words masses centres s h).words) (eqb number 5 && (not (eqb rows 0) && eqb limit 0))
     where
-      go : (d : Bool) → (d ≡ true → length words ≡ 8 * rows) → (f : Bool)
-          → cond d (cond f places.Limit (first_of Position rows bodies numbers words masses centres s number)) places.None ≡ places.Row i
-          → 8 * i + 8 ≤ length words
+      go : (d : Bool) → (d ≡ true → length words ≡ 8 * rows) → (f : Bool) → cond d (cond f places.Limit (first_of Position rows bodies numbers words masses centres s number)) places.None ≡ places.Row i → 8 * i + 8 ≤ length words
       go true g false h = let l = first_row h in let w = g refl in omega arith
       go true g true h = limit_no h
       go false g f h = none_no h
@@ -112,8 +103,7 @@ module _ (t : Trailer) (numbers : List Float) (words : List ℕ) (masses centres
   pub row_inside : {i : ℕ} → place ≡ places.Row i → 8 * i + 6 < length words
   row_inside p = let h = row_held t.rows t.bodies numbers words masses centres (two_rules t.tolerance) number t.limit (sym e ∙ p) in omega arith
 
-  pub row_turned : {i : ℕ} → place ≡ places.Row i
-      → (refused_listing number ++ refused_row_line i (get_or words (8 * i + 6) 0)) ≡ gaps_turned (job_with t numbers words masses centres) number
+  pub row_turned : {i : ℕ} → place ≡ places.Row i → (refused_listing number ++ refused_row_line i (get_or words (8 * i + 6) 0)) ≡ gaps_turned (job_with t numbers words masses centres) number
   unfolding place_listing
   row_turned p = sym (ap (place_listing number words) p) ∙ listed
 

@@ -9,7 +9,7 @@ use lib.ListN.{length, get_or}
 use lib.Ieee.{Float}
 use borrow.Author.Tests.{leb-true, le-leb, eq-eqb, ne_eqb, eqb-true, not-true, not-false}
 use Rattle.loops.proofs.Both.{both}
-use Rattle.loops.specs.Run.{going, ended, on, check}
+use Rattle.loops.specs.Run.{going, ended, on, check, next}
 use Rattle.loops.specs.Judge.{judge, test}
 use Rattle.loops.proofs.Loop.{on_going, on_ended}
 use Rattle.position_delivery.specs.Outcome.{Lent, Outcome, Answer, proposal_of, committed_of, outcome_of}
@@ -108,20 +108,13 @@ module _ (file : List ℕ) (t : Trailer) (opened : opened_of file ≡ Passed t) 
       (r : masses ≡ section_masses file t.mass_offset t.spare t.bodies) (c : centres ≡ section_centres file t.mass_offset t.spare t.bodies) where
     read_is : job_with t numbers words masses centres ≡ job_with (trailer_of file) (file_numbers file) (file_words file) (file_masses file) (file_centres file)
     read_is =
-        rw (
-          p ∙ ap (λ (t : Trailer). section_numbers file t.row_offset t.rows) same,
-          q ∙ ap (λ (t : Trailer). section_words file t.row_offset t.rows) same,
-          r ∙ ap (λ (t : Trailer). section_masses file t.mass_offset t.spare t.bodies) same,
-          c ∙ ap (λ (t : Trailer). section_centres file t.mass_offset t.spare t.bodies) same,
-        )
+        rw (p ∙ ap (λ (t : Trailer). section_numbers file t.row_offset t.rows) same, q ∙ ap (λ (t : Trailer). section_words file t.row_offset t.rows) same, r ∙ ap (λ (t : Trailer). section_masses file t.mass_offset t.spare t.bodies) same, c ∙ ap (λ (t : Trailer). section_centres file t.mass_offset t.spare t.bodies) same)
         (ap (λ (t : Trailer). job_with t (file_numbers file) (file_words file) (file_masses file) (file_centres file)) same)
 
     -- what is read is the job, where 4 passes it
     pub sheet_read : not fit ≡ false → job_sheet sheet (job_with t numbers words masses centres) ≡ sheet_of sheet file
     unfolding sheet_of
-    sheet_read n = ap (job_sheet sheet)
-        (read_is ∙ ap (λ (t : Trailer). job_with t (file_numbers file) (file_words file) (file_masses file) (file_centres file)) (sym same)) ∙
-        sym (on_going _ _ _ (passed_job file (sym (judged_passed file refl opened four n))))
+    sheet_read n = ap (job_sheet sheet) (read_is ∙ ap (λ (t : Trailer). job_with t (file_numbers file) (file_words file) (file_masses file) (file_centres file)) (sym same)) ∙ sym (on_going _ _ _ (passed_job file (sym (judged_passed file refl opened four n))))
 
     -- and where it does not, the row is one of those read
     pub sheet_turned : not fit ≡ true → turned_of sheet (job_with t numbers words masses centres) 4 ≡ sheet_of sheet file
@@ -135,19 +128,7 @@ module _ {t : Trailer} {numbers words masses centres solution impulses newCentre
   pub solve_fits_lem : {k : ℕ} → k ≡ t.rows → job_fits Position t.rows t.bodies t.mode numbers words masses solution impulses centres newCentres 6 2 k 0 ≡ true
   unfolding job_fits counts_fit lengths.table_fits rules_lent rule_lengths_fit centres_lent
   solve_fits_lem e = let n = r.few_rows in let b = r.few_bodies in
-      rw (
-        le-leb t.rows 512 (omega arith),
-        le-leb t.bodies 256 (omega arith),
-        le-leb t.mode 2 r.mode_known,
-        eq-eqb _ _ r.numbers_long,
-        eq-eqb _ _ r.words_long,
-        eq-eqb _ _ r.masses_long,
-        eq-eqb _ _ r.solution_long,
-        eq-eqb _ _ r.impulses_long,
-        eq-eqb _ _ r.centres_long,
-        eq-eqb _ _ r.new_centres_long,
-        eq-eqb _ _ e,
-      )
+      rw (le-leb t.rows 512 (omega arith), le-leb t.bodies 256 (omega arith), le-leb t.mode 2 r.mode_known, eq-eqb _ _ r.numbers_long, eq-eqb _ _ r.words_long, eq-eqb _ _ r.masses_long, eq-eqb _ _ r.solution_long, eq-eqb _ _ r.impulses_long, eq-eqb _ _ r.centres_long, eq-eqb _ _ r.new_centres_long, eq-eqb _ _ e)
 
   pub check_room : CheckRoom t numbers words masses centres solution
   check_room = record {
@@ -161,37 +142,14 @@ module _ {t : Trailer} {numbers words masses centres solution impulses newCentre
   }
 
 check_fits_lem : {t : Trailer} {numbers words masses centres solution : ℕ} → CheckRoom t numbers words masses centres solution
-    → {k : ℕ} → k ≡ t.rows → given_fits Position t.rows t.bodies
-    (record {
-      numbers = numbers;
-      words = words;
-      masses = masses;
-      beside = centres;
-      multipliers = solution;
-      rule_words = 6;
-      rule_tolerances = 2;
-      rule_numbers = k;
-    })
-    ≡ true
+    → {k : ℕ} → k ≡ t.rows → given_fits Position t.rows t.bodies (record { numbers = numbers; words = words; masses = masses; beside = centres; multipliers = solution; rule_words = 6; rule_tolerances = 2; rule_numbers = k }) ≡ true
 unfolding given_fits table_fits rule_lengths_fit
 check_fits_lem {t} r e = let n = r.few_rows in let b = r.few_bodies in
-    rw (
-      le-leb t.rows 512 (omega arith),
-      le-leb t.bodies 256 (omega arith),
-      eq-eqb _ _ r.numbers_long,
-      eq-eqb _ _ r.words_long,
-      eq-eqb _ _ r.masses_long,
-      eq-eqb _ _ r.centres_long,
-      eq-eqb _ _ r.solution_long,
-      eq-eqb _ _ e,
-    )
+    rw (le-leb t.rows 512 (omega arith), le-leb t.bodies 256 (omega arith), eq-eqb _ _ r.numbers_long, eq-eqb _ _ r.words_long, eq-eqb _ _ r.masses_long, eq-eqb _ _ r.centres_long, eq-eqb _ _ r.solution_long, eq-eqb _ _ e)
 
 -- the lent slices keep their lengths
-pub room_after : {t : Trailer}
-    {numbers words masses centres solution impulses newCentres numbers' words' masses' centres' solution' impulses' newCentres' : ℕ}
-    → JobRoom t numbers words masses centres solution impulses newCentres
-    → numbers' ≡ numbers → words' ≡ words → masses' ≡ masses → centres' ≡ centres → solution' ≡ solution → impulses' ≡ impulses →
-    newCentres' ≡ newCentres → JobRoom t numbers' words' masses' centres' solution' impulses' newCentres'
+pub room_after : {t : Trailer} {numbers words masses centres solution impulses newCentres numbers' words' masses' centres' solution' impulses' newCentres' : ℕ} → JobRoom t numbers words masses centres solution impulses newCentres
+    → numbers' ≡ numbers → words' ≡ words → masses' ≡ masses → centres' ≡ centres → solution' ≡ solution → impulses' ≡ impulses → newCentres' ≡ newCentres → JobRoom t numbers' words' masses' centres' solution' impulses' newCentres'
 room_after r a b c d e f g = rw (a, b, c, d, e, f, g) r
 
 -- ---- the list
@@ -206,15 +164,11 @@ pub le_of : {n rows rows' : ℕ} → rows' ≡ rows → rows ≡ n → n ≤ row
 le_of e f = omega arith
 
 -- it matters where the verdict is 1
-listing_same : (count : ℕ) (flag : Bool) (gap carried : Maxima) (number rows : ℕ) {a b : List ℕ} {x y : List Float}
-    → (number ≡ 1 → (a ≡ b) × (x ≡ y))
-    → margin_listing count flag gap carried number rows a x ≡ margin_listing count flag gap carried number rows b y
+listing_same : (count : ℕ) (flag : Bool) (gap carried : Maxima) (number rows : ℕ) {a b : List ℕ} {x y : List Float} → (number ≡ 1 → (a ≡ b) × (x ≡ y)) → margin_listing count flag gap carried number rows a x ≡ margin_listing count flag gap carried number rows b y
 unfolding margin_listing
 listing_same count flag gap carried number rows {a} {b} {x} {y} h = go (eqb number 1) (eqb-true number 1)
   where
-    go : (d : Bool) → (d ≡ true → number ≡ 1)
-        → head_lines count flag gap carried number ++ cond d (margin_lines a x rows) []
-        ≡ head_lines count flag gap carried number ++ cond d (margin_lines b y rows) []
+    go : (d : Bool) → (d ≡ true → number ≡ 1) → head_lines count flag gap carried number ++ cond d (margin_lines a x rows) [] ≡ head_lines count flag gap carried number ++ cond d (margin_lines b y rows) []
     go true e = let (p, q) = h (e refl) in rw (p, q)
     go false e = refl
 
@@ -222,12 +176,10 @@ listing_same count flag gap carried number rows {a} {b} {x} {y} h = go (eqb numb
 
 -- by the two rules
 abbrev pub closing_at : Trailer → List Float → List ℕ → List Float → List Float → List Float → Closing
-closing_at t numbers words masses centres solution = closing_of (table_of t.rows t.bodies numbers words masses) (coefficients solution)
-    (two_rules t.tolerance) (centres_finite (centres_in t.bodies centres))
+closing_at t numbers words masses centres solution = closing_of (table_of t.rows t.bodies numbers words masses) (coefficients solution) (two_rules t.tolerance) (centres_finite (centres_in t.bodies centres))
 
 abbrev pub fits_at : Trailer → List Float → List ℕ → List Float → List Float → List Float → List ℕ → Bool
-fits_at t numbers words masses centres solution rule_numbers = let rules = two_rules t.tolerance in given_fits Position t.rows t.bodies
-    (table_lengths numbers words masses centres solution rules.words rules.tolerances rule_numbers)
+fits_at t numbers words masses centres solution rule_numbers = let rules = two_rules t.tolerance in given_fits Position t.rows t.bodies (table_lengths numbers words masses centres solution rules.words rules.tolerances rule_numbers)
 
 module _ (t : Trailer) (numbers : List Float) (words : List ℕ) (masses centres solution : List Float) (rule_numbers : List ℕ)
     (room : CheckRoom t (length numbers) (length words) (length masses) (length centres) (length solution)) (l : length rule_numbers ≡ t.rows) {answer : CheckAnswer} where
@@ -237,53 +189,34 @@ module _ (t : Trailer) (numbers : List Float) (words : List ℕ) (masses centres
     closing_is = rw (e, check_fits_lem room l)
 
     pub printed_is : (impulses newCentres : List Float) (r : PositionPcgResult) {gap : Maxima} {number : ℕ} → gap ≡ gap_of answer → number ≡ number_of answer
-        → listing_of r.iterations r.converged gap (carried_by r) number t.rows t.bodies numbers impulses t.spare newCentres ≡
-        printed_of (job_with t numbers words masses centres) r numbers solution impulses newCentres
+        → listing_of r.iterations r.converged gap (carried_by r) number t.rows t.bodies numbers impulses t.spare newCentres ≡ printed_of (job_with t numbers words masses centres) r numbers solution impulses newCentres
     unfolding printed_of
-    printed_is impulses newCentres r g n = rw (g, n)
-        (ap
-        (λ (a : CheckAnswer).
-        listing_of r.iterations r.converged (gap_of a) (carried_by r) (number_of a) t.rows t.bodies numbers impulses t.spare
-        newCentres)
-        closing_is)
+    printed_is impulses newCentres r g n = rw (g, n) (ap (λ (a : CheckAnswer). listing_of r.iterations r.converged (gap_of a) (carried_by r) (number_of a) t.rows t.bodies numbers impulses t.spare newCentres) closing_is)
 
   -- with room for the list, and what is told of it
   module _ {fits : Bool} (f : fits ≡ true) {listRows listRowsAfter : List ℕ} {listNumbers listNumbersAfter : List Float} {ruleNumbersAfter : List ℕ}
-      (h : MarginsAlone (fits && fits_at t numbers words masses centres solution rule_numbers) (two_rules t.tolerance)
-      (closing_at t numbers words masses centres solution) answer rule_numbers ruleNumbersAfter listRows listNumbers listRowsAfter
-      listNumbersAfter)
-    where
-      answered_is : answer ≡ check_of (fits_at t numbers words masses centres solution rule_numbers) (closing_at t numbers words masses centres solution)
-      answered_is = rw f at h.checked.answered
+      (h : MarginsAlone (fits && fits_at t numbers words masses centres solution rule_numbers) (two_rules t.tolerance) (closing_at t numbers words masses centres solution) answer rule_numbers ruleNumbersAfter listRows listNumbers listRowsAfter listNumbersAfter) where
+    answered_is : answer ≡ check_of (fits_at t numbers words masses centres solution rule_numbers) (closing_at t numbers words masses centres solution)
+    answered_is = rw f at h.checked.answered
 
-      -- no refusal has the number of a verdict
-      closed_is : (a : CheckAnswer) → answer ≡ a → number_of a ≡ 1 → (g : Maxima) × (answer ≡ checks.Closed g)
-      closed_is (checks.Closed g) e n = (g, e)
-      closed_is (checks.Open g) e n = absurd (let z : ◌≡◌ {A = ℕ} 0 1 = n in omega arith)
-      closed_is (checks.Refused k) e n = absurd
-          (let above = refusal_above (fits && fits_at t numbers words masses centres solution rule_numbers)
-          (closing_at t numbers words masses centres solution) (rules_above _ _) (lent_above Position true) k
-          ((h.checked.means.refused k).0 e) in
-          omega arith)
+    -- no refusal has the number of a verdict
+    closed_is : (a : CheckAnswer) → answer ≡ a → number_of a ≡ 1 → (g : Maxima) × (answer ≡ checks.Closed g)
+    closed_is (checks.Closed g) e n = (g, e)
+    closed_is (checks.Open g) e n = absurd (let z : ◌≡◌ {A = ℕ} 0 1 = n in omega arith)
+    closed_is (checks.Refused k) e n = absurd (let above = refusal_above (fits && fits_at t numbers words masses centres solution rule_numbers) (closing_at t numbers words masses centres solution) (rules_above _ _) (lent_above Position true) k ((h.checked.means.refused k).0 e) in omega arith)
 
-      -- so that each row which is printed is one of the table
-      pub rows_small : {number : ℕ} → number ≡ number_of answer → number ≡ 1 → (k : ℕ) → k < t.rows → get_or listRowsAfter k 0 < 4294967296
-      rows_small m e k p =
-          let (g, c) = closed_is answer refl (sym m ∙ e) in
-          let below = (h.told.listed g c).listed.within k p in
-          let few = room.few_rows in omega arith
+    -- so that each row which is printed is one of the table
+    pub rows_small : {number : ℕ} → number ≡ number_of answer → number ≡ 1 → (k : ℕ) → k < t.rows → get_or listRowsAfter k 0 < 4294967296
+    rows_small m e k p =
+        let (g, c) = closed_is answer refl (sym m ∙ e) in
+        let below = (h.told.listed g c).listed.within k p in
+        let few = room.few_rows in omega arith
 
-      pub margins_printed_lem : (r : PositionPcgResult) {gap : Maxima} {number : ℕ} → gap ≡ gap_of answer → number ≡ number_of answer
-          → margin_listing r.iterations r.converged gap (carried_by r) number t.rows listRowsAfter listNumbersAfter ≡ margins_printed (job_with t numbers words masses centres) r numbers solution
-      unfolding margins_printed
-      margins_printed_lem r g n = listing_same _ _ _ _ _ _ (λ e. let (m, c) = closed_is answer refl (sym n ∙ e) in h.told.answered m c)
-          ∙ rw (g, n)
-          (ap
-          (λ (a : CheckAnswer).
-          margin_listing r.iterations r.converged (gap_of a) (carried_by r) (number_of a) t.rows
-          (margin_rows (closing_at t numbers words masses centres solution))
-          (margin_numbers (closing_at t numbers words masses centres solution)))
-          (closing_is answered_is))
+    pub margins_printed_lem : (r : PositionPcgResult) {gap : Maxima} {number : ℕ} → gap ≡ gap_of answer → number ≡ number_of answer
+        → margin_listing r.iterations r.converged gap (carried_by r) number t.rows listRowsAfter listNumbersAfter ≡ margins_printed (job_with t numbers words masses centres) r numbers solution
+    unfolding margins_printed
+    margins_printed_lem r g n = listing_same _ _ _ _ _ _ (λ e. let (m, c) = closed_is answer refl (sym n ∙ e) in h.told.answered m c)
+        ∙ rw (g, n) (ap (λ (a : CheckAnswer). margin_listing r.iterations r.converged (gap_of a) (carried_by r) (number_of a) t.rows (margin_rows (closing_at t numbers words masses centres solution)) (margin_numbers (closing_at t numbers words masses centres solution))) (closing_is answered_is))
 
 -- ---- the solve
 
@@ -301,9 +234,7 @@ module _ (sheet : Sheet) (j : Job) (solution impulses newCentres : List Float) w
   abbrev before : Lent
   before = record { numbers = j.numbers; solution = solution; impulses = impulses; centres = newCentres }
 
-  accepted_in : (a : Answer) {r : PositionPcgResult} {after : Lent}
-      → outcome_of j.rows before a ≡ record { answer = answers.Accepted r; lent = after }
-      → shown_of sheet j r after.numbers after.solution after.impulses after.centres ≡ answer_sheet sheet j a
+  accepted_in : (a : Answer) {r : PositionPcgResult} {after : Lent} → outcome_of j.rows before a ≡ record { answer = answers.Accepted r; lent = after } → shown_of sheet j r after.numbers after.solution after.impulses after.centres ≡ answer_sheet sheet j a
   unfolding proposal_of committed_of answer_sheet
   accepted_in (going ((flag, count, v), f)) e = let p = accepted_same (ap (λ (o : Outcome). o.answer) e) in let q = ap (λ (o : Outcome). o.lent) e in rw (p, ← q)
   accepted_in (ended n) e = never (sym (ap (λ (o : Outcome). o.answer) e))
@@ -334,32 +265,22 @@ module _ (sheet : Sheet) (t : Trailer) (numbers : List Float) (words : List ℕ)
   job_odd n = rw (← p, not-true fit n)
 
   module _ (n : not fit ≡ false) (solution impulses newCentres : List Float) {fits : Bool} (f : fits ≡ true) {answer : PositionPcg} {after : Lent} {rule_numbers ruleNumbers' : List ℕ}
-      (s : JobSolved fits (two_rules t.tolerance)
-      (position_of t.rows t.bodies numbers words masses centres (two_rules t.tolerance) plus_zero) (mode_of t.mode plus_zero)
-      t.limit 24 t.rows (record { numbers = numbers; solution = solution; impulses = impulses; centres = newCentres }) after
-      rule_numbers ruleNumbers' answer)
-    where
-      solved : outcome_of t.rows (record { numbers = numbers; solution = solution; impulses = impulses; centres = newCentres })
-          (answer_to (job_with t numbers words masses centres)) ≡ record { answer = answer; lent = after }
-      unfolding answer_to test check on
-      solved = rw (← p, not-false fit n, ← f) s.answered
+      (s : JobSolved fits (two_rules t.tolerance) (position_of t.rows t.bodies numbers words masses centres (two_rules t.tolerance) plus_zero) (mode_of t.mode plus_zero) t.limit 24 t.rows (record { numbers = numbers; solution = solution; impulses = impulses; centres = newCentres }) after rule_numbers ruleNumbers' answer) where
+    solved : outcome_of t.rows (record { numbers = numbers; solution = solution; impulses = impulses; centres = newCentres }) (answer_to (job_with t numbers words masses centres)) ≡ record { answer = answer; lent = after }
+    unfolding answer_to test check on
+    solved = rw (← p, not-false fit n, ← f) s.answered
 
-      pub job_refused : {n : ℕ} → answer ≡ answers.Refused n
-          → turned_of sheet (job_with t after.numbers words masses centres) n ≡ job_sheet sheet (job_with t numbers words masses centres)
-      unfolding job_sheet
-      job_refused {n} e =
-          let o = solved ∙ ap (λ a. record { answer = a; lent = after }) e in
-          let j = job_with t numbers words masses centres in
-          ap (λ (l : List Float). turned_of sheet (job_with t l words masses centres) n)
-          (rows_kept sheet j solution impulses newCentres (answer_to j) o) ∙ refused_in sheet j solution impulses newCentres (answer_to j) o
+    pub job_refused : {n : ℕ} → answer ≡ answers.Refused n → turned_of sheet (job_with t after.numbers words masses centres) n ≡ job_sheet sheet (job_with t numbers words masses centres)
+    unfolding job_sheet
+    job_refused {n} e =
+        let o = solved ∙ ap (λ a. record { answer = a; lent = after }) e in
+        let j = job_with t numbers words masses centres in
+        ap (λ (l : List Float). turned_of sheet (job_with t l words masses centres) n) (rows_kept sheet j solution impulses newCentres (answer_to j) o) ∙ refused_in sheet j solution impulses newCentres (answer_to j) o
 
-      pub job_accepted : {r : PositionPcgResult} (rows : List Float) → answer ≡ answers.Accepted r
-          → shown_of sheet (job_with t rows words masses centres) r after.numbers after.solution after.impulses after.centres
-          ≡ job_sheet sheet (job_with t numbers words masses centres)
-      unfolding job_sheet
-      job_accepted {r} rows e = numbers_aside sheet t rows numbers words masses centres r after.numbers after.solution after.impulses after.centres
-          ∙ accepted_in sheet (job_with t numbers words masses centres) solution impulses newCentres
-          (answer_to (job_with t numbers words masses centres)) (solved ∙ ap (λ a. record { answer = a; lent = after }) e)
+    pub job_accepted : {r : PositionPcgResult} (rows : List Float) → answer ≡ answers.Accepted r → shown_of sheet (job_with t rows words masses centres) r after.numbers after.solution after.impulses after.centres ≡ job_sheet sheet (job_with t numbers words masses centres)
+    unfolding job_sheet
+    job_accepted {r} rows e = numbers_aside sheet t rows numbers words masses centres r after.numbers after.solution after.impulses after.centres
+        ∙ accepted_in sheet (job_with t numbers words masses centres) solution impulses newCentres (answer_to (job_with t numbers words masses centres)) (solved ∙ ap (λ a. record { answer = a; lent = after }) e)
 
 -- ---- which program prints
 module _ (j : Job) (r : PositionPcgResult) (numbers solution impulses newCentres : List Float) where

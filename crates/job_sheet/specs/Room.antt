@@ -1,6 +1,5 @@
 -- What is known of a job that passed 1 to 4, and of the memory lent for it.
-use Rattle.std.specs.Prelude.{ℕ, ◌*◌, ◌≤◌, ◌≡◌, List, Float}
-use Rattle.loops.specs.Cleared.{Free}
+use Rattle.std.specs.Prelude.{ℕ, ◌*◌, ◌≤◌, ◌≡◌}
 use Rattle.job_file.specs.declared.trailer.Trailer.{Trailer}
 
 -- the counts and the mode, and the lengths of numbers, words, masses, centres, solution, impulses and new centres
@@ -25,10 +24,3 @@ pub record CheckRoom (t : Trailer) (numbers words masses centres solution : ℕ)
   pub masses_long : masses ≡ 10 * t.bodies
   pub centres_long : centres ≡ 3 * t.bodies
   pub solution_long : solution ≡ t.rows
-
--- what the solve of a sheet leaves in the lent memory is free: the sheet has told it
-pub record JobFree (numbers numbers₁ solution solution₁ impulses impulses₁ centres centres₁ : List Float) : Type 0 where
-  pub numbers_free : Free numbers numbers₁
-  pub solution_free : Free solution solution₁
-  pub impulses_free : Free impulses impulses₁
-  pub centres_free : Free centres centres₁

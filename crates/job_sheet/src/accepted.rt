@@ -24,14 +24,9 @@ pub fn write_accepted(
     new_centres: &[f64],
     out: &mut [u8],
 ) -> usize
-    requires job_room { JobRoom trailer (length numbers.now) (length words.now) (length masses.now)
-        (length centres.now) (length solution.now) (length impulses.now) (length new_centres.now) }
+    requires job_room { JobRoom trailer (length numbers.now) (length words.now) (length masses.now) (length centres.now) (length solution.now) (length impulses.now) (length new_centres.now) }
     requires in_bounds { 16384 ≤ length out.old }
-    ensures { Wrote out.old 0
-        (printed_of
-        (job_with trailer numbers.now words.now masses.now centres.now)
-        res numbers.now solution.now impulses.now new_centres.now)
-        out.new result }
+    ensures { Wrote out.old 0 (printed_of (job_with trailer numbers.now words.now masses.now centres.now) res numbers.now solution.now impulses.now new_centres.now) out.new result }
 {
     let mut rule_numbers: [u32; 128] = [0; 128];
     let rows = trailer.rows as usize;

@@ -24,14 +24,9 @@ fn write_measured(
     gaps: &mut [f64],
     out: &mut [u8],
 ) -> usize
-    requires check_room { CheckRoom trailer (length numbers.now) (length words.now) (length masses.now)
-        (length centres.now) (length solution.now) }
+    requires check_room { CheckRoom trailer (length numbers.now) (length words.now) (length masses.now) (length centres.now) (length solution.now) }
     requires rule_numbers_len { (length rule_numbers.old ≡ trailer.rows) × (length gaps.old ≡ trailer.rows) × (16384 ≤ length out.old) }
-    ensures { Wrote out.old 0
-        (gaps_printed
-        (job_with trailer numbers.now words.now masses.now centres.now)
-        res numbers.now solution.now)
-        out.new result }
+    ensures { Wrote out.old 0 (gaps_printed (job_with trailer numbers.now words.now masses.now centres.now) res numbers.now solution.now) out.new result }
 {
     let answer = gaps_small(
         trailer.rows,
@@ -75,14 +70,9 @@ pub fn write_gaps_accepted(
     solution: &[f64],
     out: &mut [u8],
 ) -> usize
-    requires check_room { CheckRoom trailer (length numbers.now) (length words.now) (length masses.now)
-        (length centres.now) (length solution.now) }
+    requires check_room { CheckRoom trailer (length numbers.now) (length words.now) (length masses.now) (length centres.now) (length solution.now) }
     requires in_bounds { 16384 ≤ length out.old }
-    ensures { Wrote out.old 0
-        (gaps_printed
-        (job_with trailer numbers.now words.now masses.now centres.now)
-        res numbers.now solution.now)
-        out.new result }
+    ensures { Wrote out.old 0 (gaps_printed (job_with trailer numbers.now words.now masses.now centres.now) res numbers.now solution.now) out.new result }
 {
     let mut rule_numbers: [u32; 128] = [0; 128];
     let mut gaps: [f64; 128] = [0.0; 128];

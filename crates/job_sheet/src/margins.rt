@@ -25,15 +25,9 @@ fn write_listed(
     margins: &mut [f64],
     out: &mut [u8],
 ) -> usize
-    requires check_room { CheckRoom trailer (length numbers.now) (length words.now) (length masses.now)
-        (length centres.now) (length solution.now) }
-    requires rule_numbers_len { (length rule_numbers.old ≡ trailer.rows) × (length margin_rows.old ≡ trailer.rows)
-        × (length margins.old ≡ trailer.rows) × (16384 ≤ length out.old) }
-    ensures { Wrote out.old 0
-        (margins_printed
-        (job_with trailer numbers.now words.now masses.now centres.now)
-        res numbers.now solution.now)
-        out.new result }
+    requires check_room { CheckRoom trailer (length numbers.now) (length words.now) (length masses.now) (length centres.now) (length solution.now) }
+    requires rule_numbers_len { (length rule_numbers.old ≡ trailer.rows) × (length margin_rows.old ≡ trailer.rows) × (length margins.old ≡ trailer.rows) × (16384 ≤ length out.old) }
+    ensures { Wrote out.old 0 (margins_printed (job_with trailer numbers.now words.now masses.now centres.now) res numbers.now solution.now) out.new result }
 {
     let answer = margins_small(
         trailer.rows,
@@ -76,14 +70,9 @@ pub fn write_margins_accepted(
     solution: &[f64],
     out: &mut [u8],
 ) -> usize
-    requires check_room { CheckRoom trailer (length numbers.now) (length words.now) (length masses.now)
-        (length centres.now) (length solution.now) }
+    requires check_room { CheckRoom trailer (length numbers.now) (length words.now) (length masses.now) (length centres.now) (length solution.now) }
     requires in_bounds { 16384 ≤ length out.old }
-    ensures { Wrote out.old 0
-        (margins_printed
-        (job_with trailer numbers.now words.now masses.now centres.now)
-        res numbers.now solution.now)
-        out.new result }
+    ensures { Wrote out.old 0 (margins_printed (job_with trailer numbers.now words.now masses.now centres.now) res numbers.now solution.now) out.new result }
 {
     let mut rule_numbers: [u32; 128] = [0; 128];
     let mut margin_rows: [u32; 128] = [0; 128];

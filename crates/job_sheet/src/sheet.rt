@@ -4,7 +4,7 @@ ghost use Rattle.job_file.specs.Job.{job_with, opened_of};
 ghost use Rattle.job_file.specs.declared.judge.FileJudged.TheVariants.{Passed};
 ghost use Rattle.listing.specs.Written.{Wrote};
 ghost use Rattle.job_sheet.specs.Sheet.{job_sheet, sheet_of};
-ghost use Rattle.job_sheet.specs.Room.{JobRoom, JobFree};
+ghost use Rattle.job_sheet.specs.Room.{JobRoom};
 
 use crate::solved::write_solved;
 use crate::turned::write_turned;
@@ -29,15 +29,9 @@ pub fn write_job(
     new_centres: &mut [f64],
     out: &mut [u8],
 ) -> usize
-    requires job_room { JobRoom trailer (length numbers.old) (length words.now) (length masses.now)
-        (length centres.now) (length solution.old) (length impulses.old) (length new_centres.old) }
+    requires job_room { JobRoom trailer (length numbers.old) (length words.now) (length masses.now) (length centres.now) (length solution.old) (length impulses.old) (length new_centres.old) }
     requires in_bounds { 16384 ≤ length out.old }
-    ensures wrote { Wrote out.old 0
-        (job_sheet sheet
-        (job_with trailer numbers.old words.now masses.now centres.now))
-        out.new result }
-    ensures job_free { JobFree numbers.old numbers.new solution.old solution.new
-        impulses.old impulses.new new_centres.old new_centres.new }
+    ensures { Wrote out.old 0 (job_sheet sheet (job_with trailer numbers.old words.now masses.now centres.now)) out.new result }
 {
     if !tolerances_fit(trailer.tolerance) {
         return write_turned(sheet, 26, trailer, numbers, words, masses, centres, out);
@@ -96,8 +90,7 @@ fn write_file(
     out: &mut [u8],
 ) -> usize
     requires file_value { opened_of file.now ≡ Passed trailer }
-    requires job_room { JobRoom trailer (length numbers.old) (length words.old) (length masses.old)
-        (length centres.old) (length solution.old) (length impulses.old) (length new_centres.old) }
+    requires job_room { JobRoom trailer (length numbers.old) (length words.old) (length masses.old) (length centres.old) (length solution.old) (length impulses.old) (length new_centres.old) }
     requires in_bounds { 16384 ≤ length out.old }
     ensures { Wrote out.old 0 (sheet_of sheet file.now) out.new result }
 {

@@ -25,14 +25,9 @@ pub fn write_solved(
     new_centres: &[f64],
     out: &mut [u8],
 ) -> usize
-    requires job_room { JobRoom trailer (length numbers.now) (length words.now) (length masses.now)
-        (length centres.now) (length solution.now) (length impulses.now) (length new_centres.now) }
+    requires job_room { JobRoom trailer (length numbers.now) (length words.now) (length masses.now) (length centres.now) (length solution.now) (length impulses.now) (length new_centres.now) }
     requires in_bounds { 16384 ≤ length out.old }
-    ensures { Wrote out.old 0
-        (shown_of sheet
-        (job_with trailer numbers.now words.now masses.now centres.now)
-        res numbers.now solution.now impulses.now new_centres.now)
-        out.new result }
+    ensures { Wrote out.old 0 (shown_of sheet (job_with trailer numbers.now words.now masses.now centres.now) res numbers.now solution.now impulses.now new_centres.now) out.new result }
 {
     match sheet {
         Sheet::Job => write_accepted(

@@ -21,11 +21,7 @@ fn write_gaps_turned(
     out: &mut [u8],
 ) -> usize
     requires { 16384 ≤ length out.old }
-    ensures { Wrote out.old 0
-        (gaps_turned
-        (job_with trailer numbers.now words.now masses.now centres.now)
-        number)
-        out.new result }
+    ensures { Wrote out.old 0 (gaps_turned (job_with trailer numbers.now words.now masses.now centres.now) number) out.new result }
 {
     let place = first_refused(
         Kind::Position,
@@ -60,11 +56,7 @@ pub fn write_turned(
     out: &mut [u8],
 ) -> usize
     requires { 16384 ≤ length out.old }
-    ensures { Wrote out.old 0
-        (turned_of sheet
-        (job_with trailer numbers.now words.now masses.now centres.now)
-        number)
-        out.new result }
+    ensures { Wrote out.old 0 (turned_of sheet (job_with trailer numbers.now words.now masses.now centres.now) number) out.new result }
 {
     match sheet {
         Sheet::Job => write_refusal(number, out),

@@ -2,8 +2,7 @@
 ghost use Rattle.std.specs.Prelude.{◌≤◌, length};
 
 use job_file::{FileJudged, Trailer, read_job};
-use kapitsa_c::kapitsa_solve_position;
-use kapitsa_check_c::kapitsa_closing_check;
+use kapitsa_c::{kapitsa_closing_check, kapitsa_solve_position};
 use kapitsa_joint::Maxima;
 use libc::STDOUT_FILENO;
 use listing::{write_listing, write_refusal};
@@ -119,8 +118,7 @@ fn write_accepted(
     new_centres: &[f64],
     out: &mut [u8],
 ) -> usize
-    requires { (216 ≤ length numbers.now) × (24 ≤ length impulses.now) × (12 ≤ length new_centres.now)
-        × (16384 ≤ length out.old) }
+    requires { (216 ≤ length numbers.now) × (24 ≤ length impulses.now) × (12 ≤ length new_centres.now) × (16384 ≤ length out.old) }
     ensures { result ≤ length out.old }
 {
     write_listing(

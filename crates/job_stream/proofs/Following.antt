@@ -52,12 +52,7 @@ is_ready bytes h = go (leb 4 (length bytes)) (ltb 65540 (frame_length bytes)) (l
 module _ (bytes more : List ℕ) (h : 4 ≤ length bytes) where
   half_same : half_at (bytes ++ more) 0 ≡ half_at bytes 0
   unfolding half_at
-  half_same = rw (
-    get_or-append bytes more 0 0 (omega arith),
-    get_or-append bytes more 0 1 (omega arith),
-    get_or-append bytes more 0 2 (omega arith),
-    get_or-append bytes more 0 3 (omega arith),
-  )
+  half_same = rw (get_or-append bytes more 0 0 (omega arith), get_or-append bytes more 0 1 (omega arith), get_or-append bytes more 0 2 (omega arith), get_or-append bytes more 0 3 (omega arith))
 
   pub frame_same : frame_length (bytes ++ more) ≡ frame_length bytes
   unfolding frame_length
@@ -84,15 +79,11 @@ module _ (bytes more : List ℕ) (r : Ready bytes) where
       joined = length-append bytes more
 
       -- refused, whether or not the file is there by now
-      refused : 65540 < frame_length bytes → (b : Bool) → leb (frame_length (bytes ++ more)) (length (bytes ++ more)) ≡ b
-          → cond b (sheet_of sheets.Job (front_file (bytes ++ more))) (refused_listing 1) ≡ refused_listing 1
+      refused : 65540 < frame_length bytes → (b : Bool) → leb (frame_length (bytes ++ more)) (length (bytes ++ more)) ≡ b → cond b (sheet_of sheets.Job (front_file (bytes ++ more))) (refused_listing 1) ≡ refused_listing 1
       refused s true t = long_refused _ (front_file (bytes ++ more)) (file_long (bytes ++ more) (leb-true _ _ t) (rw e s))
       refused s false t = refl
 
-      go : (b : Bool) → leb (frame_length bytes) (length bytes) ≡ b
-          → cond (leb (frame_length (bytes ++ more)) (length (bytes ++ more))) (sheet_of sheets.Job (front_file (bytes ++ more)))
-          (refused_listing 1)
-          ≡ cond b (sheet_of sheets.Job (front_file bytes)) (refused_listing 1)
+      go : (b : Bool) → leb (frame_length bytes) (length bytes) ≡ b → cond (leb (frame_length (bytes ++ more)) (length (bytes ++ more))) (sheet_of sheets.Job (front_file (bytes ++ more))) (refused_listing 1) ≡ cond b (sheet_of sheets.Job (front_file bytes)) (refused_listing 1)
       go true t =
           let l = leb-true (frame_length bytes) (length bytes) t in
           let s : frame_length (bytes ++ more) ≤ length (bytes ++ more) = rw (e, joined) (omega arith) in

@@ -98,9 +98,7 @@ module _ {n : ℕ} {bytes out : List ℕ} {next at end : ℕ} {out' : List ℕ} 
       let t : length (chunk_text n bytes (next - n)) ≡ end = omega arith in
       rw (e, t, ← g.placed, going_length)
 
-  pub going_on : {out'' : List ℕ} {at' end' : ℕ} → goes_on next (length out' - end) (drop at bytes) ≡ true
-      → Wrote out' end (front_text next (drop at bytes)) out'' end' → at' ≡ at + frame_length (drop at bytes)
-      → Going n bytes out (next + 1) at' end' out''
+  pub going_on : {out'' : List ℕ} {at' end' : ℕ} → goes_on next (length out' - end) (drop at bytes) ≡ true → Wrote out' end (front_text next (drop at bytes)) out'' end' → at' ≡ at + frame_length (drop at bytes) → Going n bytes out (next + 1) at' end' out''
   unfolding place chunk_text pieces every
   going_on h w q =
       let a = g.above in

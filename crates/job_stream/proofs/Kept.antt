@@ -22,13 +22,11 @@ pub moves_few : {u v : Unread} {more : ℕ} {space space' : List ℕ} {r : Print
 moves_few m e = (rw e at m.moved).3
 
 -- all that was read is passed over
-pub passed_over : (u : Unread) (more : ℕ) (space : List ℕ) → u.kept + more ≤ u.passed
-    → Moves u more space space (To record { number = u.number; kept = 0; passed = u.passed - (u.kept + more) })
+pub passed_over : (u : Unread) (more : ℕ) (space : List ℕ) → u.kept + more ≤ u.passed → Moves u more space space (To record { number = u.number; kept = 0; passed = u.passed - (u.kept + more) })
 unfolding printed_jobs leading place
 passed_over u more space h = let z : u.kept + more - u.passed ≡ 0 = omega arith in record { moved = (rw z (omega arith), rw z (omega arith), rw z (omega arith), omega arith, refl) }
 
-front_kept : (space : List ℕ) (to kept : ℕ) → kept ≤ to → to ≤ length space
-    → take kept (paste space 0 (drop (to - kept) space) (to - (to - kept))) ≡ take kept (drop (to - kept) space)
+front_kept : (space : List ℕ) (to kept : ℕ) → kept ≤ to → to ≤ length space → take kept (paste space 0 (drop (to - kept) space) (to - (to - kept))) ≡ take kept (drop (to - kept) space)
 front_kept space to kept h l =
     let k : to - (to - kept) ≡ kept = omega arith in
     let q : 0 + kept ≡ kept = omega arith in
@@ -36,8 +34,7 @@ front_kept space to kept h l =
     ∙ ap (λ m. take m (paste space 0 (drop (to - kept) space) kept)) (sym q)
     ∙ take-paste space 0 (drop (to - kept) space) kept (omega arith) (rw length-drop (omega arith))
 
-pub moves_on : {u v : Unread} {r : Printed} (more : ℕ) (space : List ℕ) {space' : List ℕ} → Leaves r u.number (unread_part u more space)
-    → r ≡ To v → u.passed < u.kept + more → u.kept + more ≤ length space
+pub moves_on : {u v : Unread} {r : Printed} (more : ℕ) (space : List ℕ) {space' : List ℕ} → Leaves r u.number (unread_part u more space) → r ≡ To v → u.passed < u.kept + more → u.kept + more ≤ length space
     → space' ≡ paste space 0 (drop (u.kept + more - v.kept) space) (u.kept + more - (u.kept + more - v.kept)) → Moves u more space space' (To v)
 moves_on {u} {v} more space f e p l s =
     let t = leaves_left f e in

@@ -18,8 +18,7 @@ behind s from j h =
     ∙ get_or-drop (0 + j) s from 0
     ∙ ap (λ k. get_or s k 0) t
 
-pub moved_more : (s : List ℕ) {space : List ℕ} (from j : ℕ) → space ≡ paste s 0 (drop from s) j → from + j < length s
-    → set space j (get_or space (from + j) 0) ≡ paste s 0 (drop from s) (j + 1)
+pub moved_more : (s : List ℕ) {space : List ℕ} (from j : ℕ) → space ≡ paste s 0 (drop from s) j → from + j < length s → set space j (get_or space (from + j) 0) ≡ paste s 0 (drop from s) (j + 1)
 moved_more s {space} from j e h =
     let l : j < length (drop from s) = rw length-drop (omega arith) in
     let z : 0 + j ≡ j = omega arith in

@@ -99,8 +99,7 @@ module _ {n : ℕ} {bytes : List ℕ} {next at : ℕ} (u : Upto n bytes next at)
               rw o at (call_passed n (length out) bytes (next - n) (i - (next - n)) (rw (m, ← z) (omega arith)))
 
   -- it ends at a job that can't be printed
-  pub upto_left : {kept passed : ℕ} → goes_on next 16399 (drop at bytes) ≡ false → kept ≡ length bytes - at → passed ≡ at - length bytes
-      → kept < 65540 → LeftOf n bytes record { number = next; kept = kept; passed = passed }
+  pub upto_left : {kept passed : ℕ} → goes_on next 16399 (drop at bytes) ≡ false → kept ≡ length bytes - at → passed ≡ at - length bytes → kept < 65540 → LeftOf n bytes record { number = next; kept = kept; passed = passed }
   unfolding printed_jobs printable
   upto_left {kept} {passed} f a b c =
       let above = u.above in

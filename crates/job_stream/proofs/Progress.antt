@@ -58,8 +58,7 @@ module _ {n : ℕ} {bytes out out' : List ℕ} {r : Jobs} (w : JobsWritten n byt
   wrote_within = let a = w.text.within in let b = w.text.after in let l = length_wrote w.text in omega arith
 
 -- of the bytes that were lent from `at` on
-module _ (bytes : List ℕ) (at : ℕ) {n : ℕ} {out out' : List ℕ} {r : Jobs} (w : JobsWritten n (rest_of at bytes) out out' r) (e : r.next ≤ n)
-    (h : n < 4294967295) (l : 16399 ≤ length out) (s : at < length bytes) where
+module _ (bytes : List ℕ) (at : ℕ) {n : ℕ} {out out' : List ℕ} {r : Jobs} (w : JobsWritten n (rest_of at bytes) out out' r) (e : r.next ≤ n) (h : n < 4294967295) (l : 16399 ≤ length out) (s : at < length bytes) where
   rest_long : length (rest_of at bytes) ≡ length bytes - at
   rest_long = rw (rest_is at bytes, length-drop)
 

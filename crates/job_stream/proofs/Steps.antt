@@ -28,8 +28,7 @@ each_ready n room bytes i l =
     ((every_iff (goes_at n room bytes) (leading (goes_at n room bytes) (length bytes))).0 (leading_passes (goes_at n room bytes) (length bytes)) i l))
 
 -- Of a stream that goes on with these bytes: what a call wrote, and then what is printed from where it has read to.
-pub chunk_step : {n : ℕ} {bytes out out' : List ℕ} {r : Jobs} → JobsWritten n bytes out out' r → (more : List ℕ)
-    → stream_from n (bytes ++ more) ≡ take r.wrote out' ++ stream_from r.next (drop r.read (bytes ++ more))
+pub chunk_step : {n : ℕ} {bytes out out' : List ℕ} {r : Jobs} → JobsWritten n bytes out out' r → (more : List ℕ) → stream_from n (bytes ++ more) ≡ take r.wrote out' ++ stream_from r.next (drop r.read (bytes ++ more))
 chunk_step {n} {bytes} {out} {out'} {r} w more =
     let k = jobs_in n (length out) bytes in
     let each = each_ready n (length out) bytes in
@@ -41,12 +40,9 @@ chunk_step {n} {bytes} {out} {out'} {r} w more =
 -- what is not ready has too few bytes, and never more than are kept
 pub unready : (bytes : List ℕ) → ready bytes ≡ false → (length bytes < frame_length bytes) × (length bytes < 65540)
 unfolding ready
-unready bytes h = go (leb 4 (length bytes)) (ltb 65540 (frame_length bytes)) (leb (frame_length bytes) (length bytes))
-    (leb-false 4 (length bytes)) (ltb-false 65540 (frame_length bytes)) (leb-false (frame_length bytes) (length bytes)) h
+unready bytes h = go (leb 4 (length bytes)) (ltb 65540 (frame_length bytes)) (leb (frame_length bytes) (length bytes)) (leb-false 4 (length bytes)) (ltb-false 65540 (frame_length bytes)) (leb-false (frame_length bytes) (length bytes)) h
   where
-    go : (a b c : Bool) → (a ≡ false → length bytes < 4) → (b ≡ false → frame_length bytes ≤ 65540)
-        → (c ≡ false → length bytes < frame_length bytes) → a && (b || c) ≡ false
-        → (length bytes < frame_length bytes) × (length bytes < 65540)
+    go : (a b c : Bool) → (a ≡ false → length bytes < 4) → (b ≡ false → frame_length bytes ≤ 65540) → (c ≡ false → length bytes < frame_length bytes) → a && (b || c) ≡ false → (length bytes < frame_length bytes) × (length bytes < 65540)
     go false b c f g k t = let l = f refl in let s = frame_long bytes in (omega arith, omega arith)
     go true true c f g k t = absurd (false≢true (sym t))
     go true false true f g k t = absurd (false≢true (sym t))

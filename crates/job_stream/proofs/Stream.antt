@@ -22,9 +22,7 @@ unfolding stream_by
 counted zero zero n bytes h g = refl
 counted zero (suc k) n bytes h g = rw (le-ltb 0 (length bytes) h)
 counted (suc j) zero n bytes h g = rw (le-ltb 0 (length bytes) g)
-counted (suc j) (suc k) n bytes h g = go (ltb 0 (length bytes))
-    (counted j k (suc n) (drop (frame_length bytes) bytes) (rw length-drop (omega (arith, frame_long bytes)))
-    (rw length-drop (omega (arith, frame_long bytes))))
+counted (suc j) (suc k) n bytes h g = go (ltb 0 (length bytes)) (counted j k (suc n) (drop (frame_length bytes) bytes) (rw length-drop (omega (arith, frame_long bytes))) (rw length-drop (omega (arith, frame_long bytes))))
   where
     go : (b : Bool) → stream_by j (suc n) (drop (frame_length bytes) bytes) ≡ stream_by k (suc n) (drop (frame_length bytes) bytes)
         → cond b (front_text n bytes ++ stream_by j (suc n) (drop (frame_length bytes) bytes)) [] ≡ cond b (front_text n bytes ++ stream_by k (suc n) (drop (frame_length bytes) bytes)) []
@@ -47,8 +45,7 @@ stream_front n bytes h =
     ∙ ap (λ l. front_text n bytes ++ l) (counted (length bytes) (length (drop (frame_length bytes) bytes)) (suc n) (drop (frame_length bytes) bytes) (rw length-drop (omega arith)) (omega arith))
 
 -- of k jobs that begin within the stream, and of what is left after them
-pub stream_pieces : (n : ℕ) (bytes : List ℕ) (k : ℕ) → ((i : ℕ) → i < k → place bytes i < length bytes)
-    → stream_from n bytes ≡ chunk_text n bytes k ++ stream_from (n + k) (rest bytes k)
+pub stream_pieces : (n : ℕ) (bytes : List ℕ) (k : ℕ) → ((i : ℕ) → i < k → place bytes i < length bytes) → stream_from n bytes ≡ chunk_text n bytes k ++ stream_from (n + k) (rest bytes k)
 unfolding chunk_text pieces place
 stream_pieces n bytes zero h = let e : n + 0 ≡ n = omega arith in rw e
 stream_pieces n bytes (suc k) h =

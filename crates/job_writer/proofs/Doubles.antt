@@ -35,9 +35,7 @@ module _ (file : List ℕ) where
   unfolding section_centres section_centre_bits centre_number
   centres_doubles = map_tabulate (of_bits binary64) _ _
 
-pub doubles_back : (job : JobBits) (f : Fits job)
-    → job_of (written job)
-    ≡ going (job_with (trailer_written job f) (doubles_of job.numbers) job.words (doubles_of job.masses) (doubles_of job.centres))
+pub doubles_back : (job : JobBits) (f : Fits job) → job_of (written job) ≡ going (job_with (trailer_written job f) (doubles_of job.numbers) job.words (doubles_of job.masses) (doubles_of job.centres))
 doubles_back job f =
     let file = written job in
     let n = numbers_doubles file ∙ ap doubles_of (numbers_back job f) in

@@ -43,11 +43,7 @@ module _ (job : JobBits) (f : Fits job) where
   written_1 =
       let l = length_written job in
       let s = written_short job f in
-      rw (trailer_back job f)
-      (all_true (le-leb 48 (length (written job)) (omega arith))
-      (all_true
-      (all_true (le-leb (length (written job)) 65536 (omega arith)) (eq-eqb (length (written job)) (length (written job)) refl))
-      (le-leb job.head.layout 1 f.layout_known)))
+      rw (trailer_back job f) (all_true (le-leb 48 (length (written job)) (omega arith)) (all_true (all_true (le-leb (length (written job)) 65536 (omega arith)) (eq-eqb (length (written job)) (length (written job)) refl)) (le-leb job.head.layout 1 f.layout_known)))
 
   pub written_2 : passes2 (written job) ≡ true
   unfolding passes2 sections_fit limits_fit apart ends_fit
@@ -71,16 +67,11 @@ module _ (job : JobBits) (f : Fits job) where
   pub written_4 : passes4 (written job) ≡ true
   unfolding passes4 keys_fit
   written_4 =
-      rw (trailer_back job f)
-      (every_same _ _ job.head.rows
-      (λ i h. ap words_fit_of (sym (words_at (written job) 0 job.head.rows i h) ∙ ap (λ w. words_of w (8 * i)) (words_back job f))) ∙
-      f.words_fit_lem)
+      rw (trailer_back job f) (every_same _ _ job.head.rows (λ i h. ap words_fit_of (sym (words_at (written job) 0 job.head.rows i h) ∙ ap (λ w. words_of w (8 * i)) (words_back job f))) ∙ f.words_fit_lem)
 
   pub written_judged : judged_of (written job) ≡ Passed (trailer_of (written job))
   unfolding judged_of answer_of AllPass
   written_judged = on_going _ _ _ ((judge_going (tests (written job))).1 (written_1, (written_2, (written_3, (written_4, tt)))))
 
   pub written_job : job_of (written job) ≡ going (job_with (trailer_written job f) (file_numbers (written job)) (file_words (written job)) (file_masses (written job)) (file_centres (written job)))
-  written_job = passed_job (written job) written_judged ∙ ap
-      (λ t. going (job_with t (file_numbers (written job)) (file_words (written job)) (file_masses (written job)) (file_centres (written job))))
-      (trailer_back job f)
+  written_job = passed_job (written job) written_judged ∙ ap (λ t. going (job_with t (file_numbers (written job)) (file_words (written job)) (file_masses (written job)) (file_centres (written job)))) (trailer_back job f)

@@ -39,8 +39,7 @@ module _ (job : JobBits) where
   length_rows = length_pieces (written_row job.numbers job.words) 248 (length_row job.numbers job.words) job.head.rows
 
   length_masses : length (pieces (written_mass job.masses job.centres job.head.layout) job.head.bodies) ≡ mass_bytes job.head.layout * job.head.bodies
-  length_masses = length_pieces (written_mass job.masses job.centres job.head.layout) (mass_bytes job.head.layout)
-      (length_mass job.masses job.centres job.head.layout) job.head.bodies
+  length_masses = length_pieces (written_mass job.masses job.centres job.head.layout) (mass_bytes job.head.layout) (length_mass job.masses job.centres job.head.layout) job.head.bodies
 
   pub length_written : length (written job) ≡ file_length job.head.rows job.head.bodies job.head.layout
   unfolding written
@@ -53,14 +52,11 @@ module _ (job : JobBits) where
   row_stands i h =
       stands_piece (written_row job.numbers job.words) 248 (length_row job.numbers job.words) job.head.rows i h (stands_left _ (stands_left _ (stands_whole (written job))))
 
-  pub mass_stands : (b : ℕ) → b < job.head.bodies
-      → Stands (written job) (248 * job.head.rows + mass_bytes job.head.layout * b)
-      (written_mass job.masses job.centres job.head.layout b)
+  pub mass_stands : (b : ℕ) → b < job.head.bodies → Stands (written job) (248 * job.head.rows + mass_bytes job.head.layout * b) (written_mass job.masses job.centres job.head.layout b)
   unfolding written
   mass_stands b h =
       stands_piece (written_mass job.masses job.centres job.head.layout) (mass_bytes job.head.layout) (length_mass job.masses job.centres job.head.layout) job.head.bodies b h
-      (stands_next (pieces (written_row job.numbers job.words) job.head.rows) (248 * job.head.rows) (248 * job.head.rows)
-      length_rows (omega arith) (stands_left _ (stands_whole (written job))))
+      (stands_next (pieces (written_row job.numbers job.words) job.head.rows) (248 * job.head.rows) (248 * job.head.rows) length_rows (omega arith) (stands_left _ (stands_whole (written job))))
 
   pub trailer_stands : Stands (written job) (trailer_at (written job)) (written_trailer job.head)
   unfolding written
@@ -123,5 +119,4 @@ module _ {file : List ℕ} {at : ℕ} (h : JobHead) (s : Stands file at (written
 
   pub spare_stands : Stands file (at + 44) (little 4 h.layout)
   unfolding written_end
-  spare_stands = stands_next (little 8 h.linear ++ little 8 h.angular ++ little 4 (file_length h.rows h.bodies h.layout)) 20
-      (at + 44) (simp (length-append, length_little)) (omega arith) end_stands
+  spare_stands = stands_next (little 8 h.linear ++ little 8 h.angular ++ little 4 (file_length h.rows h.bodies h.layout)) 20 (at + 44) (simp (length-append, length_little)) (omega arith) end_stands

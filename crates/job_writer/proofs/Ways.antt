@@ -84,9 +84,7 @@ module _ (h : JobHead) (n w m c o : ℕ) where
     unfolding sizes_fit
     sizes_both = both (head_fits h) (lengths_fit h n w m c o) p
 
-    lengths :
-        ((((eqb n (27 * h.rows) ≡ true) × (eqb w (8 * h.rows) ≡ true)) × (eqb m (10 * h.bodies) ≡ true)) × (eqb c (3 * h.bodies) ≡ true))
-        × (eqb o (file_length h.rows h.bodies h.layout) ≡ true)
+    lengths : ((((eqb n (27 * h.rows) ≡ true) × (eqb w (8 * h.rows) ≡ true)) × (eqb m (10 * h.bodies) ≡ true)) × (eqb c (3 * h.bodies) ≡ true)) × (eqb o (file_length h.rows h.bodies h.layout) ≡ true)
     unfolding lengths_fit
     lengths =
         let two = eqb n (27 * h.rows) && eqb w (8 * h.rows) in

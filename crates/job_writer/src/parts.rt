@@ -8,8 +8,7 @@ use crate::head::JobHead;
 
 // Row i: 27 doubles, then 8 words.
 fn put_row(out: &mut [u8], at: usize, numbers: &[u64], words: &[u32], i: usize) -> usize
-    requires { (27 * i + 27 ≤ length numbers.now) × (8 * i + 8 ≤ length words.now)
-        × Room out.old at (written_row numbers.now words.now i) }
+    requires { (27 * i + 27 ≤ length numbers.now) × (8 * i + 8 ≤ length words.now) × Room out.old at (written_row numbers.now words.now i) }
     ensures { Wrote out.old at (written_row numbers.now words.now i) out.new result }
 {
     let next = put_doubles(out, at, numbers, 27 * i, 27);
@@ -17,10 +16,8 @@ fn put_row(out: &mut [u8], at: usize, numbers: &[u64], words: &[u32], i: usize) 
 }
 
 pub fn put_rows(out: &mut [u8], at: usize, numbers: &[u64], words: &[u32], rows: usize) -> usize
-    requires { (27 * rows ≤ length numbers.now) × (8 * rows ≤ length words.now)
-        × Room out.old at (pieces (written_row numbers.now words.now) rows) }
-    ensures { Wrote out.old at (pieces (written_row numbers.now words.now) rows)
-        out.new result }
+    requires { (27 * rows ≤ length numbers.now) × (8 * rows ≤ length words.now) × Room out.old at (pieces (written_row numbers.now words.now) rows) }
+    ensures { Wrote out.old at (pieces (written_row numbers.now words.now) rows) out.new result }
 {
     let mut next = at;
     let mut i = 0;
@@ -40,8 +37,7 @@ fn put_mass(
     layout: usize,
     b: usize,
 ) -> usize
-    requires { (layout ≤ 1) × (10 * b + 10 ≤ length masses.now) × (3 * b + 3 ≤ length centres.now)
-        × Room out.old at (written_mass masses.now centres.now layout b) }
+    requires { (layout ≤ 1) × (10 * b + 10 ≤ length masses.now) × (3 * b + 3 ≤ length centres.now) × Room out.old at (written_mass masses.now centres.now layout b) }
     ensures { Wrote out.old at (written_mass masses.now centres.now layout b) out.new result }
 {
     let next = put_doubles(out, at, masses, 10 * b, 10);
@@ -56,10 +52,8 @@ pub fn put_masses(
     layout: usize,
     bodies: usize,
 ) -> usize
-    requires { (layout ≤ 1) × (10 * bodies ≤ length masses.now) × (3 * bodies ≤ length centres.now)
-        × Room out.old at (pieces (written_mass masses.now centres.now layout) bodies) }
-    ensures { Wrote out.old at
-        (pieces (written_mass masses.now centres.now layout) bodies) out.new result }
+    requires { (layout ≤ 1) × (10 * bodies ≤ length masses.now) × (3 * bodies ≤ length centres.now) × Room out.old at (pieces (written_mass masses.now centres.now layout) bodies) }
+    ensures { Wrote out.old at (pieces (written_mass masses.now centres.now layout) bodies) out.new result }
 {
     let mut next = at;
     let mut b = 0;

@@ -19,20 +19,8 @@ pub fn fill_job(
     centres: &[u64],
     out: &mut [u8],
 ) -> usize
-    requires { Lent head numbers.now words.now masses.now centres.now
-        × Room out.old 0
-        (written
-        (record { head = head; numbers = numbers.now; words = words.now; masses = masses.now; centres = centres.now })) }
-    ensures { Wrote out.old 0
-        (written
-        (record {
-          head = head;
-          numbers = numbers.now;
-          words = words.now;
-          masses = masses.now;
-          centres = centres.now;
-        }))
-        out.new result }
+    requires { Lent head numbers.now words.now masses.now centres.now × Room out.old 0 (written (record { head = head; numbers = numbers.now; words = words.now; masses = masses.now; centres = centres.now })) }
+    ensures { Wrote out.old 0 (written (record { head = head; numbers = numbers.now; words = words.now; masses = masses.now; centres = centres.now })) out.new result }
 {
     let rows = put_rows(out, 0, numbers, words, head.rows as usize);
     let masses_end = put_masses(
@@ -55,17 +43,7 @@ pub fn write_job(
     centres: &[u64],
     out: &mut [u8],
 ) -> u32
-    ensures { Answers
-        (written_of
-        (record {
-          head = head;
-          numbers = numbers.now;
-          words = words.now;
-          masses = masses.now;
-          centres = centres.now;
-        })
-        (length out.old))
-        out.old result out.new }
+    ensures { Answers (written_of (record { head = head; numbers = numbers.now; words = words.now; masses = masses.now; centres = centres.now }) (length out.old)) out.old result out.new }
 {
     if !limits_fit(head) {
         return 2;

@@ -39,21 +39,9 @@ module _ (bodies : ℕ) (r : ConstraintRow) (h : is_valid_of bodies r ≡ true) 
     where
       first : (s : RowScalars) → scalars_finite_of s ≡ true → finite s.error ≡ true
       first s e =
-          let (a, _) = both
-          ((((((finite s.error && finite s.target_velocity) && finite s.force_bias) && finite s.compliance) && finite
-          s.damping)
-          && finite s.accumulated_multiplier)
-          && finite s.accumulated_impulse)
-          (finite s.cached_velocity_effective_mass) e in
-          let (b, _) = both
-          (((((finite s.error && finite s.target_velocity) && finite s.force_bias) && finite s.compliance) && finite
-          s.damping)
-          && finite s.accumulated_multiplier)
-          (finite s.accumulated_impulse) a in
-          let (c, _) = both
-          ((((finite s.error && finite s.target_velocity) && finite s.force_bias) && finite s.compliance) && finite
-          s.damping)
-          (finite s.accumulated_multiplier) b in
+          let (a, _) = both ((((((finite s.error && finite s.target_velocity) && finite s.force_bias) && finite s.compliance) && finite s.damping) && finite s.accumulated_multiplier) && finite s.accumulated_impulse) (finite s.cached_velocity_effective_mass) e in
+          let (b, _) = both (((((finite s.error && finite s.target_velocity) && finite s.force_bias) && finite s.compliance) && finite s.damping) && finite s.accumulated_multiplier) (finite s.accumulated_impulse) a in
+          let (c, _) = both ((((finite s.error && finite s.target_velocity) && finite s.force_bias) && finite s.compliance) && finite s.damping) (finite s.accumulated_multiplier) b in
           let (d, _) = both (((finite s.error && finite s.target_velocity) && finite s.force_bias) && finite s.compliance) (finite s.damping) c in
           let (f, _) = both ((finite s.error && finite s.target_velocity) && finite s.force_bias) (finite s.compliance) d in
           let (g, _) = both (finite s.error && finite s.target_velocity) (finite s.force_bias) f in

@@ -66,9 +66,7 @@ fn row_opens_at(numbers: &[f64], words: &[u32], i: usize) -> bool
 
 pub fn rows_open(numbers: &[f64], words: &[u32], rows: usize) -> bool
     requires { (27 * rows ≤ length numbers.now) × (8 * rows ≤ length words.now) }
-    ensures { result
-        ≡ every (λ i. opens_of (scalars_of numbers.now (27 * i + 15)) (words_of words.now (8 * i)))
-        rows }
+    ensures { result ≡ every (λ i. opens_of (scalars_of numbers.now (27 * i + 15)) (words_of words.now (8 * i))) rows }
 {
     let mut i = 0;
     while i < rows {
@@ -101,10 +99,7 @@ fn velocity_row_opens_at(numbers: &[f64], words: &[u32], i: usize) -> bool
 
 pub fn velocity_rows_open(numbers: &[f64], words: &[u32], rows: usize) -> bool
     requires { (27 * rows ≤ length numbers.now) × (8 * rows ≤ length words.now) }
-    ensures { result
-        ≡ every
-        (λ i. velocity_opens_of (scalars_of numbers.now (27 * i + 15)) (words_of words.now (8 * i)))
-        rows }
+    ensures { result ≡ every (λ i. velocity_opens_of (scalars_of numbers.now (27 * i + 15)) (words_of words.now (8 * i))) rows }
 {
     let mut i = 0;
     while i < rows {

@@ -2,7 +2,7 @@
 use Prim.Native.Nat.{ℕ, ◌<◌}
 use mathlib.Core.Path.{◌≡◌, refl, sym, ap, subst, ◌∙◌}
 use mathlib.Core.Bool.{Bool, true, false, not, ◌&&◌, cond}
-use mathlib.Core.List.{List}
+use mathlib.Core.List.{List, [], ◌∷◌}
 use mathlib.Core.Logic.{◌↔◌}
 use native.Mathlib.Omega.{arith}
 use mir.Val.{bool_byte}
@@ -27,7 +27,6 @@ use Rattle.position_delivery.proofs.Answered.{entry_means, entry_refused}
 use Rattle.loops.specs.Run.{Goes, going, ended}
 use Rattle.loops.proofs.Inverse.{apart as apart-runs}
 use Rattle.loops.proofs.Both.{both}
-use Rattle.loops.proofs.Few.{both_set}
 use Rattle.kapitsa_c.specs.Solving.{Told, told_of, told_fits, SolveTold}
 
 abbrev outcome : PositionPcg → Lent → Outcome
@@ -44,25 +43,19 @@ module _ (s : Rules) (p : Problem) (mode : Mode) (limit place n : ℕ) (before :
       go (ended k) h = (λ e. let z = h k refl in absurd (omega arith), λ g. absurd (apart-runs _ g.1 refl))
 
   -- an accepted answer is told of a solve that goes through
-  goes_accepted : (fits : Bool) (after : Lent) (a : PositionPcg)
-      → outcome_at place n before (solve (method_of fits p mode) limit) ≡ outcome a after → Goes (solve (method_of fits p mode) limit)
-      → (r : PositionPcgResult) × (a ≡ answers.Accepted r)
+  goes_accepted : (fits : Bool) (after : Lent) (a : PositionPcg) → outcome_at place n before (solve (method_of fits p mode) limit) ≡ outcome a after → Goes (solve (method_of fits p mode) limit) → (r : PositionPcgResult) × (a ≡ answers.Accepted r)
   unfolding proposal_of
   goes_accepted fits after a e (((flag, count, v), f), g) = let told = ap (λ (o : Outcome). o.answer) e in (result_of flag count f, sym (rw g at told))
 
-  told_so : (fits : Bool) (after : Lent) (after-named : List ℕ) (told : Told) (a : PositionPcg) (workAfter : WorkMemory)
-      → outcome_at place n before (solve (method_of fits p mode) limit) ≡ outcome a after → told ≡ told_of a counts maxima
-      → After fits work workAfter
-      → after-named ≡ named_by a p.rule n named → ((r : PositionPcgResult) → a ≡ answers.Accepted r → Ruled s p.table) → SolveTold fits
-      s p mode limit place n before after named after-named counts maxima told work workAfter
+  told_so : (fits : Bool) (after : Lent) (after-named : List ℕ) (told : Told) (a : PositionPcg) (workAfter : WorkMemory) → outcome_at place n before (solve (method_of fits p mode) limit) ≡ outcome a after → told ≡ told_of a counts maxima → After fits work workAfter
+      → after-named ≡ named_by a p.rule n named → ((r : PositionPcgResult) → a ≡ answers.Accepted r → Ruled s p.table) → SolveTold fits s p mode limit place n before after named after-named counts maxima told work workAfter
   told_so fits after after-named told a workAfter e h w l ruled =
       record {
         answered = h ∙ ap (λ (o : Outcome). told_of o.answer counts maxima) (sym e);
         delivered = sym (ap (λ (o : Outcome). o.lent) e);
         means = subst (λ (o : Outcome). MeaningAt (method_of fits p mode) limit place n before o.answer after) (sym e) (entry_means (method_of fits p mode) limit place n before after a e);
         in_place = problem_in_place p mode fits limit apart;
-        zero = subst (λ (x : ℕ). (x ≡ 0) ↔ Goes (solve (method_of fits p mode) limit))
-            (sym (ap (λ (x : Told). x.number) (h ∙ ap (λ (o : Outcome). told_of o.answer counts maxima) (sym e)))) (told_zero fits);
+        zero = subst (λ (x : ℕ). (x ≡ 0) ↔ Goes (solve (method_of fits p mode) limit)) (sym (ap (λ (x : Told). x.number) (h ∙ ap (λ (o : Outcome). told_of o.answer counts maxima) (sym e)))) (told_zero fits);
         named = l ∙ ap (λ (o : Outcome). named_by o.answer p.rule n named) (sym e);
         ruled = λ g. let (r, c) = goes_accepted fits after a e g in ruled r c;
         memory = w;
@@ -79,16 +72,11 @@ module _ (s : Rules) (p : Problem) (mode : Mode) (limit place n : ℕ) (before :
     untouched : not b ≡ true → After (told && rest) work work
     untouched h = record { emptied = λ q. absurd (let z : true ≡ false = sym q ∙ unfit h in let y : ◌≡◌ {A = ℕ} 0 1 = cc in omega arith); untouched = λ _. refl }
 
-    pub untold : not b ≡ true
-        → SolveTold (told && rest) s p mode limit place n before before named named counts maxima
-        (record { number = 3; counts = counts; maxima = maxima }) work work
+    pub untold : not b ≡ true → SolveTold (told && rest) s p mode limit place n before before named named counts maxima (record { number = 3; counts = counts; maxima = maxima }) work work
     unfolding told_of
-    untold h = told_so (told && rest) before named (record { number = 3; counts = counts; maxima = maxima }) (answers.Refused 3) work
-        (entry_refused p mode place n limit before false (told && rest) (sym (unfit h)) refl) refl (untouched h) refl
-        (λ r a. absurd (let z : ◌≡◌ {A = ℕ} 0 1 = cc in omega arith))
+    untold h = told_so (told && rest) before named (record { number = 3; counts = counts; maxima = maxima }) (answers.Refused 3) work (entry_refused p mode place n limit before false (told && rest) (sym (unfit h)) refl) refl (untouched h) refl (λ r a. absurd (let z : ◌≡◌ {A = ℕ} 0 1 = cc in omega arith))
 
-    pub told_on : (after : Lent) (after-named : List ℕ) (r : Told) (a : PositionPcg) (workAfter : WorkMemory) → not b ≡ false
-        → SolveRuled rest s p mode limit place n before after named after-named a work workAfter → r ≡ told_of a counts maxima
+    pub told_on : (after : Lent) (after-named : List ℕ) (r : Told) (a : PositionPcg) (workAfter : WorkMemory) → not b ≡ false → SolveRuled rest s p mode limit place n before after named after-named a work workAfter → r ≡ told_of a counts maxima
         → SolveTold (told && rest) s p mode limit place n before after named after-named counts maxima r work workAfter
     told_on after after-named r a workAfter h q w = rw (← fit h) (told_so rest after after-named r a workAfter q.held.answered w q.held.memory q.named q.ruled)
 
@@ -100,19 +88,19 @@ told_lengths counts maxima b e h =
     (eqb-true (length counts) 2 c, eqb-true (length maxima) 2 m)
 
 -- ---- `tell`
+pub both_set : {X : Type 0} (xs : List X) (a b : X) → length xs ≡ 2 → set (set xs 0 a) 1 b ≡ a ∷ b ∷ []
+both_set [] a b e = absurd (omega arith)
+both_set (x ∷ []) a b e = absurd (omega arith)
+both_set (x ∷ y ∷ []) a b e = refl
+both_set (x ∷ y ∷ z ∷ zs) a b e = absurd (omega arith)
+
 flag_byte : (b : Bool) → bool_byte b ≡ cond b 1 0
 flag_byte true = refl
 flag_byte false = refl
 
 module _ (a : PositionPcg) (counts : List ℕ) (maxima : List Float) where
   pub told_accepted : (r : PositionPcgResult) → a ≡ answers.Accepted r → (length counts ≡ 2) × (length maxima ≡ 2)
-      →
-      record {
-        number = 0;
-        counts = set (set counts 0 r.iterations) 1 (bool_byte r.converged);
-        maxima = set (set maxima 0 r.linear_residual_m) 1 r.angular_residual_rad;
-      }
-      ≡ told_of a counts maxima
+      → record { number = 0; counts = set (set counts 0 r.iterations) 1 (bool_byte r.converged); maxima = set (set maxima 0 r.linear_residual_m) 1 r.angular_residual_rad } ≡ told_of a counts maxima
   unfolding told_of
   told_accepted r e (hc, hm) = rw (e, flag_byte r.converged, both_set counts r.iterations (cond r.converged 1 0) hc, both_set maxima r.linear_residual_m r.angular_residual_rad hm)
 

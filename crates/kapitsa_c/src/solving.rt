@@ -21,8 +21,7 @@ pub fn told_fits(counts: &[u32], maxima: &[f64]) -> bool
 // Count and flag, and the two maxima; nothing where the answer is a refusal.
 pub fn tell(answer: PositionPcg, counts: &mut [u32], maxima: &mut [f64]) -> u32
     requires { (length counts.old ≡ 2) × (length maxima.old ≡ 2) }
-    ensures { record { number = result; counts = counts.new; maxima = maxima.new }
-        ≡ told_of answer counts.old maxima.old }
+    ensures { record { number = result; counts = counts.new; maxima = maxima.new } ≡ told_of answer counts.old maxima.old }
 {
     match answer {
         PositionPcg::Accepted(result) => {
@@ -72,40 +71,13 @@ pub extern "C" fn kapitsa_solve_position(
     order: &mut [u32],
     values: &mut [f64],
 ) -> u32
-    ensures { SolveTold
-        (told_fits counts.old maxima.old &&
-        ((rules_lent rows (length rule_words.now) (length rule_tolerances.now)
-        (length rule_numbers.old) && centres_lent bodies (length centres.now)
-        (length new_centres.old))
-        && passes3 rows bodies mode numbers.entry.now words.now masses.now
-        solution.old impulses.old
-        (work_memory jacobians.old links.old tolerances.old diagonal.old
-        residual.old pending.old direction.old product.old
-        body_impulses.old pattern.old order.old values.old)))
+    ensures { SolveTold (told_fits counts.old maxima.old && ((rules_lent rows (length rule_words.now) (length rule_tolerances.now) (length rule_numbers.old) && centres_lent bodies (length centres.now) (length new_centres.old)) && passes3 rows bodies mode numbers.entry.now words.now masses.now solution.old impulses.old (work_memory jacobians.old links.old tolerances.old diagonal.old residual.old pending.old direction.old product.old body_impulses.old pattern.old order.old values.old)))
         (rules_in rule_words.now rule_tolerances.now)
-        (position_of rows bodies numbers.entry.now words.now masses.now centres.now
-        (rules_in rule_words.now rule_tolerances.now) shift)
-        (mode_of mode shift) limit 24 rows
-        record {
-          numbers = numbers.entry.now;
-          solution = solution.old;
-          impulses = impulses.old;
-          centres = new_centres.old;
-        }
-        record {
-          numbers = numbers.exit.now;
-          solution = solution.new;
-          impulses = impulses.new;
-          centres = new_centres.new;
-        }
-        rule_numbers.old rule_numbers.new counts.old maxima.old
-        record { number = result; counts = counts.new; maxima = maxima.new }
-        (work_memory jacobians.old links.old tolerances.old diagonal.old
-        residual.old pending.old direction.old product.old
-        body_impulses.old pattern.old order.old values.old)
-        (work_memory jacobians.new links.new tolerances.new diagonal.new
-        residual.new pending.new direction.new product.new
-        body_impulses.new pattern.new order.new values.new) }
+        (position_of rows bodies numbers.entry.now words.now masses.now centres.now (rules_in rule_words.now rule_tolerances.now) shift) (mode_of mode shift) limit 24 rows
+        record { numbers = numbers.entry.now; solution = solution.old; impulses = impulses.old; centres = new_centres.old } record { numbers = numbers.exit.now; solution = solution.new; impulses = impulses.new; centres = new_centres.new }
+        rule_numbers.old rule_numbers.new counts.old maxima.old record { number = result; counts = counts.new; maxima = maxima.new }
+        (work_memory jacobians.old links.old tolerances.old diagonal.old residual.old pending.old direction.old product.old body_impulses.old pattern.old order.old values.old)
+        (work_memory jacobians.new links.new tolerances.new diagonal.new residual.new pending.new direction.new product.new body_impulses.new pattern.new order.new values.new) }
 {
     if !told_fits(counts, maxima) {
         return 3;

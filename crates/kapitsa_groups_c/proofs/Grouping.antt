@@ -28,13 +28,10 @@ abbrev Above : ℕ → Type 0
 Above n = 0 < n
 
 -- no refusal of a whole table has the number 0
-numbers_above : (kind : Kind) (fits : Bool) (rows bodies : ℕ) (numbers : List Float) (words : List ℕ) (masses centres given : List Float)
-    (rules : Rules) (shift : Float)
-    → Listed Above (whole_tests fits (solve_for kind rows bodies numbers words masses centres given rules shift))
+numbers_above : (kind : Kind) (fits : Bool) (rows bodies : ℕ) (numbers : List Float) (words : List ℕ) (masses centres given : List Float) (rules : Rules) (shift : Float) → Listed Above (whole_tests fits (solve_for kind rows bodies numbers words masses centres given rules shift))
 unfolding Listed
 numbers_above Position fits rows bodies numbers words masses centres given rules shift = (omega arith, (omega arith, (omega arith, (omega arith, (omega arith, (omega arith, (omega arith, tt)))))))
-numbers_above Velocity fits rows bodies numbers words masses centres given rules shift =
-    (omega arith, (omega arith, (omega arith, (omega arith, (omega arith, (omega arith, (omega arith, (omega arith, tt))))))))
+numbers_above Velocity fits rows bodies numbers words masses centres given rules shift = (omega arith, (omega arith, (omega arith, (omega arith, (omega arith, (omega arith, (omega arith, (omega arith, tt))))))))
 
 module _ (b : Bench) (before : Lending) (count : List ℕ) where
   abbrev tests : Bool → List (ℕ × Bool)
@@ -49,8 +46,7 @@ module _ (b : Bench) (before : Lending) (count : List ℕ) where
   told_zero fits (Groups groups) e = (λ _. (tt, e), λ _. refl)
   told_zero fits (Refused number) e = (λ z. let h = not_zero fits number e in absurd (omega arith), λ g. absurd (apart _ g.1 e))
 
-  groups_told : (fits : Bool) {after : Lending} {a : Grouping} {told : BenchTold} → GroupsSolved fits b before after a
-      → told ≡ bench_told a count → GroupsTold fits b before after count told
+  groups_told : (fits : Bool) {after : Lending} {a : Grouping} {told : BenchTold} → GroupsSolved fits b before after a → told ≡ bench_told a count → GroupsTold fits b before after count told
   groups_told fits {after} {a} {told} h w =
       record {
         answer = a;
@@ -74,8 +70,7 @@ module _ (b : Bench) (before : Lending) (count : List ℕ) where
     unfolding bench_told
     bench_untold h = groups_told (count_fits count && rest) (refused_3 (count_fits count && rest) (ap (λ (x : Bool). x && rest) (sym e ∙ not-true r h))) refl
 
-    pub bench_on : {after : Lending} {a : Grouping} {told : BenchTold} → not r ≡ false → GroupsSolved rest b before after a
-        → told ≡ bench_told a count → GroupsTold (count_fits count && rest) b before after count told
+    pub bench_on : {after : Lending} {a : Grouping} {told : BenchTold} → not r ≡ false → GroupsSolved rest b before after a → told ≡ bench_told a count → GroupsTold (count_fits count && rest) b before after count told
     bench_on {after} {a} h k w = groups_told (count_fits count && rest) (subst (λ (x : Bool). GroupsSolved x b before after a) (sym (ap (λ (x : Bool). x && rest) (sym e ∙ not-false r h))) k) w
 
 -- where it fits, it is one word

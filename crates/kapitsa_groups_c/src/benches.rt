@@ -54,22 +54,10 @@ pub extern "C" fn kapitsa_solve_groups(
     group_maxima: &mut [f64],
     group_count: &mut [u32],
 ) -> u32
-    ensures { GroupsTold
-        (count_fits group_count.old &&
-        (job_fits Position rows bodies mode (length numbers.old) (length words.now)
-        (length masses.now) (length solution.old) (length impulses.old)
-        (length centres.now) (length new_centres.old) (length rule_words.now)
-        (length rule_tolerances.now) (length rule_numbers.old) 0 && groups_lent rows
-        (length group_numbers.old) (length group_answers.old)
-        (length group_maxima.old)))
-        (bench_of Position rows bodies words.now masses.now centres.now []
-        (rules_in rule_words.now rule_tolerances.now) limit mode shift)
-        (lending_of numbers.old solution.old impulses.old new_centres.old
-        rule_numbers.old group_numbers.old group_answers.old
-        group_maxima.old)
-        (lending_of numbers.new solution.new impulses.new new_centres.new
-        rule_numbers.new group_numbers.new group_answers.new
-        group_maxima.new)
+    ensures { GroupsTold (count_fits group_count.old && (job_fits Position rows bodies mode (length numbers.old) (length words.now) (length masses.now) (length solution.old) (length impulses.old) (length centres.now) (length new_centres.old) (length rule_words.now) (length rule_tolerances.now) (length rule_numbers.old) 0 && groups_lent rows (length group_numbers.old) (length group_answers.old) (length group_maxima.old)))
+        (bench_of Position rows bodies words.now masses.now centres.now [] (rules_in rule_words.now rule_tolerances.now) limit mode shift)
+        (lending_of numbers.old solution.old impulses.old new_centres.old rule_numbers.old group_numbers.old group_answers.old group_maxima.old)
+        (lending_of numbers.new solution.new impulses.new new_centres.new rule_numbers.new group_numbers.new group_answers.new group_maxima.new)
         group_count.old record { number = result; count = group_count.new } }
 {
     if !count_fits(group_count) {
@@ -120,21 +108,10 @@ pub extern "C" fn kapitsa_solve_velocity_groups(
     group_maxima: &mut [f64],
     group_count: &mut [u32],
 ) -> u32
-    ensures { GroupsTold
-        (count_fits group_count.old &&
-        (job_fits Velocity rows bodies mode (length numbers.old) (length words.now)
-        (length masses.now) (length solution.old) (length impulses.old) 0 0
-        (length rule_words.now) (length rule_tolerances.now)
-        (length rule_numbers.old) (length given.now) && groups_lent rows
-        (length group_numbers.old) (length group_answers.old)
-        (length group_maxima.old)))
-        (bench_of Velocity rows bodies words.now masses.now [] given.now
-        (rules_in rule_words.now rule_tolerances.now) limit mode shift)
-        (lending_of numbers.old solution.old impulses.old []
-        rule_numbers.old group_numbers.old group_answers.old
-        group_maxima.old)
-        (lending_of numbers.new solution.new impulses.new [] rule_numbers.new
-        group_numbers.new group_answers.new group_maxima.new)
+    ensures { GroupsTold (count_fits group_count.old && (job_fits Velocity rows bodies mode (length numbers.old) (length words.now) (length masses.now) (length solution.old) (length impulses.old) 0 0 (length rule_words.now) (length rule_tolerances.now) (length rule_numbers.old) (length given.now) && groups_lent rows (length group_numbers.old) (length group_answers.old) (length group_maxima.old)))
+        (bench_of Velocity rows bodies words.now masses.now [] given.now (rules_in rule_words.now rule_tolerances.now) limit mode shift)
+        (lending_of numbers.old solution.old impulses.old [] rule_numbers.old group_numbers.old group_answers.old group_maxima.old)
+        (lending_of numbers.new solution.new impulses.new [] rule_numbers.new group_numbers.new group_answers.new group_maxima.new)
         group_count.old record { number = result; count = group_count.new } }
 {
     if !count_fits(group_count) {

@@ -30,8 +30,7 @@ module _ {dimension : ℕ → RowDimension} {size : ℕ → Float} {n : ℕ} whe
   unfolding maxima_by
   largest_none = record { within = omega arith; made = refl }
 
-  pub largest_more : {i : ℕ} {m after : Maxima} {d : RowDimension} {x : Float} → Largest dimension size n i m → i < n → d ≡ dimension i
-      → x ≡ size i → after ≡ raised_by d x m → Largest dimension size n (i + 1) after
+  pub largest_more : {i : ℕ} {m after : Maxima} {d : RowDimension} {x : Float} → Largest dimension size n i m → i < n → d ≡ dimension i → x ≡ size i → after ≡ raised_by d x m → Largest dimension size n (i + 1) after
   unfolding maxima_by
   largest_more {i} {m} {after} {d} {x} h l ed ex e = record {
     within = omega arith;

@@ -59,8 +59,7 @@ unfolding put_paired_of paired_of
 put_paired_same l b g h =
     let m = put_spread_of l (6 * b) g.linear in
     let n = put_spread_length l (6 * b) g.linear in
-    let x : spread_of (put_spread_of m (6 * b + 1) g.angular) (6 * b) ≡ g.linear = put_spread_other m (6 * b + 1) g.angular (6 * b)
-    (between (6 * b)) ∙ put_spread_same l (6 * b) g.linear (omega arith) in
+    let x : spread_of (put_spread_of m (6 * b + 1) g.angular) (6 * b) ≡ g.linear = put_spread_other m (6 * b + 1) g.angular (6 * b) (between (6 * b)) ∙ put_spread_same l (6 * b) g.linear (omega arith) in
     let y : spread_of (put_spread_of m (6 * b + 1) g.angular) (6 * b + 1) ≡ g.angular = put_spread_same m (6 * b + 1) g.angular (omega arith) in
     rw (x, y)
   where

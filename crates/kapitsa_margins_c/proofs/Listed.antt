@@ -15,25 +15,21 @@ use Rattle.check_work.specs.Work.{CheckMemory}
 use Rattle.closing_check.proofs.Entry.{checked_3}
 use Rattle.closing_margins.specs.Held.{MarginsTold, MarginsHeld}
 use Rattle.closing_margins.proofs.Entry.{told_3}
-use Rattle.kapitsa_check_c.specs.Closing.{VerdictTold, verdict_told}
+use Rattle.kapitsa_c.specs.Closing.{VerdictTold, verdict_told}
 use Rattle.kapitsa_margins_c.specs.Margins.{MarginsListed}
-use Rattle.kapitsa_check_c.proofs.Verdicts.{told_on, untold}
+use Rattle.kapitsa_c.proofs.Verdicts.{told_on, untold}
 
-module _ (kind : Kind) (s : Rules) (t : Table) (listed residual : ℕ → Float) (placed : Bool) (verdict : List ℕ) (gap : List Float)
-    (numbers : List ℕ) (before : CheckMemory) (rows : List ℕ) (margins : List Float) where
+module _ (kind : Kind) (s : Rules) (t : Table) (listed residual : ℕ → Float) (placed : Bool) (verdict : List ℕ) (gap : List Float) (numbers : List ℕ) (before : CheckMemory) (rows : List ℕ) (margins : List Float) where
   abbrev c : Closing
   c = closing_for kind t listed s residual placed
 
   -- the list of an answer is that of the definition's answer
-  of_check : (fits : Bool) {a : CheckAnswer} {rowsAfter : List ℕ} {marginsAfter : List Float} → a ≡ check_of fits c
-      → MarginsTold fits c a rows margins rowsAfter marginsAfter → MarginsTold fits c (check_of fits c) rows margins rowsAfter marginsAfter
+  of_check : (fits : Bool) {a : CheckAnswer} {rowsAfter : List ℕ} {marginsAfter : List Float} → a ≡ check_of fits c → MarginsTold fits c a rows margins rowsAfter marginsAfter → MarginsTold fits c (check_of fits c) rows margins rowsAfter marginsAfter
   of_check fits {a} {rowsAfter} {marginsAfter} e k = subst (λ (a : CheckAnswer). MarginsTold fits c a rows margins rowsAfter marginsAfter) e k
 
   -- refusal 3 of the slices of verdict and gap, then of the others
   module _ {r v : Bool} (p : Bool) (e : r ≡ v) where
-    pub unlisted : not r ≡ true
-        → MarginsListed (v && p) s c verdict gap (record { number = 3; verdict = verdict; gap = gap }) numbers numbers before before rows
-        margins rows margins
+    pub unlisted : not r ≡ true → MarginsListed (v && p) s c verdict gap (record { number = 3; verdict = verdict; gap = gap }) numbers numbers before before rows margins rows margins
     unlisted h = record {
       checked = untold kind s t listed residual placed verdict gap numbers before p e h;
       listed = of_check (v && p) (checked_3 kind s t listed residual placed numbers before (sym (ap (λ (b : Bool). b && p) (sym e ∙ not-true r h))) refl).answered (told_3 (v && p) c 3 rows margins);

@@ -5,7 +5,7 @@ use Rattle.check_range.specs.Closing.{Closing}
 use Rattle.check_answer.specs.Answer.{check_of}
 use Rattle.check_work.specs.Work.{CheckMemory}
 use Rattle.closing_margins.specs.Held.{MarginsTold}
-use Rattle.kapitsa_check_c.specs.Closing.{VerdictTold, CheckTold}
+use Rattle.kapitsa_c.specs.Closing.{VerdictTold, CheckTold}
 
 -- `rows` and `margins` are the list's memory. "Where the check refuses or says open there is no list, and the memory lent for it stays as it was."
 pub record MarginsListed (fits : Bool) (s : Rules) (c : Closing) (verdict : List ℕ) (gap : List Float) (told : VerdictTold) (numbers numbersAfter : List ℕ) (before after : CheckMemory) (rows : List ℕ) (margins : List Float) (rowsAfter : List ℕ) (marginsAfter : List Float) : Type 0 where

@@ -5,7 +5,7 @@ use mathlib.Core.Bool.{Bool, true, false, not, ◌&&◌}
 use lib.Ieee.{Float}
 use lib.Ieee.Scale.{finite}
 use borrow.Author.Tests.{not-true, not-false}
-use Rattle.loops.specs.Run.{check, on}
+use Rattle.loops.specs.Run.{Run, going, ended, check, next, on}
 use Rattle.loops.specs.Judge.{test}
 use Rattle.kapitsa_math.specs.Vector.{dot_of, is_finite_of}
 use Rattle.kapitsa_math.specs.Matrix.{mul_vector_of, finite_columns_of}
@@ -65,8 +65,7 @@ dot_by v w false h number = rw h
 pub dot_told : (v w : Vec3) {r : Checked} → r ≡ checked_dot_of v w → CheckedTells (dot_run v w) r
 dot_told v w e = record { told = λ number. rw e (dot_by v w (is_finite_of v && is_finite_of w) refl number) }
 
-product_by : (m : Mat3) (v : Vec3) (b c : Bool) → (finite_columns_of m && is_finite_of v) ≡ b → is_finite_of (mul_vector_of m v) ≡ c → (number : ℕ)
-    → mul_vector_run m v number ≡ checked_vector_out number (checked_mul_vector_of m v)
+product_by : (m : Mat3) (v : Vec3) (b c : Bool) → (finite_columns_of m && is_finite_of v) ≡ b → is_finite_of (mul_vector_of m v) ≡ c → (number : ℕ) → mul_vector_run m v number ≡ checked_vector_out number (checked_mul_vector_of m v)
 unfolding mul_vector_run checked_mul_vector_of test check on
 product_by m v true true h k number = rw (h, k)
 product_by m v true false h k number = rw (h, k)

@@ -1,9 +1,10 @@
 -- A sum or product that went not finite stays so. So a dot product or a matrix product is finite only where all that it was made of is, and testing the result refuses exactly what the Rust's checked forms refuse. Assumes nothing.
-use mathlib.Core.Path.{◌≡◌, refl, subst}
-use mathlib.Core.Bool.{Bool, true, false, ◌&&◌}
+use mathlib.Core.Path.{◌≡◌, refl, sym, ◌∙◌, subst}
+use mathlib.Core.Bool.{Bool, true, false, not, ◌&&◌}
 use lib.Dec.{T}
 use lib.Ieee.{Float, binary64, add, mul}
 use lib.Ieee.Fits.{and_i, and_l, and_r}
+use lib.Ieee.Bits.{is_true}
 use lib.Ieee.Scale.{finite}
 use Rattle.loops.specs.Run.{check}
 use Rattle.rounding.proofs.Rounded.{add_finite, mul_finite}
@@ -64,12 +65,8 @@ product_finite m v f =
     let r = sum_finite (scale_of m.x v.x) (scale_of m.y v.y) s.0 in
     let a = scaled_finite m.x v.x r.0 in
     let b = scaled_finite m.y v.y r.1 in
-    let c = scaled_finite m.z v.z s.1 in (
-      and_i (is_finite_of m.x && is_finite_of m.y) (is_finite_of m.z)
-          (and_i (is_finite_of m.x) (is_finite_of m.y) (finite_vector m.x a.0) (finite_vector m.y b.0))
-          (finite_vector m.z c.0),
-      record { x = a.1; y = b.1; z = c.1 },
-    )
+    let c = scaled_finite m.z v.z s.1 in
+    (and_i (is_finite_of m.x && is_finite_of m.y) (is_finite_of m.z) (and_i (is_finite_of m.x) (is_finite_of m.y) (finite_vector m.x a.0) (finite_vector m.y b.0)) (finite_vector m.z c.0), record { x = a.1; y = b.1; z = c.1 })
 
 -- ---- the Rust's checked forms test the result alone
 held : {b : Bool} → b ≡ true → T b
@@ -79,8 +76,7 @@ pub checked_dot_final : (v w : Vec3) → checked_dot_of v w ≡ checked_value_of
 unfolding checked_dot_of checked_value_of check
 checked_dot_final v w = go (finite (dot_of v w)) refl (is_finite_of v && is_finite_of w) refl
   where
-    go : (b : Bool) → finite (dot_of v w) ≡ b → (c : Bool) → (is_finite_of v && is_finite_of w) ≡ c
-        → check c (check b (Value (dot_of v w)) Overflow) Overflow ≡ check b (Value (dot_of v w)) Overflow
+    go : (b : Bool) → finite (dot_of v w) ≡ b → (c : Bool) → (is_finite_of v && is_finite_of w) ≡ c → check c (check b (Value (dot_of v w)) Overflow) Overflow ≡ check b (Value (dot_of v w)) Overflow
     go b e true h = refl
     go false e false h = refl
     go true e false h =
@@ -91,9 +87,7 @@ pub checked_product_final : (m : Mat3) (v : Vec3) → checked_mul_vector_of m v 
 unfolding checked_mul_vector_of check
 checked_product_final m v = go (is_finite_of (mul_vector_of m v)) refl (finite_columns_of m && is_finite_of v) refl
   where
-    go : (b : Bool) → is_finite_of (mul_vector_of m v) ≡ b → (c : Bool) → (finite_columns_of m && is_finite_of v) ≡ c
-        → check c (check b (vectors.Value (mul_vector_of m v)) vectors.Overflow) vectors.Overflow
-        ≡ check b (vectors.Value (mul_vector_of m v)) vectors.Overflow
+    go : (b : Bool) → is_finite_of (mul_vector_of m v) ≡ b → (c : Bool) → (finite_columns_of m && is_finite_of v) ≡ c → check c (check b (vectors.Value (mul_vector_of m v)) vectors.Overflow) vectors.Overflow ≡ check b (vectors.Value (mul_vector_of m v)) vectors.Overflow
     go b e true h = refl
     go false e false h = refl
     go true e false h =

@@ -27,10 +27,8 @@ put_vec_same l at v h =
     let la : length a ≡ length l = length-set l at v.x in
     let lb : length b ≡ length a = length-set a (at + 1) v.y in
     let x : get_or (set b (at + 2) v.z) at nan ≡ v.x =
-    get_or-set_other b (at + 2) at v.z nan (apart at (at + 2) (omega arith)) ∙ get_or-set_other a (at + 1) at v.y nan
-    (apart at (at + 1) (omega arith)) ∙ get_or-set_same l at v.x nan (omega arith) in
-    let y : get_or (set b (at + 2) v.z) (at + 1) nan ≡ v.y = get_or-set_other b (at + 2) (at + 1) v.z nan
-    (apart (at + 1) (at + 2) (omega arith)) ∙ get_or-set_same a (at + 1) v.y nan (omega arith) in
+    get_or-set_other b (at + 2) at v.z nan (apart at (at + 2) (omega arith)) ∙ get_or-set_other a (at + 1) at v.y nan (apart at (at + 1) (omega arith)) ∙ get_or-set_same l at v.x nan (omega arith) in
+    let y : get_or (set b (at + 2) v.z) (at + 1) nan ≡ v.y = get_or-set_other b (at + 2) (at + 1) v.z nan (apart (at + 1) (at + 2) (omega arith)) ∙ get_or-set_same a (at + 1) v.y nan (omega arith) in
     let z : get_or (set b (at + 2) v.z) (at + 2) nan ≡ v.z = get_or-set_same b (at + 2) v.z nan (omega arith) in
     rw (x, y, z)
   where
@@ -80,10 +78,8 @@ put_spread_same l at v h =
     let la : length a ≡ length l = length-set l at v.x in
     let lb : length b ≡ length a = length-set a (at + 2) v.y in
     let x : get_or (set b (at + 4) v.z) at nan ≡ v.x =
-    get_or-set_other b (at + 4) at v.z nan (apart at (at + 4) (omega arith)) ∙ get_or-set_other a (at + 2) at v.y nan
-    (apart at (at + 2) (omega arith)) ∙ get_or-set_same l at v.x nan (omega arith) in
-    let y : get_or (set b (at + 4) v.z) (at + 2) nan ≡ v.y = get_or-set_other b (at + 4) (at + 2) v.z nan
-    (apart (at + 2) (at + 4) (omega arith)) ∙ get_or-set_same a (at + 2) v.y nan (omega arith) in
+    get_or-set_other b (at + 4) at v.z nan (apart at (at + 4) (omega arith)) ∙ get_or-set_other a (at + 2) at v.y nan (apart at (at + 2) (omega arith)) ∙ get_or-set_same l at v.x nan (omega arith) in
+    let y : get_or (set b (at + 4) v.z) (at + 2) nan ≡ v.y = get_or-set_other b (at + 4) (at + 2) v.z nan (apart (at + 2) (at + 4) (omega arith)) ∙ get_or-set_same a (at + 2) v.y nan (omega arith) in
     let z : get_or (set b (at + 4) v.z) (at + 4) nan ≡ v.z = get_or-set_same b (at + 4) v.z nan (omega arith) in
     rw (x, y, z)
   where

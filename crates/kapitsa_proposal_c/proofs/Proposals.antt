@@ -1,10 +1,11 @@
 -- What a proposal tells C, from the promise of its entry. Assumes nothing.
 use Prim.Native.Nat.{ℕ, ◌<◌}
 use mathlib.Core.Path.{◌≡◌, refl, sym, ap, subst, ◌∙◌}
-use mathlib.Core.Bool.{Bool, true, not, ◌&&◌}
+use mathlib.Core.Bool.{Bool, true, false, not, ◌&&◌}
 use mathlib.Core.List.{List}
 use mathlib.Core.Logic.{◌↔◌}
 use native.Mathlib.Omega.{arith}
+use lib.Dec.{eqb}
 use lib.ListN.{length, set}
 use lib.Ieee.{Float}
 use borrow.Author.Tests.{eq-eqb, ne_eqb}
@@ -25,12 +26,10 @@ use Rattle.work_memory.specs.Work.{WorkMemory}
 use Rattle.proposals.specs.Proposal.{ProposalMemory, Proposing, proposing}
 use Rattle.position_proposal.specs.Proposed.{Proposed}
 use Rattle.kapitsa_proposal_c.specs.Proposing.{MaximaTold, maxima_told, maxima_fit, ProposalTold}
-use Rattle.loops.proofs.Few.{both_set}
+use Rattle.kapitsa_c.proofs.Telling.{both_set}
 
 -- 0 is told exactly where the proposal is accepted: no refusal has that number
-told_zero : (fits : Bool) (p : Problem) (mode : Mode) (limit n : ℕ) (numbers : List Float) (before : ProposalMemory) (maxima : List Float)
-    → Apart p → ((maxima_told (proposing n numbers before (solve (method_of fits p mode) limit)).answer maxima).number ≡ 0)
-    ↔ Goes (solve (method_of fits p mode) limit)
+told_zero : (fits : Bool) (p : Problem) (mode : Mode) (limit n : ℕ) (numbers : List Float) (before : ProposalMemory) (maxima : List Float) → Apart p → ((maxima_told (proposing n numbers before (solve (method_of fits p mode) limit)).answer maxima).number ≡ 0) ↔ Goes (solve (method_of fits p mode) limit)
 unfolding maxima_told proposal_of
 told_zero fits p mode limit n numbers before maxima apart = go (solve (method_of fits p mode) limit) (problem_not_zero p mode fits limit apart)
   where
@@ -38,12 +37,8 @@ told_zero fits p mode limit n numbers before maxima apart = go (solve (method_of
     go (going a) h = (λ _. (a, refl), λ _. refl)
     go (ended k) h = (λ e. let z = h k refl in absurd (omega arith), λ g. absurd (apart-runs _ g.1 refl))
 
-pub proposal_told : {fits : Bool} {s : Rules} {p : Problem} {mode : Mode} {limit n : ℕ} {numbers : List Float}
-    {before after : ProposalMemory} {rules rulesAfter : List ℕ} {maxima : List Float} {a : PositionPcg} {work workAfter : WorkMemory}
-    {told : MaximaTold}
-    → Apart p
-    → Proposed fits s p mode limit n numbers before after rules rulesAfter a work workAfter → told ≡ maxima_told a maxima → ProposalTold fits
-    s p mode limit n numbers before after rules rulesAfter maxima told work workAfter
+pub proposal_told : {fits : Bool} {s : Rules} {p : Problem} {mode : Mode} {limit n : ℕ} {numbers : List Float} {before after : ProposalMemory} {rules rulesAfter : List ℕ} {maxima : List Float} {a : PositionPcg} {work workAfter : WorkMemory} {told : MaximaTold} → Apart p
+    → Proposed fits s p mode limit n numbers before after rules rulesAfter a work workAfter → told ≡ maxima_told a maxima → ProposalTold fits s p mode limit n numbers before after rules rulesAfter maxima told work workAfter
 proposal_told {fits} {s} {p} {mode} {limit} {n} {numbers} {before} {after} {rules} {rulesAfter} {maxima} {a} {work} {workAfter} {told} apart h w =
     let e : a ≡ (proposing n numbers before (solve (method_of fits p mode) limit)).answer = sym (ap (λ (x : Proposing). x.answer) h.answered) in
     let answered = w ∙ ap (λ (x : PositionPcg). maxima_told x maxima) e in
@@ -68,18 +63,13 @@ module _ (maxima : List Float) where
   told_three = refl
 
 -- a proposal of a job whose slices fit
-pub proposal_on : {rest fits : Bool} {s : Rules} {p : Problem} {mode : Mode} {limit n : ℕ} {numbers : List Float}
-    {before after : ProposalMemory} {rules rulesAfter : List ℕ} {maxima : List Float} {a : PositionPcg} {work workAfter : WorkMemory}
-    {told : MaximaTold}
-    → Apart p → rest ≡ fits
-    → Proposed rest s p mode limit n numbers before after rules rulesAfter a work workAfter → told ≡ maxima_told a maxima → ProposalTold fits
-    s p mode limit n numbers before after rules rulesAfter maxima told work workAfter
+pub proposal_on : {rest fits : Bool} {s : Rules} {p : Problem} {mode : Mode} {limit n : ℕ} {numbers : List Float} {before after : ProposalMemory} {rules rulesAfter : List ℕ} {maxima : List Float} {a : PositionPcg} {work workAfter : WorkMemory} {told : MaximaTold} → Apart p → rest ≡ fits
+    → Proposed rest s p mode limit n numbers before after rules rulesAfter a work workAfter → told ≡ maxima_told a maxima → ProposalTold fits s p mode limit n numbers before after rules rulesAfter maxima told work workAfter
 proposal_on apart e h w = rw (← e) (proposal_told apart h w)
 
 -- ---- `tell_maxima`
 module _ (a : PositionPcg) (maxima : List Float) where
-  pub maxima_accepted : (r : PositionPcgResult) → a ≡ answers.Accepted r → length maxima ≡ 2
-      → record { number = 0; maxima = set (set maxima 0 r.linear_residual_m) 1 r.angular_residual_rad } ≡ maxima_told a maxima
+  pub maxima_accepted : (r : PositionPcgResult) → a ≡ answers.Accepted r → length maxima ≡ 2 → record { number = 0; maxima = set (set maxima 0 r.linear_residual_m) 1 r.angular_residual_rad } ≡ maxima_told a maxima
   unfolding maxima_told
   maxima_accepted r e h = rw (e, both_set maxima r.linear_residual_m r.angular_residual_rad h)
 

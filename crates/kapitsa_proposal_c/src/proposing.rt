@@ -64,43 +64,13 @@ pub extern "C" fn kapitsa_propose_position(
     order: &mut [u32],
     values: &mut [f64],
 ) -> u32
-    ensures { ProposalTold
-        (maxima_fit maxima.old &&
-        ((proposal_lent rows (length proposal.old) (length started.old) &&
-        (rules_lent rows (length rule_words.now) (length rule_tolerances.now)
-        (length rule_numbers.old) && centres_lent bodies (length centres.now)
-        (length new_centres.old)))
-        && passes3 rows bodies mode numbers.now words.entry.now masses.now
-        solution.old impulses.old
-        (work_memory jacobians.old links.old tolerances.old diagonal.old
-        residual.old pending.old direction.old product.old
-        body_impulses.old pattern.old order.old values.old)))
+    ensures { ProposalTold (maxima_fit maxima.old && ((proposal_lent rows (length proposal.old) (length started.old) && (rules_lent rows (length rule_words.now) (length rule_tolerances.now) (length rule_numbers.old) && centres_lent bodies (length centres.now) (length new_centres.old))) && passes3 rows bodies mode numbers.now words.entry.now masses.now solution.old impulses.old (work_memory jacobians.old links.old tolerances.old diagonal.old residual.old pending.old direction.old product.old body_impulses.old pattern.old order.old values.old)))
         (rules_in rule_words.now rule_tolerances.now)
-        (position_of rows bodies numbers.now words.entry.now masses.now centres.now
-        (rules_in rule_words.now rule_tolerances.now) shift)
-        (mode_of mode shift) limit rows numbers.now
-        record {
-          words = proposal.old;
-          solution = solution.old;
-          impulses = impulses.old;
-          centres = new_centres.old;
-          started = started.old;
-        }
-        record {
-          words = proposal.new;
-          solution = solution.new;
-          impulses = impulses.new;
-          centres = new_centres.new;
-          started = started.new;
-        }
-        rule_numbers.old rule_numbers.new maxima.old
-        record { number = result; maxima = maxima.new }
-        (work_memory jacobians.old links.old tolerances.old diagonal.old
-        residual.old pending.old direction.old product.old
-        body_impulses.old pattern.old order.old values.old)
-        (work_memory jacobians.new links.new tolerances.new diagonal.new
-        residual.new pending.new direction.new product.new
-        body_impulses.new pattern.new order.new values.new) }
+        (position_of rows bodies numbers.now words.entry.now masses.now centres.now (rules_in rule_words.now rule_tolerances.now) shift) (mode_of mode shift) limit rows numbers.now
+        record { words = proposal.old; solution = solution.old; impulses = impulses.old; centres = new_centres.old; started = started.old } record { words = proposal.new; solution = solution.new; impulses = impulses.new; centres = new_centres.new; started = started.new }
+        rule_numbers.old rule_numbers.new maxima.old record { number = result; maxima = maxima.new }
+        (work_memory jacobians.old links.old tolerances.old diagonal.old residual.old pending.old direction.old product.old body_impulses.old pattern.old order.old values.old)
+        (work_memory jacobians.new links.new tolerances.new diagonal.new residual.new pending.new direction.new product.new body_impulses.new pattern.new order.new values.new) }
 {
     if maxima.len() != 2 {
         return 3;
@@ -148,8 +118,7 @@ pub extern "C" fn kapitsa_commit_proposal(
     solution: &[f64],
     started: &[f64],
 ) -> u32
-    ensures { Committed numbers.old rows proposal.old solution.now
-        started.now record { number = result; numbers = numbers.new; words = proposal.new } }
+    ensures { Committed numbers.old rows proposal.old solution.now started.now record { number = result; numbers = numbers.new; words = proposal.new } }
 {
     commit_proposal(numbers, rows, proposal, solution, started)
 }

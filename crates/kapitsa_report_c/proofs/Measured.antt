@@ -15,8 +15,8 @@ use Rattle.check_work.specs.Work.{CheckMemory}
 use Rattle.closing_check.proofs.Entry.{checked_3}
 use Rattle.closing_gaps.specs.Gaps.{GapsTold, GapsHeld}
 use Rattle.closing_gaps.proofs.Told.{told_3}
-use Rattle.kapitsa_check_c.specs.Closing.{VerdictTold, verdict_told}
-use Rattle.kapitsa_check_c.proofs.Verdicts.{told_on, untold}
+use Rattle.kapitsa_c.specs.Closing.{VerdictTold, verdict_told}
+use Rattle.kapitsa_c.proofs.Verdicts.{told_on, untold}
 use Rattle.kapitsa_report_c.specs.Measuring.{GapsReported}
 
 module _ (kind : Kind) (s : Rules) (t : Table) (listed residual : ℕ → Float) (placed : Bool) (verdict : List ℕ) (gap : List Float) (numbers : List ℕ) (before : CheckMemory) (gaps : List Float) where

@@ -1,17 +1,17 @@
 -- What C is told of a place. Assumes nothing.
 use Prim.Native.Nat.{ℕ}
-use mathlib.Core.Path.{◌≡◌, refl}
-use mathlib.Core.Bool.{true, false, not, ◌&&◌}
+use mathlib.Core.Path.{◌≡◌, refl, sym, ap, ◌∙◌}
+use mathlib.Core.Bool.{Bool, true, false, not, ◌&&◌}
 use mathlib.Core.List.{List, [], ◌∷◌}
 use mathlib.Core.Logic.{◌≢◌}
 use native.Mathlib.Omega.{arith}
 use lib.Dec.{leb, eqb}
 use lib.ListN.{length, set}
-use borrow.Author.Tests.{ne_eqb, eqb-true, not-true, not-false}
+use borrow.Author.Tests.{eq-eqb, ne_eqb, eqb-true, not-true, not-false}
 use Rattle.loops.proofs.Both.{both}
 use Rattle.kapitsa_joint.specs.declared.kind.Kind.TheVariants as kinds
 use Rattle.first_refusal.specs.declared.place.Place.{Place}
-use Rattle.kapitsa_report_c.specs.Refusing.{kind_for, place_words, place_fits, place_told}
+use Rattle.kapitsa_report_c.specs.Refusing.{PlaceTold, kind_for, place_words, place_fits, place_told}
 
 pub kind_velocity : {velocities : ℕ} → velocities ≡ 1 → kinds.Velocity ≡ kind_for velocities
 unfolding kind_for
@@ -38,7 +38,6 @@ module _ (velocities : ℕ) (place : List ℕ) (found : Place) where
   pub two_long : not (leb velocities 1 && eqb (length place) 2) ≡ false → length place ≡ 2
   two_long h = eqb-true (length place) 2 (both (leb velocities 1) (eqb (length place) 2) (not-false (leb velocities 1 && eqb (length place) 2) h)).1
 
-  pub told_on : not (leb velocities 1 && eqb (length place) 2) ≡ false → {given : Place} {after : List ℕ} → given ≡ found
-      → after ≡ place_words given → record { number = 0; place = after } ≡ place_told (place_fits velocities place) found place
+  pub told_on : not (leb velocities 1 && eqb (length place) 2) ≡ false → {given : Place} {after : List ℕ} → given ≡ found → after ≡ place_words given → record { number = 0; place = after } ≡ place_told (place_fits velocities place) found place
   unfolding place_fits place_told
   told_on h e w = rw (not-false (leb velocities 1 && eqb (length place) 2) h, w, e)

@@ -5,7 +5,7 @@ use Rattle.check_range.specs.Closing.{Closing}
 use Rattle.check_answer.specs.Answer.{check_of}
 use Rattle.check_work.specs.Work.{CheckMemory}
 use Rattle.closing_gaps.specs.Gaps.{GapsTold}
-use Rattle.kapitsa_check_c.specs.Closing.{VerdictTold, CheckTold}
+use Rattle.kapitsa_c.specs.Closing.{VerdictTold, CheckTold}
 
 -- `gaps` is the numbers' memory, which a refusal leaves as it was. `fits` is whether refusal 3 passes.
 pub record GapsReported (fits : Bool) (s : Rules) (c : Closing) (verdict : List ℕ) (gap : List Float) (told : VerdictTold) (numbers numbersAfter : List ℕ) (before after : CheckMemory) (gaps gapsAfter : List Float) : Type 0 where

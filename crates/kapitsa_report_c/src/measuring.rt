@@ -10,11 +10,11 @@ ghost use Rattle.check_range.specs.Closing.{closing_of, speeds_of};
 ghost use Rattle.check_refusals.specs.Refusals.{passes3, table_lengths};
 ghost use Rattle.check_work.specs.Work.{memory_of, work_lengths};
 ghost use Rattle.closing_gaps.specs.Gaps.{gaps_lent};
-ghost use Rattle.kapitsa_check_c.specs.Closing.{verdict_fits};
+ghost use Rattle.kapitsa_c.specs.Closing.{verdict_fits};
 ghost use Rattle.kapitsa_report_c.specs.Measuring.{GapsReported};
 
 use closing_gaps::{closing_gaps, velocity_closing_gaps};
-use kapitsa_check_c::closing::{tell_verdict, verdict_fits};
+use kapitsa_c::closing::{tell_verdict, verdict_fits};
 
 // Of positions; refusals 3, 4, 27, 28, 6, 7 and 18. For n rows, b bodies and t rules, at most 64: numbers 27n, words 8n, masses 10b, centres 3b, rule_words 3t (dimension, first key, last key), rule_tolerances t, multipliers n;
 // rule_numbers n (the rule of each row), verdict 1 (1 closed, 0 open) and gap 2 (the largest reach of linear and of angular rows), written where 0 is returned and nowhere else;
@@ -40,23 +40,10 @@ pub extern "C" fn kapitsa_closing_gaps(
     values: &mut [f64],
     sizes: &mut [f64],
 ) -> u32
-    ensures { GapsReported
-        (verdict_fits verdict.old gap.old &&
-        (gaps_lent rows (length gaps.old) && passes3 Position rows bodies
-        (table_lengths numbers.now words.now masses.now centres.now
-        multipliers.now rule_words.now rule_tolerances.now
-        rule_numbers.old)
-        (work_lengths
-        (memory_of impulses.old size_impulses.old values.old
-        sizes.old))))
+    ensures { GapsReported (verdict_fits verdict.old gap.old && (gaps_lent rows (length gaps.old) && passes3 Position rows bodies (table_lengths numbers.now words.now masses.now centres.now multipliers.now rule_words.now rule_tolerances.now rule_numbers.old) (work_lengths (memory_of impulses.old size_impulses.old values.old sizes.old))))
         (rules_in rule_words.now rule_tolerances.now)
-        (closing_of (table_of rows bodies numbers.now words.now masses.now)
-        (coefficients multipliers.now)
-        (rules_in rule_words.now rule_tolerances.now)
-        (centres_finite (centres_in bodies centres.now)))
-        verdict.old gap.old
-        record { number = result; verdict = verdict.new; gap = gap.new } rule_numbers.old
-        rule_numbers.new
+        (closing_of (table_of rows bodies numbers.now words.now masses.now) (coefficients multipliers.now) (rules_in rule_words.now rule_tolerances.now) (centres_finite (centres_in bodies centres.now)))
+        verdict.old gap.old record { number = result; verdict = verdict.new; gap = gap.new } rule_numbers.old rule_numbers.new
         (memory_of impulses.old size_impulses.old values.old sizes.old)
         (memory_of impulses.new size_impulses.new values.new sizes.new)
         gaps.old gaps.new }
@@ -108,22 +95,10 @@ pub extern "C" fn kapitsa_velocity_closing_gaps(
     values: &mut [f64],
     sizes: &mut [f64],
 ) -> u32
-    ensures { GapsReported
-        (verdict_fits verdict.old gap.old &&
-        (gaps_lent rows (length gaps.old) && passes3 Velocity rows bodies
-        (table_lengths numbers.now words.now masses.now given.now
-        multipliers.now rule_words.now rule_tolerances.now
-        rule_numbers.old)
-        (work_lengths
-        (memory_of impulses.old size_impulses.old values.old
-        sizes.old))))
+    ensures { GapsReported (verdict_fits verdict.old gap.old && (gaps_lent rows (length gaps.old) && passes3 Velocity rows bodies (table_lengths numbers.now words.now masses.now given.now multipliers.now rule_words.now rule_tolerances.now rule_numbers.old) (work_lengths (memory_of impulses.old size_impulses.old values.old sizes.old))))
         (rules_in rule_words.now rule_tolerances.now)
-        (speeds_of (table_of rows bodies numbers.now words.now masses.now)
-        (coefficients multipliers.now)
-        (rules_in rule_words.now rule_tolerances.now) (coefficients given.now))
-        verdict.old gap.old
-        record { number = result; verdict = verdict.new; gap = gap.new } rule_numbers.old
-        rule_numbers.new
+        (speeds_of (table_of rows bodies numbers.now words.now masses.now) (coefficients multipliers.now) (rules_in rule_words.now rule_tolerances.now) (coefficients given.now))
+        verdict.old gap.old record { number = result; verdict = verdict.new; gap = gap.new } rule_numbers.old rule_numbers.new
         (memory_of impulses.old size_impulses.old values.old sizes.old)
         (memory_of impulses.new size_impulses.new values.new sizes.new)
         gaps.old gaps.new }

@@ -55,11 +55,7 @@ pub extern "C" fn kapitsa_first_refused(
     limit: u32,
     place: &mut [u32],
 ) -> u32
-    ensures { record { number = result; place = place.new }
-        ≡ place_told (place_fits velocities place.old)
-        (place_in (kind_for velocities) rows bodies numbers.now words.now masses.now
-        beside.now (rules_in rule_words.now rule_tolerances.now) number limit)
-        place.old }
+    ensures { record { number = result; place = place.new } ≡ place_told (place_fits velocities place.old) (place_in (kind_for velocities) rows bodies numbers.now words.now masses.now beside.now (rules_in rule_words.now rule_tolerances.now) number limit) place.old }
 {
     if !((velocities <= 1) & (place.len() == 2)) {
         return 3;

@@ -7,10 +7,10 @@ ghost use Rattle.rules.specs.Rows.{rules_in};
 ghost use Rattle.check_range.specs.Closing.{speeds_of};
 ghost use Rattle.check_refusals.specs.Refusals.{passes3, table_lengths};
 ghost use Rattle.check_work.specs.Work.{memory_of, work_lengths};
-ghost use Rattle.kapitsa_check_c.specs.Closing.{verdict_fits, CheckTold};
+ghost use Rattle.kapitsa_c.specs.Closing.{verdict_fits, CheckTold};
 
 use closing_check::velocity_closing_check;
-use kapitsa_check_c::closing::{tell_verdict, verdict_fits};
+use kapitsa_c::closing::{tell_verdict, verdict_fits};
 
 // For n rows, b bodies and t rules, at most 64: numbers 27n, words 8n, masses 10b, given n (the residual), rule_words 3t (dimension, first key, last key), rule_tolerances t, multipliers n; no centres;
 // rule_numbers n (the rule of each row), verdict 1 (1 closed, 0 open) and gap 2 (the largest reach of linear and of angular rows), written where 0 is returned and nowhere else;
@@ -34,20 +34,10 @@ pub extern "C" fn kapitsa_velocity_closing_check(
     values: &mut [f64],
     sizes: &mut [f64],
 ) -> u32
-    ensures { CheckTold
-        (verdict_fits verdict.old gap.old && passes3 Velocity rows bodies
-        (table_lengths numbers.now words.now masses.now given.now
-        multipliers.now rule_words.now rule_tolerances.now
-        rule_numbers.old)
-        (work_lengths
-        (memory_of impulses.old size_impulses.old values.old sizes.old)))
+    ensures { CheckTold (verdict_fits verdict.old gap.old && passes3 Velocity rows bodies (table_lengths numbers.now words.now masses.now given.now multipliers.now rule_words.now rule_tolerances.now rule_numbers.old) (work_lengths (memory_of impulses.old size_impulses.old values.old sizes.old)))
         (rules_in rule_words.now rule_tolerances.now)
-        (speeds_of (table_of rows bodies numbers.now words.now masses.now)
-        (coefficients multipliers.now)
-        (rules_in rule_words.now rule_tolerances.now) (coefficients given.now))
-        verdict.old gap.old
-        record { number = result; verdict = verdict.new; gap = gap.new } rule_numbers.old
-        rule_numbers.new
+        (speeds_of (table_of rows bodies numbers.now words.now masses.now) (coefficients multipliers.now) (rules_in rule_words.now rule_tolerances.now) (coefficients given.now))
+        verdict.old gap.old record { number = result; verdict = verdict.new; gap = gap.new } rule_numbers.old rule_numbers.new
         (memory_of impulses.old size_impulses.old values.old sizes.old)
         (memory_of impulses.new size_impulses.new values.new sizes.new) }
 {

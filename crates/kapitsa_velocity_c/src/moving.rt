@@ -46,39 +46,13 @@ pub extern "C" fn kapitsa_solve_velocity(
     order: &mut [u32],
     values: &mut [f64],
 ) -> u32
-    ensures { SolveTold
-        (told_fits counts.old maxima.old &&
-        ((rules_lent rows (length rule_words.now) (length rule_tolerances.now)
-        (length rule_numbers.old) && residual_lent rows (length given.now))
-        && passes3 rows bodies mode numbers.entry.now words.now masses.now
-        solution.old impulses.old
-        (work_memory jacobians.old links.old tolerances.old diagonal.old
-        residual.old pending.old direction.old product.old
-        body_impulses.old pattern.old order.old values.old)))
+    ensures { SolveTold (told_fits counts.old maxima.old && ((rules_lent rows (length rule_words.now) (length rule_tolerances.now) (length rule_numbers.old) && residual_lent rows (length given.now)) && passes3 rows bodies mode numbers.entry.now words.now masses.now solution.old impulses.old (work_memory jacobians.old links.old tolerances.old diagonal.old residual.old pending.old direction.old product.old body_impulses.old pattern.old order.old values.old)))
         (rules_in rule_words.now rule_tolerances.now)
-        (velocity_of rows bodies numbers.entry.now words.now masses.now given.now
-        (rules_in rule_words.now rule_tolerances.now) shift)
-        (mode_of mode shift) limit 25 rows
-        record {
-          numbers = numbers.entry.now;
-          solution = solution.old;
-          impulses = impulses.old;
-          centres = [];
-        }
-        record {
-          numbers = numbers.exit.now;
-          solution = solution.new;
-          impulses = impulses.new;
-          centres = [];
-        }
-        rule_numbers.old rule_numbers.new counts.old maxima.old
-        record { number = result; counts = counts.new; maxima = maxima.new }
-        (work_memory jacobians.old links.old tolerances.old diagonal.old
-        residual.old pending.old direction.old product.old
-        body_impulses.old pattern.old order.old values.old)
-        (work_memory jacobians.new links.new tolerances.new diagonal.new
-        residual.new pending.new direction.new product.new
-        body_impulses.new pattern.new order.new values.new) }
+        (velocity_of rows bodies numbers.entry.now words.now masses.now given.now (rules_in rule_words.now rule_tolerances.now) shift) (mode_of mode shift) limit 25 rows
+        record { numbers = numbers.entry.now; solution = solution.old; impulses = impulses.old; centres = [] } record { numbers = numbers.exit.now; solution = solution.new; impulses = impulses.new; centres = [] }
+        rule_numbers.old rule_numbers.new counts.old maxima.old record { number = result; counts = counts.new; maxima = maxima.new }
+        (work_memory jacobians.old links.old tolerances.old diagonal.old residual.old pending.old direction.old product.old body_impulses.old pattern.old order.old values.old)
+        (work_memory jacobians.new links.new tolerances.new diagonal.new residual.new pending.new direction.new product.new body_impulses.new pattern.new order.new values.new) }
 {
     if !told_fits(counts, maxima) {
         return 3;

@@ -37,24 +37,11 @@ wrote_front w = take_wrote w
 module _ (out : List ℕ) (at : ℕ) where
   pub wrote_none : at ≤ length out → Wrote out at [] out at
   unfolding placed
-  wrote_none h =
-      record {
-        within = omega arith;
-        bytes = sym
-            (ap (λ l. l ++ drop (at + 0) out) (append-nil (take at out)) ∙ ap (λ k. take at out ++ drop k out) (add-zero at) ∙
-            take-append-drop at out);
-        after = omega arith;
-      }
+  wrote_none h = record { within = omega arith; bytes = sym (ap (λ l. l ++ drop (at + 0) out) (append-nil (take at out)) ∙ ap (λ k. take at out ++ drop k out) (add-zero at) ∙ take-append-drop at out); after = omega arith }
 
   pub wrote_one : (b : ℕ) → at < length out → Wrote out at (b ∷ []) (set out at b) (at + 1)
   unfolding placed
-  wrote_one b h =
-      record {
-        within = omega arith;
-        bytes = set_split out at b h ∙ sym
-            (append_assoc (take at out) (b ∷ []) (drop (at + 1) out) ∙ ap (λ k. take at out ++ (b ∷ drop k out)) (add-one at));
-        after = refl;
-      }
+  wrote_one b h = record { within = omega arith; bytes = set_split out at b h ∙ sym (append_assoc (take at out) (b ∷ []) (drop (at + 1) out) ∙ ap (λ k. take at out ++ (b ∷ drop k out)) (add-one at)); after = refl }
 
 -- a byte that a call has answered
 pub room_byte : {out : List ℕ} {at : ℕ} (a : ℕ) {b : ℕ} → Room out at (a ∷ []) → Room out at (b ∷ [])

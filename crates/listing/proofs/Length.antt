@@ -80,15 +80,7 @@ row_gap_short i owner x tolerance within h g k =
     let r = q ++ double x in
     let s = r ++ double tolerance in
     let t = s ++ number within in
-    omega (
-      arith,
-      length-append measured_name (number i),
-      length-append p (number owner),
-      length-append q (double x),
-      length-append r (double tolerance),
-      length-append s (number within),
-      length-append t newline,
-    )
+    omega (arith, length-append measured_name (number i), length-append p (number owner), length-append q (double x), length-append r (double tolerance), length-append s (number within), length-append t newline)
 
 body_short : (b : ℕ) (impulses : List Float) (spare : ℕ) (centres : List Float) → b < 4294967296 → length (body_line b impulses spare centres) ≤ 169
 unfolding body_line body_name
@@ -168,9 +160,7 @@ head_short count flag x y v h g =
     let lc : length c ≤ 17 = close_short v g in
     omega (arith, length-append s p, length-append (s ++ p) q, length-append (s ++ p ++ q) c)
 
-pub listing_short : (count : ℕ) (flag : Bool) (gap carried : Maxima) (verdict rows bodies : ℕ) (numbers impulses : List Float) (spare : ℕ)
-    (centres : List Float)
-    → count < 4294967296 → verdict < 4294967296 → rows ≤ 128 → bodies ≤ 64
+pub listing_short : (count : ℕ) (flag : Bool) (gap carried : Maxima) (verdict rows bodies : ℕ) (numbers impulses : List Float) (spare : ℕ) (centres : List Float) → count < 4294967296 → verdict < 4294967296 → rows ≤ 128 → bodies ≤ 64
     → length (listing_of count flag gap carried verdict rows bodies numbers impulses spare centres) ≤ 16384
 unfolding listing_of row_lines body_lines
 listing_short count flag x y v rows bodies numbers impulses spare centres h g r b =
@@ -183,8 +173,7 @@ listing_short count flag x y v rows bodies numbers impulses spare centres h g r 
     omega (arith, length-append s t, length-append (s ++ t) u)
 
 -- where the list is printed, each of its rows has a number of 32 bits
-pub margins_short : (count : ℕ) (flag : Bool) (gap carried : Maxima) (verdict rows : ℕ) (margin_rows : List ℕ) (margins : List Float)
-    → count < 4294967296 → verdict < 4294967296 → rows ≤ 128
+pub margins_short : (count : ℕ) (flag : Bool) (gap carried : Maxima) (verdict rows : ℕ) (margin_rows : List ℕ) (margins : List Float) → count < 4294967296 → verdict < 4294967296 → rows ≤ 128
     → (verdict ≡ 1 → (k : ℕ) → k < rows → get_or margin_rows k 0 < 4294967296) → length (margin_listing count flag gap carried verdict rows margin_rows margins) ≤ 16384
 unfolding margin_listing margin_lines
 margins_short count flag x y v rows margin_rows margins h g r b = go (eqb v 1) (eqb-true v 1)
@@ -201,9 +190,7 @@ margins_short count flag x y v rows margin_rows margins h g r b = go (eqb v 1) (
     go false e = let ls : length s ≤ 136 = head_short count flag x y v h g in omega (arith, length-append s [])
 
 -- where the numbers are printed, each row's owner is a number of 32 bits
-pub gaps_short : (count : ℕ) (flag : Bool) (gap carried : Maxima) (verdict rows : ℕ) (words : List ℕ) (gaps : List Float)
-    (rule_numbers : List ℕ) (tolerances : List Float)
-    → count < 4294967296 → verdict < 4294967296 → rows ≤ 128
+pub gaps_short : (count : ℕ) (flag : Bool) (gap carried : Maxima) (verdict rows : ℕ) (words : List ℕ) (gaps : List Float) (rule_numbers : List ℕ) (tolerances : List Float) → count < 4294967296 → verdict < 4294967296 → rows ≤ 128
     → ((k : ℕ) → get_or words k 0 < 4294967296) → length (gap_listing count flag gap carried verdict rows words gaps rule_numbers tolerances) ≤ 16384
 unfolding gap_listing gap_lines
 gaps_short count flag x y v rows words gaps rule_numbers tolerances h g r b = go (leb v 1)
@@ -219,13 +206,7 @@ gaps_short count flag x y v rows words gaps rule_numbers tolerances h g r b = go
     go true =
         let t = gap_lines words gaps rule_numbers tolerances rows in
         let ls : length s ≤ 136 = head_short count flag x y v h g in
-        let lt : length t ≤ rows * 76 = pieces_short (row_gap words gaps rule_numbers tolerances) 76 rows
-        (λ k l.
-        let n = get_or gaps k nan in
-        let limit = get_or tolerances (get_or rule_numbers k 0) nan in
-        row_gap_short k (get_or words (8 * k + 6) 0) n limit (flag_of (le n limit)) (omega arith) (b (8 * k + 6))
-        (flag_small (le n limit)))
-        in
+        let lt : length t ≤ rows * 76 = pieces_short (row_gap words gaps rule_numbers tolerances) 76 rows (λ k l. let n = get_or gaps k nan in let limit = get_or tolerances (get_or rule_numbers k 0) nan in row_gap_short k (get_or words (8 * k + 6) 0) n limit (flag_of (le n limit)) (omega arith) (b (8 * k + 6)) (flag_small (le n limit))) in
         omega (arith, length-append s t)
     go false = let ls : length s ≤ 136 = head_short count flag x y v h g in omega (arith, length-append s [])
 
@@ -239,14 +220,7 @@ refused_row_short refusal i owner h g k =
     let p = refused_name ++ (32 ∷ row_name) in
     let q = p ++ number i in
     let r = q ++ number owner in
-    omega (
-      arith,
-      length-append (refused_listing refusal) (refused_row_line i owner),
-      length-append refused_name (32 ∷ row_name),
-      length-append p (number i),
-      length-append q (number owner),
-      length-append r newline,
-    )
+    omega (arith, length-append (refused_listing refusal) (refused_row_line i owner), length-append refused_name (32 ∷ row_name), length-append p (number i), length-append q (number owner), length-append r newline)
 
 pub refused_body_short : (refusal b : ℕ) → refusal < 4294967296 → b < 4294967296 → length (refused_listing refusal ++ refused_body_line b) ≤ 63
 unfolding refused_body_line refused_name body_name
@@ -268,17 +242,14 @@ refused_room out r h l = let s = refused_short r h in record { fits = omega arit
 
 pub listing_room : (out : List ℕ) (count : ℕ) (flag : Bool) (gap carried : Maxima) (verdict rows bodies : ℕ) (numbers impulses : List Float) (spare : ℕ) (centres : List Float)
     → count < 4294967296 → verdict < 4294967296 → rows ≤ 128 → bodies ≤ 64 → 16384 ≤ length out → Room out 0 (listing_of count flag gap carried verdict rows bodies numbers impulses spare centres)
-listing_room out count flag x y v rows bodies numbers impulses spare centres h g r b l = let s = listing_short count flag x y v rows bodies
-    numbers impulses spare centres h g r b in record { fits = omega arith }
+listing_room out count flag x y v rows bodies numbers impulses spare centres h g r b l = let s = listing_short count flag x y v rows bodies numbers impulses spare centres h g r b in record { fits = omega arith }
 
 pub margins_room : (out : List ℕ) (count : ℕ) (flag : Bool) (gap carried : Maxima) (verdict rows : ℕ) (margin_rows : List ℕ) (margins : List Float)
-    → count < 4294967296 → verdict < 4294967296 → rows ≤ 128 → (verdict ≡ 1 → (k : ℕ) → k < rows → get_or margin_rows k 0 < 4294967296) → 16384
-    ≤ length out → Room out 0 (margin_listing count flag gap carried verdict rows margin_rows margins)
+    → count < 4294967296 → verdict < 4294967296 → rows ≤ 128 → (verdict ≡ 1 → (k : ℕ) → k < rows → get_or margin_rows k 0 < 4294967296) → 16384 ≤ length out → Room out 0 (margin_listing count flag gap carried verdict rows margin_rows margins)
 margins_room out count flag x y v rows margin_rows margins h g r b l = let s = margins_short count flag x y v rows margin_rows margins h g r b in record { fits = omega arith }
 
 pub gaps_room : (out : List ℕ) (count : ℕ) (flag : Bool) (gap carried : Maxima) (verdict rows : ℕ) (words : List ℕ) (gaps : List Float) (rule_numbers : List ℕ) (tolerances : List Float)
-    → count < 4294967296 → verdict < 4294967296 → rows ≤ 128 → ((k : ℕ) → get_or words k 0 < 4294967296) → 16384 ≤ length out → Room out 0
-    (gap_listing count flag gap carried verdict rows words gaps rule_numbers tolerances)
+    → count < 4294967296 → verdict < 4294967296 → rows ≤ 128 → ((k : ℕ) → get_or words k 0 < 4294967296) → 16384 ≤ length out → Room out 0 (gap_listing count flag gap carried verdict rows words gaps rule_numbers tolerances)
 gaps_room out count flag x y v rows words gaps rule_numbers tolerances h g r b l = let s = gaps_short count flag x y v rows words gaps rule_numbers tolerances h g r b in record { fits = omega arith }
 
 pub short_room : (out text : List ℕ) {n : ℕ} → length text ≤ n → n ≤ length out → Room out 0 text

@@ -1,6 +1,6 @@
 -- The names of the lines, the flag, the line of the gap, the count of centre numbers and whether there are margins, as the source writes them. Assumes nothing.
 use Prim.Native.Nat.{ℕ, ◌+◌, ◌*◌, ◌<◌, ◌≤◌}
-use mathlib.Core.Path.{◌≡◌, refl, sym}
+use mathlib.Core.Path.{◌≡◌, refl, sym, ◌∙◌}
 use mathlib.Core.Bool.{Bool, true, false, cond}
 use mathlib.Core.List.{List, [], ◌∷◌, ◌++◌, append-nil}
 use mathlib.Core.Logic.{◌≢◌}
@@ -112,9 +112,7 @@ doubles_as l first e = rw e
 
 -- `verdict != 1`
 module _ (count : ℕ) (flag : Bool) (gap carried : Maxima) (verdict rows : ℕ) (margin_rows : List ℕ) (margins : List Float) where
-  pub margins_some : verdict ≡ 1
-      → head_lines count flag gap carried verdict ++ margin_lines margin_rows margins rows
-      ≡ margin_listing count flag gap carried verdict rows margin_rows margins
+  pub margins_some : verdict ≡ 1 → head_lines count flag gap carried verdict ++ margin_lines margin_rows margins rows ≡ margin_listing count flag gap carried verdict rows margin_rows margins
   unfolding margin_listing
   margins_some e = rw (eq-eqb verdict 1 e)
 
@@ -137,9 +135,7 @@ row_gap_as words gaps rule_numbers tolerances i e = rw (e, flag_byte (le (get_or
 
 -- `1 < verdict`
 module _ (count : ℕ) (flag : Bool) (gap carried : Maxima) (verdict rows : ℕ) (words : List ℕ) (gaps : List Float) (rule_numbers : List ℕ) (tolerances : List Float) where
-  pub gaps_some : verdict ≤ 1
-      → head_lines count flag gap carried verdict ++ gap_lines words gaps rule_numbers tolerances rows
-      ≡ gap_listing count flag gap carried verdict rows words gaps rule_numbers tolerances
+  pub gaps_some : verdict ≤ 1 → head_lines count flag gap carried verdict ++ gap_lines words gaps rule_numbers tolerances rows ≡ gap_listing count flag gap carried verdict rows words gaps rule_numbers tolerances
   unfolding gap_listing
   gaps_some h = rw (le-leb verdict 1 h)
 
@@ -147,7 +143,6 @@ module _ (count : ℕ) (flag : Bool) (gap carried : Maxima) (verdict rows : ℕ)
   unfolding gap_listing
   gaps_none h = rw (lt-leb verdict 1 h) (sym (append-nil (head_lines count flag gap carried verdict)))
 
-  pub gaps_head : {out : List ℕ} → Room out 0 (gap_listing count flag gap carried verdict rows words gaps rule_numbers tolerances)
-      → Room out 0 (head_lines count flag gap carried verdict)
+  pub gaps_head : {out : List ℕ} → Room out 0 (gap_listing count flag gap carried verdict rows words gaps rule_numbers tolerances) → Room out 0 (head_lines count flag gap carried verdict)
   unfolding gap_listing
   gaps_head h = room_first (cond (leb verdict 1) (gap_lines words gaps rule_numbers tolerances rows) []) h

@@ -102,8 +102,7 @@ pub fn body_line(
     spare: u32,
     centres: &[f64],
 ) -> usize
-    requires { (6 * b + 6 ≤ length impulses.now) × (3 * b + 3 ≤ length centres.now)
-        × Room out.old at (body_line b impulses.now spare centres.now) }
+    requires { (6 * b + 6 ≤ length impulses.now) × (3 * b + 3 ≤ length centres.now) × Room out.old at (body_line b impulses.now spare centres.now) }
     ensures { Wrote out.old at (body_line b impulses.now spare centres.now) out.new result }
 {
     let place = b as usize;
@@ -136,10 +135,8 @@ pub fn body_lines(
     centres: &[f64],
     bodies: u32,
 ) -> usize
-    requires { (6 * bodies ≤ length impulses.now) × (3 * bodies ≤ length centres.now)
-        × Room out.old at (body_lines impulses.now spare centres.now bodies) }
-    ensures { Wrote out.old at (body_lines impulses.now spare centres.now bodies)
-        out.new result }
+    requires { (6 * bodies ≤ length impulses.now) × (3 * bodies ≤ length centres.now) × Room out.old at (body_lines impulses.now spare centres.now bodies) }
+    ensures { Wrote out.old at (body_lines impulses.now spare centres.now bodies) out.new result }
 {
     let mut next = at;
     let mut b = 0;
@@ -167,8 +164,7 @@ pub fn margin_lines(
     margins: &[f64],
     n: usize,
 ) -> usize
-    requires { (n ≤ length margin_rows.now) × (n ≤ length margins.now)
-        × Room out.old at (margin_lines margin_rows.now margins.now n) }
+    requires { (n ≤ length margin_rows.now) × (n ≤ length margins.now) × Room out.old at (margin_lines margin_rows.now margins.now n) }
     ensures { Wrote out.old at (margin_lines margin_rows.now margins.now n) out.new result }
 {
     let mut next = at;
@@ -210,12 +206,9 @@ pub fn gap_lines(
     tolerances: &[f64],
     rows: u32,
 ) -> usize
-    requires rows_in_bounds { (8 * rows ≤ length words.now) × (rows ≤ length gaps.now) × (rows ≤ length rule_numbers.now)
-        × RulesBelow rule_numbers.now rows (length tolerances.now) }
+    requires rows_in_bounds { (8 * rows ≤ length words.now) × (rows ≤ length gaps.now) × (rows ≤ length rule_numbers.now) × RulesBelow rule_numbers.now rows (length tolerances.now) }
     requires room { Room out.old at (gap_lines words.now gaps.now rule_numbers.now tolerances.now rows) }
-    ensures { Wrote out.old at
-        (gap_lines words.now gaps.now rule_numbers.now tolerances.now rows)
-        out.new result }
+    ensures { Wrote out.old at (gap_lines words.now gaps.now rule_numbers.now tolerances.now rows) out.new result }
 {
     let mut next = at;
     let mut i = 0;

@@ -45,14 +45,8 @@ pub fn write_listing(
     centres: &[f64],
     out: &mut [u8],
 ) -> usize
-    requires { (27 * rows ≤ length numbers.now) × (6 * bodies ≤ length impulses.now)
-        × (3 * bodies ≤ length centres.now)
-        × Room out.old 0
-        (listing_of count flag gap carried verdict rows bodies numbers.now impulses.now spare centres.now) }
-    ensures { Wrote out.old 0
-        (listing_of count flag gap carried verdict rows bodies numbers.now impulses.now spare
-        centres.now)
-        out.new result }
+    requires { (27 * rows ≤ length numbers.now) × (6 * bodies ≤ length impulses.now) × (3 * bodies ≤ length centres.now) × Room out.old 0 (listing_of count flag gap carried verdict rows bodies numbers.now impulses.now spare centres.now) }
+    ensures { Wrote out.old 0 (listing_of count flag gap carried verdict rows bodies numbers.now impulses.now spare centres.now) out.new result }
 {
     let head = head_lines(count, flag, gap, carried, verdict, out);
     let row = row_lines(out, head, numbers, rows);
@@ -71,11 +65,8 @@ pub fn write_margins(
     margins: &[f64],
     out: &mut [u8],
 ) -> usize
-    requires { (rows ≤ length margin_rows.now) × (rows ≤ length margins.now)
-        × Room out.old 0 (margin_listing count flag gap carried verdict rows margin_rows.now margins.now) }
-    ensures { Wrote out.old 0
-        (margin_listing count flag gap carried verdict rows margin_rows.now margins.now)
-        out.new result }
+    requires { (rows ≤ length margin_rows.now) × (rows ≤ length margins.now) × Room out.old 0 (margin_listing count flag gap carried verdict rows margin_rows.now margins.now) }
+    ensures { Wrote out.old 0 (margin_listing count flag gap carried verdict rows margin_rows.now margins.now) out.new result }
 {
     let head = head_lines(count, flag, gap, carried, verdict, out);
     if verdict != 1 {
@@ -98,14 +89,9 @@ pub fn write_gaps(
     tolerances: &[f64],
     out: &mut [u8],
 ) -> usize
-    requires rows_in_bounds { (8 * rows ≤ length words.now) × (rows ≤ length gaps.now) × (rows ≤ length rule_numbers.now)
-        × (verdict ≤ 1 → RulesBelow rule_numbers.now rows (length tolerances.now)) }
-    requires room { Room out.old 0
-        (gap_listing count flag gap carried verdict rows words.now gaps.now rule_numbers.now tolerances.now) }
-    ensures { Wrote out.old 0
-        (gap_listing count flag gap carried verdict rows words.now gaps.now
-        rule_numbers.now tolerances.now)
-        out.new result }
+    requires rows_in_bounds { (8 * rows ≤ length words.now) × (rows ≤ length gaps.now) × (rows ≤ length rule_numbers.now) × (verdict ≤ 1 → RulesBelow rule_numbers.now rows (length tolerances.now)) }
+    requires room { Room out.old 0 (gap_listing count flag gap carried verdict rows words.now gaps.now rule_numbers.now tolerances.now) }
+    ensures { Wrote out.old 0 (gap_listing count flag gap carried verdict rows words.now gaps.now rule_numbers.now tolerances.now) out.new result }
 {
     let head = head_lines(count, flag, gap, carried, verdict, out);
     if 1 < verdict {

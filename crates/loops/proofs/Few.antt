@@ -1,10 +1,10 @@
--- At most three elements, written out one by one, and the ruleset `few` for them; a list of two that gets both: `both_set`. Assumes nothing.
-use Prim.Native.Nat.{ℕ, ◌<◌, ◌≤◌}
+-- At most three elements, written out one by one, and the ruleset `few` for them. Assumes nothing.
+use Prim.Native.Nat.{ℕ, ◌+◌, ◌<◌, ◌≤◌}
 use mathlib.Core.Path.{◌≡◌, refl}
-use mathlib.Core.List.{List, [], ◌∷◌}
+use mathlib.Core.List.{List}
 use native.Mathlib.Omega.{arith}
 use borrow.Author.Rules.{rules}
-use lib.ListN.{length, set, length-replicate, get_or-replicate}
+use lib.ListN.{length, get_or, set, replicate, length-set, length-replicate, get_or-replicate}
 use Rattle.loops.specs.Cleared.{filled}
 use Rattle.loops.proofs.Fill.{Fills, fills_none, fills_more, fills_end}
 
@@ -35,11 +35,5 @@ module _ {X : Type 0} (z : X) (l : List X) where
 
   pub few_three : 3 ≤ length l → length l < 4 → set (set (set l 0 z) 1 z) 2 z ≡ filled z l
   few_three a b = whole 3 _ (three a) (omega arith)
-
-pub both_set : {X : Type 0} (xs : List X) (a b : X) → length xs ≡ 2 → set (set xs 0 a) 1 b ≡ a ∷ b ∷ []
-both_set [] a b e = absurd (omega arith)
-both_set (x ∷ []) a b e = absurd (omega arith)
-both_set (x ∷ y ∷ []) a b e = refl
-both_set (x ∷ y ∷ z ∷ zs) a b e = absurd (omega arith)
 
 pub ruleset few = (few_none, few_one, few_two, few_three, rules)

@@ -77,8 +77,7 @@ module _ (jacobians : List Float) (links : List ℕ) (masses vector : List Float
         let b : (j i).body_b < bodies = unfold compact_of in linked.b i t in
         rw (response (j i).body_a a, response (j i).body_b b)
 
-    pub multiplied_is : {r : Float} {m : ℕ} → product ≡ tabulate (λ i. value_in (j i) responses) m → m ≡ rows
-        → r ≡ dot_product_of vector product → Multiplied (compact_system rows bodies jacobians links masses) vector r responses product
+    pub multiplied_is : {r : Float} {m : ℕ} → product ≡ tabulate (λ i. value_in (j i) responses) m → m ≡ rows → r ≡ dot_product_of vector product → Multiplied (compact_system rows bodies jacobians links masses) vector r responses product
     unfolding product_of
     multiplied_is {r} {m} e q a =
         let p : product ≡ tabulate (value_at (compact_system rows bodies jacobians links masses) x) rows = e ∙ ap (tabulate (λ i. value_in (j i) responses)) q ∙ same in

@@ -49,27 +49,23 @@ module _ (l : List Float) (p : BodyPair) where
   unfolding put_body_pair_of
   put_pair_at c s t =
       let e = put_paired_length l p.body_a p.of_a in
-      put_at (put_paired_of l p.body_a p.of_a) p.body_b p.of_b c (omega arith) ∙ ap
-      (λ (g : GeneralizedImpulse). cond (eqb p.body_b c) p.of_b g) (put_at l p.body_a p.of_a c s)
+      put_at (put_paired_of l p.body_a p.of_a) p.body_b p.of_b c (omega arith) ∙ ap (λ (g : GeneralizedImpulse). cond (eqb p.body_b c) p.of_b g) (put_at l p.body_a p.of_a c s)
 
 -- ---- what is held and the slice
 module _ {j : ℕ → RowJacobian} {x : ℕ → Float} {bodies : ℕ} where
   pub put_back : {i : ℕ} {l l' : List Float} {p : BodyPair} → Holding j x bodies i l p → l' ≡ put_body_pair_of l p → Summing j x bodies i l'
   put_back {i} {l} {p = p} h e = rw e (record {
     long = put_pair_length l p ∙ h.long;
-    at = λ c t. put_pair_at l p c (omega (arith, h.long, h.below_a)) (omega (arith, h.long, h.below_b)) ∙ by c t (eqb p.body_a c)
-        (eqb-true _ _) (eqb-false _ _) (eqb p.body_b c) (eqb-true _ _) (eqb-false _ _);
+    at = λ c t. put_pair_at l p c (omega (arith, h.long, h.below_a)) (omega (arith, h.long, h.below_b)) ∙ by c t (eqb p.body_a c) (eqb-true _ _) (eqb-false _ _) (eqb p.body_b c) (eqb-true _ _) (eqb-false _ _);
   })
     where
-      by : (c : ℕ) → c < bodies → (s : Bool) → (s ≡ true → p.body_a ≡ c) → (s ≡ false → p.body_a ≡ c → ⊥) → (t : Bool)
-          → (t ≡ true → p.body_b ≡ c) → (t ≡ false → p.body_b ≡ c → ⊥)
+      by : (c : ℕ) → c < bodies → (s : Bool) → (s ≡ true → p.body_a ≡ c) → (s ≡ false → p.body_a ≡ c → ⊥) → (t : Bool) → (t ≡ true → p.body_b ≡ c) → (t ≡ false → p.body_b ≡ c → ⊥)
           → cond t p.of_b (cond s p.of_a (paired_of l c)) ≡ impulse_at j x c i
       by c k s a a' true b b' = h.of_b ∙ ap (λ (d : ℕ). impulse_at j x d i) (b refl)
       by c k true a a' false b b' = h.of_a ∙ ap (λ (d : ℕ). impulse_at j x d i) (a refl)
       by c k false a a' false b b' = h.others c k (a' refl) (b' refl)
 
-  pub take_up : {i k rows : ℕ} {l : List Float} {links : List ℕ} {p : BodyPair} → Summing j x bodies i l → Linked links rows bodies
-      → k < rows → p ≡ body_pair_of links k l → Holding j x bodies i l p
+  pub take_up : {i k rows : ℕ} {l : List Float} {links : List ℕ} {p : BodyPair} → Summing j x bodies i l → Linked links rows bodies → k < rows → p ≡ body_pair_of links k l → Holding j x bodies i l p
   unfolding body_pair_of
   take_up {k = k} h t s e = rw e (record {
     long = h.long;
@@ -83,14 +79,11 @@ module _ {j : ℕ → RowJacobian} {x : ℕ → Float} {bodies : ℕ} where
 
 -- ---- one more row
 row_at : (j : RowJacobian) (c : Float) (b : ℕ) (g : GeneralizedImpulse) {s t : Bool} → eqb j.body_a b ≡ s → eqb j.body_b b ≡ t
-    → add_row_of j c b g ≡ cond t
-    (add_impulse_of (cond s (add_impulse_of g j.linear_a j.angular_a c) g) j.linear_b j.angular_b c)
-    (cond s (add_impulse_of g j.linear_a j.angular_a c) g)
+    → add_row_of j c b g ≡ cond t (add_impulse_of (cond s (add_impulse_of g j.linear_a j.angular_a c) g) j.linear_b j.angular_b c) (cond s (add_impulse_of g j.linear_a j.angular_a c) g)
 unfolding add_row_of
 row_at j c b g p q = rw (p, q)
 
-module _ {j : ℕ → RowJacobian} {x : ℕ → Float} {bodies i : ℕ} {l : List Float} {p p' : BodyPair} (h : Holding j x bodies i l p)
-    (a : (j i).body_a ≡ p.body_a) (b : (j i).body_b ≡ p.body_b) where
+module _ {j : ℕ → RowJacobian} {x : ℕ → Float} {bodies i : ℕ} {l : List Float} {p p' : BodyPair} (h : Holding j x bodies i l p) (a : (j i).body_a ≡ p.body_a) (b : (j i).body_b ≡ p.body_b) where
   pub row_added : p' ≡ added_row p (j i) (x i) → Holding j x bodies (i + 1) l p'
   unfolding added_row impulse_at
   row_added e = rw (e, add-one i) (record {
@@ -104,28 +97,23 @@ module _ {j : ℕ → RowJacobian} {x : ℕ → Float} {bodies i : ℕ} {l : Lis
   })
 
 -- ---- a run: its first row, then each that is on the same bodies
-on_row : (jacobians : List Float) (links : List ℕ) (i : ℕ) (p : BodyPair) → on_bodies links i p ≡ true
-    → ((compact_of jacobians links i).body_a ≡ p.body_a) × ((compact_of jacobians links i).body_b ≡ p.body_b)
+on_row : (jacobians : List Float) (links : List ℕ) (i : ℕ) (p : BodyPair) → on_bodies links i p ≡ true → ((compact_of jacobians links i).body_a ≡ p.body_a) × ((compact_of jacobians links i).body_b ≡ p.body_b)
 unfolding compact_of
 on_row jacobians links i p h = on_true links i p h
 
-row_of_pair : (jacobians : List Float) (links : List ℕ) (i : ℕ) (l : List Float) {p : BodyPair} → p ≡ body_pair_of links i l
-    → ((compact_of jacobians links i).body_a ≡ p.body_a) × ((compact_of jacobians links i).body_b ≡ p.body_b)
+row_of_pair : (jacobians : List Float) (links : List ℕ) (i : ℕ) (l : List Float) {p : BodyPair} → p ≡ body_pair_of links i l → ((compact_of jacobians links i).body_a ≡ p.body_a) × ((compact_of jacobians links i).body_b ≡ p.body_b)
 unfolding compact_of body_pair_of
 row_of_pair jacobians links i l e = rw e (refl, refl)
 
 module _ {jacobians : List Float} {links : List ℕ} {x : ℕ → Float} {rows first : ℕ} {l : List Float} where
-  pub run_begun : {p p' : BodyPair} → first < rows → p ≡ body_pair_of links first l
-      → p' ≡ added_row p (compact_of jacobians links first) (x first)
-      → RunAdded jacobians links x rows first l record { pair = p'; end = first + 1 }
+  pub run_begun : {p p' : BodyPair} → first < rows → p ≡ body_pair_of links first l → p' ≡ added_row p (compact_of jacobians links first) (x first) → RunAdded jacobians links x rows first l record { pair = p'; end = first + 1 }
   run_begun s e f = let (u, v) = row_of_pair jacobians links first l e in record {
     more = omega arith;
     within = omega arith;
     held = λ bodies t h. row_added (take_up h t s e) u v f;
   }
 
-  pub run_on : {i : ℕ} {p p' : BodyPair} {b : Bool} → RunAdded jacobians links x rows first l record { pair = p; end = i } → i < rows
-      → b ≡ on_bodies links i p → not b ≡ false → p' ≡ added_row p (compact_of jacobians links i) (x i)
+  pub run_on : {i : ℕ} {p p' : BodyPair} {b : Bool} → RunAdded jacobians links x rows first l record { pair = p; end = i } → i < rows → b ≡ on_bodies links i p → not b ≡ false → p' ≡ added_row p (compact_of jacobians links i) (x i)
       → RunAdded jacobians links x rows first l record { pair = p'; end = i + 1 }
   run_on {i} {p} {b = b} h s e o f = let (u, v) = on_row jacobians links i p (sym e ∙ not-false b o) in record {
     more = omega (arith, h.more);
@@ -134,13 +122,10 @@ module _ {jacobians : List Float} {links : List ℕ} {x : ℕ → Float} {rows f
   }
 
 -- ---- a row's value by what is held
-pub value_held : (jacobians : List Float) (links : List ℕ) (i : ℕ) (l : List Float) {p : BodyPair} {v : Float} → p ≡ body_pair_of links i l
-    → v ≡ row_value_of (compact_of jacobians links i) p.of_a p.of_b → v ≡ value_in (compact_of jacobians links i) l
+pub value_held : (jacobians : List Float) (links : List ℕ) (i : ℕ) (l : List Float) {p : BodyPair} {v : Float} → p ≡ body_pair_of links i l → v ≡ row_value_of (compact_of jacobians links i) p.of_a p.of_b → v ≡ value_in (compact_of jacobians links i) l
 unfolding value_in body_pair_of compact_of
 value_held jacobians links i l e q = q ∙ rw e
 
 -- of a later row of the run that row `first` begins
-pub value_on : (jacobians : List Float) (links : List ℕ) (i first : ℕ) (l : List Float) {p : BodyPair} {b : Bool}
-    → p ≡ body_pair_of links first l → b ≡ on_bodies links i p → not b ≡ false
-    → row_value_of (compact_of jacobians links i) p.of_a p.of_b ≡ value_in (compact_of jacobians links i) l
+pub value_on : (jacobians : List Float) (links : List ℕ) (i first : ℕ) (l : List Float) {p : BodyPair} {b : Bool} → p ≡ body_pair_of links first l → b ≡ on_bodies links i p → not b ≡ false → row_value_of (compact_of jacobians links i) p.of_a p.of_b ≡ value_in (compact_of jacobians links i) l
 value_on jacobians links i first l {p} {b} e o t = let (s, u) = pair_holds links first p l e in value_held jacobians links i l (held_is links i p l s u o (not-false b t)) refl

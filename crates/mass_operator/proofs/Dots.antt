@@ -37,8 +37,7 @@ module _ {x y : List Float} where
   dots_end {i} d l = let e : i ≡ length x = omega (arith, d.within) in d.led ∙ ap (dot_to x y) e
 
 -- where the second vector's number i is made in the same turn
-pub dots_made : {x : List Float} {i : ℕ} {sum : Float} (g : ℕ → Float) (n : ℕ) {v : Float} → Dots x (tabulate g n) i sum → i < length x
-    → i < n → v ≡ g i → Dots x (tabulate g n) (i + 1) (add binary64 sum (mul binary64 (get_or x i nan) v))
+pub dots_made : {x : List Float} {i : ℕ} {sum : Float} (g : ℕ → Float) (n : ℕ) {v : Float} → Dots x (tabulate g n) i sum → i < length x → i < n → v ≡ g i → Dots x (tabulate g n) (i + 1) (add binary64 sum (mul binary64 (get_or x i nan) v))
 dots_made {i = i} g n d l m e = rw (e, ← get_d_tabulate g n i nan m) (dots_more d l)
 
 pub dots_made_end : {x y : List Float} {i : ℕ} {sum : Float} (g : ℕ → Float) (n : ℕ) → Dots x (tabulate g n) i sum → length x ≤ i → y ≡ tabulate g n → sum ≡ dot_product_of x y

@@ -34,14 +34,7 @@ module _ (l : List Float) (g : GeneralizedImpulse) (b : ℕ) (e : length l ≡ 6
   last_impulse : impulse_of (l ++ six) b ≡ g
   unfolding impulse_of vec_of
   last_impulse =
-      rw (
-        at_six 0 {i = 6 * b} (omega arith),
-        at_six 1 {i = 6 * b + 1} refl,
-        at_six 2 {i = 6 * b + 2} refl,
-        at_six 3 {i = 6 * b + 3} refl,
-        at_six 4 {i = 6 * b + 3 + 1} (omega arith),
-        at_six 5 {i = 6 * b + 3 + 2} (omega arith),
-      )
+      rw (at_six 0 {i = 6 * b} (omega arith), at_six 1 {i = 6 * b + 1} refl, at_six 2 {i = 6 * b + 2} refl, at_six 3 {i = 6 * b + 3} refl, at_six 4 {i = 6 * b + 3 + 1} (omega arith), at_six 5 {i = 6 * b + 3 + 2} (omega arith))
 
 -- ---- the list holds the impulses
 pub flat_length : (g : ℕ → GeneralizedImpulse) (n : ℕ) → length (flat_impulses g n) ≡ 6 * n
@@ -57,9 +50,7 @@ flat_at g (suc n) b h = go (ltb b n) (ltb→lt b n) (nltb→le b n) (flat_at g n
   where
     go : (t : Bool) → (T t → b < n) → (T (not t) → n ≤ b) → (b < n → impulse_of (flat_impulses g n) b ≡ g b)
         → impulse_of (flat_impulses g n ++ ((g n).linear.x ∷ (g n).linear.y ∷ (g n).linear.z ∷ (g n).angular.x ∷ (g n).angular.y ∷ (g n).angular.z ∷ [])) b ≡ g b
-    go true y m r = first_impulse (flat_impulses g n)
-        ((g n).linear.x ∷ (g n).linear.y ∷ (g n).linear.z ∷ (g n).angular.x ∷ (g n).angular.y ∷ (g n).angular.z ∷ []) b
-        (omega (arith, flat_length g n, y tt)) ∙ r (y tt)
+    go true y m r = first_impulse (flat_impulses g n) ((g n).linear.x ∷ (g n).linear.y ∷ (g n).linear.z ∷ (g n).angular.x ∷ (g n).angular.y ∷ (g n).angular.z ∷ []) b (omega (arith, flat_length g n, y tt)) ∙ r (y tt)
     go false y m r = let e : b ≡ n = omega (arith, m tt) in rw e (last_impulse (flat_impulses g n) (g n) n (flat_length g n))
 
 pub flat_holds : (g : ℕ → GeneralizedImpulse) (n : ℕ) → Impulses g n (flat_impulses g n)

@@ -4,7 +4,7 @@ use mathlib.Core.Path.{◌≡◌, refl, sym, ap, ◌∙◌}
 use mathlib.Core.Bool.{Bool, true, false}
 use mathlib.Core.List.{List}
 use native.Mathlib.Omega.{arith}
-use lib.ListN.{get_or}
+use lib.ListN.{length, get_or}
 use lib.Ieee.{Float, nan}
 use lib.Ieee.Scale.{finite}
 use Rattle.loops.specs.Every.{every}
@@ -40,8 +40,7 @@ module _ (l m : List Float) (b : ℕ) (e : paired_of l b ≡ impulse_of m b) whe
   work_at (suc (suc (suc (suc (suc (suc r)))))) h q = absurd (omega arith)
 
 -- ---- a test of every number
-tested : (f : Float → Bool) (l m : List Float) (n : ℕ) → ((k : ℕ) → k < n → (p : ℕ) × (p < n) × (get_or m k nan ≡ get_or l p nan))
-    → every (λ k. f (get_or l k nan)) n ≡ true → every (λ k. f (get_or m k nan)) n ≡ true
+tested : (f : Float → Bool) (l m : List Float) (n : ℕ) → ((k : ℕ) → k < n → (p : ℕ) × (p < n) × (get_or m k nan ≡ get_or l p nan)) → every (λ k. f (get_or l k nan)) n ≡ true → every (λ k. f (get_or m k nan)) n ≡ true
 tested f l m n at h =
     (every_iff (λ k. f (get_or m k nan)) n).1 (λ k s. let (p, t, e) = at k s in ap f e ∙ (every_iff (λ k. f (get_or l k nan)) n).0 h p t)
 
@@ -52,9 +51,7 @@ together false false f g = refl
 
 pub finite_alike : (g : ℕ → GeneralizedImpulse) (n : ℕ) (l m : List Float) → Paired g n l → Impulses g n m → all_finite_of l ≡ all_finite_of m
 unfolding all_finite_of
-finite_alike g n l m p q = rw (p.long, q.long)
-    (together (every (λ k. finite (get_or l k nan)) (6 * n)) (every (λ k. finite (get_or m k nan)) (6 * n)) (tested finite l m (6 * n) work)
-    (tested finite m l (6 * n) lent))
+finite_alike g n l m p q = rw (p.long, q.long) (together (every (λ k. finite (get_or l k nan)) (6 * n)) (every (λ k. finite (get_or m k nan)) (6 * n)) (tested finite l m (6 * n) work) (tested finite m l (6 * n) lent))
   where
     same : (b : ℕ) → b < n → paired_of l b ≡ impulse_of m b
     same b s = p.at b s ∙ sym (q.at b s)

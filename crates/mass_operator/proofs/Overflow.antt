@@ -2,7 +2,7 @@
 -- so the test of the product refuses exactly what the Rust's tests after each addition, each response and each dot product refuse. Assumes nothing.
 use Prim.Native.Nat.{ℕ, zero, suc, ◌+◌, ◌-◌, ◌<◌, ◌≤◌}
 use mathlib.Core.Path.{◌≡◌, refl, ◌∙◌}
-use mathlib.Core.Bool.{Bool, true, false, cond}
+use mathlib.Core.Bool.{Bool, true, false, not, cond}
 use mathlib.Core.Logic.{◌⊎◌, inl, inr}
 use native.Mathlib.Omega.{arith}
 use lib.Dec.{T, eqb}
@@ -49,9 +49,7 @@ term_finite g u v c f = record { linear = (sum_finite g.linear (scale_of u c) f.
 
 row_finite : (j : RowJacobian) (c : Float) (b : ℕ) (g : GeneralizedImpulse) → FiniteImpulse (add_row_of j c b g) → FiniteImpulse g
 unfolding add_row_of
-row_finite j c b g f = side (eqb j.body_a b) g j.linear_a j.angular_a
-    (side (eqb j.body_b b) (cond (eqb j.body_a b) (add_impulse_of g j.linear_a j.angular_a c) g) j.linear_b
-    j.angular_b f)
+row_finite j c b g f = side (eqb j.body_a b) g j.linear_a j.angular_a (side (eqb j.body_b b) (cond (eqb j.body_a b) (add_impulse_of g j.linear_a j.angular_a c) g) j.linear_b j.angular_b f)
   where
     side : (t : Bool) (g : GeneralizedImpulse) (u v : Vec3) → FiniteImpulse (cond t (add_impulse_of g u v c) g) → FiniteImpulse g
     side true g u v f = term_finite g u v c f
@@ -97,9 +95,7 @@ touched_or_none j x b (suc k) = elim (touched_or_none j x b k) [
 
 -- ---- the impulses
 module _ (s : System) (x : ℕ → Float) (all : (i : ℕ) → i < s.rows → T (finite (value_at s x i))) where
-  on_row : (i : ℕ) → i < s.rows
-      → FiniteImpulse (impulse_at s.jacobian x (s.jacobian i).body_a s.rows)
-      × FiniteImpulse (impulse_at s.jacobian x (s.jacobian i).body_b s.rows)
+  on_row : (i : ℕ) → i < s.rows → FiniteImpulse (impulse_at s.jacobian x (s.jacobian i).body_a s.rows) × FiniteImpulse (impulse_at s.jacobian x (s.jacobian i).body_b s.rows)
   unfolding value_at response_at
   on_row i h =
       let a = (s.jacobian i).body_a in
@@ -114,8 +110,7 @@ module _ (s : System) (x : ℕ → Float) (all : (i : ℕ) → i < s.rows → T 
   ]
     where
       by : {i : ℕ} → ((s.jacobian i).body_a ≡ b) ⊎ ((s.jacobian i).body_b ≡ b)
-          → FiniteImpulse (impulse_at s.jacobian x (s.jacobian i).body_a s.rows) × FiniteImpulse
-          (impulse_at s.jacobian x (s.jacobian i).body_b s.rows) → FiniteImpulse (impulse_at s.jacobian x b s.rows)
+          → FiniteImpulse (impulse_at s.jacobian x (s.jacobian i).body_a s.rows) × FiniteImpulse (impulse_at s.jacobian x (s.jacobian i).body_b s.rows) → FiniteImpulse (impulse_at s.jacobian x b s.rows)
       by (inl e) f = rw e at f.0
       by (inr e) f = rw e at f.1
 

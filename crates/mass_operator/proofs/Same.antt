@@ -10,8 +10,7 @@ use Rattle.mass_operator.specs.Operator.{add_row_of, impulse_at, response_at, va
 pub impulse_same : (j h : ℕ → RowJacobian) (x y : ℕ → Float) (b n : ℕ) → ((i : ℕ) → i < n → j i ≡ h i) → ((i : ℕ) → i < n → x i ≡ y i) → impulse_at j x b n ≡ impulse_at h y b n
 unfolding impulse_at
 impulse_same j h x y b zero p q = refl
-impulse_same j h x y b (suc n) p q = ap (λ (k : RowJacobian). add_row_of k (x n) b (impulse_at j x b n)) (p n (omega arith)) ∙ ap
-    (λ (c : Float). add_row_of (h n) c b (impulse_at j x b n)) (q n (omega arith))
+impulse_same j h x y b (suc n) p q = ap (λ (k : RowJacobian). add_row_of k (x n) b (impulse_at j x b n)) (p n (omega arith)) ∙ ap (λ (c : Float). add_row_of (h n) c b (impulse_at j x b n)) (q n (omega arith))
     ∙ ap (add_row_of (h n) (y n) b) (impulse_same j h x y b n (λ i t. p i (omega arith)) (λ i t. q i (omega arith)))
 
 -- two systems and two lists of coefficients that agree

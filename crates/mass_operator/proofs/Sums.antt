@@ -59,8 +59,7 @@ module _ (masses : List Float) where
   pub turned_none : (bodies : ℕ) (l : List Float) → length l ≡ 6 * bodies → Turned bodies 0 l l
   turned_none bodies l e = record { long = e; at = λ b h. absurd (omega arith); rest = λ b h. refl }
 
-  pub turned_more : {bodies i : ℕ} {l₀ l l' : List Float} → Turned bodies i l₀ l → i < bodies
-      → l' ≡ put_paired_of l i (response_of (mass_of masses i) (paired_of l i)) → Turned bodies (i + 1) l₀ l'
+  pub turned_more : {bodies i : ℕ} {l₀ l l' : List Float} → Turned bodies i l₀ l → i < bodies → l' ≡ put_paired_of l i (response_of (mass_of masses i) (paired_of l i)) → Turned bodies (i + 1) l₀ l'
   turned_more {bodies} {i} {l₀} {l} h p e = rw e (record {
     long = put_paired_length l i (turned l i) ∙ h.long;
     at = λ b t. put_at l i (turned l i) b (omega (arith, h.long)) ∙ go b t (eqb i b) (eqb-true i b) (eqb-false i b);

@@ -24,8 +24,7 @@ module _ {g : ℕ → Float} {vector : List Float} where
   pub valued_none : (product : List Float) → length product ≡ length vector → Valued g vector 0 product plus_zero
   valued_none product e = record { within = omega arith; long = e; at = below_none _; summed = dots_none.led }
 
-  pub valued_more : {i : ℕ} {l l' : List Float} {sum sum' v : Float} → Valued g vector i l sum → i < length vector → v ≡ g i
-      → l' ≡ set l i v → sum' ≡ add binary64 sum (mul binary64 (get_or vector i nan) v) → Valued g vector (i + 1) l' sum'
+  pub valued_more : {i : ℕ} {l l' : List Float} {sum sum' v : Float} → Valued g vector i l sum → i < length vector → v ≡ g i → l' ≡ set l i v → sum' ≡ add binary64 sum (mul binary64 (get_or vector i nan) v) → Valued g vector (i + 1) l' sum'
   valued_more h b e p q =
       let more = fills_put (filling h) b e p in
       record { within = more.within; long = more.long; at = more.agree; summed = q ∙ (dots_made g (length vector) (summing h) b b e).led }

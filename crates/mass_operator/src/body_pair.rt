@@ -15,8 +15,7 @@ pub struct BodyPair {
 
 pub fn body_pair_at(links: &[u32], i: usize, impulses: &[f64]) -> BodyPair
     requires i_in_bounds { 2 * i + 2 ≤ length links.now }
-    requires i_in_bounds_2 { (6 * (get_or links.now (2 * i) 0) + 6 ≤ length impulses.now)
-        × (6 * (get_or links.now (2 * i + 1) 0) + 6 ≤ length impulses.now) }
+    requires i_in_bounds_2 { (6 * (get_or links.now (2 * i) 0) + 6 ≤ length impulses.now) × (6 * (get_or links.now (2 * i + 1) 0) + 6 ≤ length impulses.now) }
     ensures { result ≡ body_pair_of links.now i impulses.now }
 {
     let link = 2 * i;

@@ -31,9 +31,7 @@ pub fn add_generalized_impulse(
 // One more term for each body of row `i`.
 fn add_row(jacobians: &[f64], links: &[u32], vector: &[f64], i: usize, pair: BodyPair) -> BodyPair
     requires { (12 * i + 12 ≤ length jacobians.now) × (2 * i + 2 ≤ length links.now) × (i < length vector.now) }
-    ensures { result
-        ≡ added_row pair (compact_of jacobians.now links.now i)
-        (coefficients vector.now i) }
+    ensures { result ≡ added_row pair (compact_of jacobians.now links.now i) (coefficients vector.now i) }
 {
     let coefficient = vector[i];
     let j = compact_at(jacobians, links, i);
@@ -58,12 +56,9 @@ pub struct Run {
 
 // The rows from `first` on that are on its bodies. Until the run ends these are held and not in the slice, so that a row is read and nothing else.
 fn add_run(jacobians: &[f64], links: &[u32], vector: &[f64], first: usize, impulses: &[f64]) -> Run
-    requires vector_in_bounds { (12 * length vector.now ≤ length jacobians.now) × (2 * length vector.now ≤ length links.now)
-        × (first < length vector.now) }
-    requires first_in_bounds { (6 * (get_or links.now (2 * first) 0) + 6 ≤ length impulses.now)
-        × (6 * (get_or links.now (2 * first + 1) 0) + 6 ≤ length impulses.now) }
-    ensures { RunAdded jacobians.now links.now (coefficients vector.now)
-        (length vector.now) first impulses.now result }
+    requires vector_in_bounds { (12 * length vector.now ≤ length jacobians.now) × (2 * length vector.now ≤ length links.now) × (first < length vector.now) }
+    requires first_in_bounds { (6 * (get_or links.now (2 * first) 0) + 6 ≤ length impulses.now) × (6 * (get_or links.now (2 * first + 1) 0) + 6 ≤ length impulses.now) }
+    ensures { RunAdded jacobians.now links.now (coefficients vector.now) (length vector.now) first impulses.now result }
 {
     let taken = body_pair_at(links, first, impulses);
     let mut pair = add_row(jacobians, links, vector, first, taken);
@@ -88,8 +83,7 @@ pub fn sum_impulses(
 )
     requires vector_in_bounds { (12 * length vector.now ≤ length jacobians.now) × (2 * length vector.now ≤ length links.now) }
     requires impulses_len { (length impulses.old ≡ 6 * bodies) × Linked links.now (length vector.now) bodies }
-    ensures { Summing (compact_of jacobians.now links.now)
-        (coefficients vector.now) bodies (length vector.now) impulses.new }
+    ensures { Summing (compact_of jacobians.now links.now) (coefficients vector.now) bodies (length vector.now) impulses.new }
 {
     loops::clear(impulses);
     let mut i = 0;
@@ -110,8 +104,7 @@ pub fn global_velocity_impulse(
 ) -> Applied
     requires vector_in_bounds { (12 * length vector.now ≤ length jacobians.now) × (2 * length vector.now ≤ length links.now) }
     requires impulses_len { (length impulses.old ≡ 6 * bodies) × Linked links.now (length vector.now) bodies }
-    ensures { Summed (compact_of jacobians.now links.now)
-        (coefficients vector.now) (length vector.now) bodies result impulses.new }
+    ensures { Summed (compact_of jacobians.now links.now) (coefficients vector.now) (length vector.now) bodies result impulses.new }
 {
     sum_impulses(jacobians, links, vector, bodies, impulses);
     test_finite(impulses)

@@ -32,9 +32,7 @@ pub fn response(mass: SolverMass, impulse: GeneralizedImpulse) -> GeneralizedImp
 
 fn respond_at(masses: &[f64], b: usize, body_impulses: &mut [f64])
     requires { (10 * b + 10 ≤ length masses.now) × (6 * b + 6 ≤ length body_impulses.old) }
-    ensures { body_impulses.new
-        ≡ put_paired_of body_impulses.old b
-        (response_of (mass_of masses.now b) (paired_of body_impulses.old b)) }
+    ensures { body_impulses.new ≡ put_paired_of body_impulses.old b (response_of (mass_of masses.now b) (paired_of body_impulses.old b)) }
 {
     let responded = response(mass_at(masses, b), paired_at(body_impulses, b));
     put_paired(body_impulses, b, responded);
@@ -43,9 +41,7 @@ fn respond_at(masses: &[f64], b: usize, body_impulses: &mut [f64])
 // The response of every body in place of its impulse.
 fn respond(masses: &[f64], bodies: usize, body_impulses: &mut [f64])
     requires { (10 * bodies ≤ length masses.now) × (length body_impulses.old ≡ 6 * bodies) }
-    ensures { Paired
-        (λ b. response_of (mass_of masses.now b) (paired_of body_impulses.old b)) bodies
-        body_impulses.new }
+    ensures { Paired (λ b. response_of (mass_of masses.now b) (paired_of body_impulses.old b)) bodies body_impulses.new }
 {
     let mut b = 0;
     while b < bodies {
@@ -81,15 +77,9 @@ fn put_value(
     before: f64,
     product: &mut [f64],
 ) -> f64
-    requires { (12 * i + 12 ≤ length jacobians.now) × (2 * i + 2 ≤ length links.now) × (i < length vector.now)
-        × (i < length product.old) }
-    ensures product_after { product.new
-        ≡ set product.old i
-        (row_value_of (compact_of jacobians.now links.now i) pair.of_a pair.of_b) }
-    ensures value { result
-        ≡ add binary64 before
-        (mul binary64 (get_or vector.now i nan)
-        (row_value_of (compact_of jacobians.now links.now i) pair.of_a pair.of_b)) }
+    requires { (12 * i + 12 ≤ length jacobians.now) × (2 * i + 2 ≤ length links.now) × (i < length vector.now) × (i < length product.old) }
+    ensures product_after { product.new ≡ set product.old i (row_value_of (compact_of jacobians.now links.now i) pair.of_a pair.of_b) }
+    ensures value { result ≡ add binary64 before (mul binary64 (get_or vector.now i nan) (row_value_of (compact_of jacobians.now links.now i) pair.of_a pair.of_b)) }
 {
     let value = row_value(jacobians, links, i, pair);
     product[i] = value;
@@ -113,14 +103,10 @@ fn value_run(
     before: f64,
     product: &mut [f64],
 ) -> RunValues
-    requires product_in_bounds { (12 * length product.old ≤ length jacobians.now) × (2 * length product.old ≤ length links.now)
-        × (length vector.now ≡ length product.old) × (first < length product.old) }
-    requires first_in_bounds { (6 * (get_or links.now (2 * first) 0) + 6 ≤ length responses.now)
-        × (6 * (get_or links.now (2 * first + 1) 0) + 6 ≤ length responses.now) }
+    requires product_in_bounds { (12 * length product.old ≤ length jacobians.now) × (2 * length product.old ≤ length links.now) × (length vector.now ≡ length product.old) × (first < length product.old) }
+    requires first_in_bounds { (6 * (get_or links.now (2 * first) 0) + 6 ≤ length responses.now) × (6 * (get_or links.now (2 * first + 1) 0) + 6 ≤ length responses.now) }
     requires valued { Valued (λ i. value_in (compact_of jacobians.now links.now i) responses.now) vector.now first product.old before }
-    ensures { (first < result.end)
-        × Valued (λ i. value_in (compact_of jacobians.now links.now i) responses.now)
-        vector.now result.end product.new result.sum }
+    ensures { (first < result.end) × Valued (λ i. value_in (compact_of jacobians.now links.now i) responses.now) vector.now result.end product.new result.sum }
 {
     let pair = body_pair_at(links, first, responses);
     let mut sum = put_value(jacobians, links, first, pair, vector, before, product);
@@ -145,11 +131,8 @@ fn values(
     product: &mut [f64],
 ) -> f64
     requires product_in_bounds { (12 * length product.old ≤ length jacobians.now) × (2 * length product.old ≤ length links.now) }
-    requires responses_len { (length responses.now ≡ 6 * bodies) × (length vector.now ≡ length product.old)
-        × Linked links.now (length product.old) bodies }
-    ensures product_after { product.new
-        ≡ tabulate (λ i. value_in (compact_of jacobians.now links.now i) responses.now)
-        (length product.old) }
+    requires responses_len { (length responses.now ≡ 6 * bodies) × (length vector.now ≡ length product.old) × Linked links.now (length product.old) bodies }
+    ensures product_after { product.new ≡ tabulate (λ i. value_in (compact_of jacobians.now links.now i) responses.now) (length product.old) }
     ensures value { result ≡ dot_product_of vector.now product.new }
 {
     let mut sum = 0.0;
@@ -174,13 +157,10 @@ pub fn global_velocity_matrix_vector(
     product: &mut [f64],
 ) -> f64
     requires vector_in_bounds { (12 * length vector.now ≤ length jacobians.now) × (2 * length vector.now ≤ length links.now) }
-    requires bodies_in_bounds { (10 * bodies ≤ length masses.now) × (length body_impulses.old ≡ 6 * bodies)
-        × (length product.old ≡ length vector.now) }
+    requires bodies_in_bounds { (10 * bodies ≤ length masses.now) × (length body_impulses.old ≡ 6 * bodies) × (length product.old ≡ length vector.now) }
     requires linked { Linked links.now (length vector.now) bodies }
-    ensures { Multiplied
-        (compact_system (length vector.now) bodies jacobians.now links.now
-        masses.now)
-        vector.now result body_impulses.new product.new }
+    ensures { Multiplied (compact_system (length vector.now) bodies jacobians.now links.now masses.now) vector.now
+        result body_impulses.new product.new }
 {
     sum_impulses(jacobians, links, vector, bodies, body_impulses);
     respond(masses, bodies, body_impulses);

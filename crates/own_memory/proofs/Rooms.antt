@@ -65,8 +65,7 @@ pub mode_2 : (mode : ℕ) → mode ≡ 2 → modes.BlockJacobi ≡ room_mode mod
 unfolding mode_of
 mode_2 mode e = rw e
 
-pub factor_room : {n mode pattern order values : ℕ} {k : Mode} → k ≡ room_mode mode → pattern ≡ pattern_room k n → order ≡ order_room k n
-    → values ≡ values_room k n → FactorRoom mode n pattern order values
+pub factor_room : {n mode pattern order values : ℕ} {k : Mode} → k ≡ room_mode mode → pattern ≡ pattern_room k n → order ≡ order_room k n → values ≡ values_room k n → FactorRoom mode n pattern order values
 factor_room e p o v = record { pattern_long = rw e at p; order_long = rw e at o; values_long = rw e at v }
 
 pub no_order : (n : ℕ) → 0 ≡ order_room modes.BlockJacobi n

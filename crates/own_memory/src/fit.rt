@@ -24,9 +24,7 @@ pub fn job_fits(
     rule_numbers: usize,
     given: usize,
 ) -> bool
-    ensures { result
-        ≡ job_fits kind rows bodies mode numbers words masses solution impulses centres new_centres rule_words
-        rule_tolerances rule_numbers given }
+    ensures { result ≡ job_fits kind rows bodies mode numbers words masses solution impulses centres new_centres rule_words rule_tolerances rule_numbers given }
 {
     rules_lent(rows, rule_words, rule_tolerances, rule_numbers)
         & beside_lent(kind, rows, bodies, centres, new_centres, given)

@@ -85,9 +85,7 @@ module _ (list : List ℕ) (at size from : ℕ) (words₀ : List ℕ) where
   unfolding record_of
   reading_none = record { within = omega arith; long = refl; near = omega arith; read = refl }
 
-  pub reading_more : {k place code before word bytes : ℕ} {words words' : List ℕ} → Reading k place words → k < size
-      → code ≡ code_at list at k → before ≡ before_of words size (from + k) → word ≡ coded_of list place code before
-      → (bytes ≡ size_of code) × (bytes ≤ 8) → words' ≡ set words (from + k) word
+  pub reading_more : {k place code before word bytes : ℕ} {words words' : List ℕ} → Reading k place words → k < size → code ≡ code_at list at k → before ≡ before_of words size (from + k) → word ≡ coded_of list place code before → (bytes ≡ size_of code) × (bytes ≤ 8) → words' ≡ set words (from + k) word
       → Reading (k + 1) (place + bytes) words'
   unfolding record_of word_read
   reading_more {k} {place} {code} {before} {word} {bytes} {words} {words'} h l c b w (s, t) p =
@@ -115,9 +113,7 @@ module _ (list : List ℕ) (at size : ℕ) (words₀ : List ℕ) where
   unfolding group_of
   grouping_none count = record { within = omega arith; long = refl; begins = omega arith; near = omega arith; read = refl }
 
-  pub grouping_more : {count k from place r : ℕ} {words words' : List ℕ} → Grouping count k from place words → k < count
-      → length words' ≡ length words → ((r, words') ≡ record_of list place size from words size) × (r ≤ place + 9 * size)
-      → Grouping count (k + 1) (from + size) r words'
+  pub grouping_more : {count k from place r : ℕ} {words words' : List ℕ} → Grouping count k from place words → k < count → length words' ≡ length words → ((r, words') ≡ record_of list place size from words size) × (r ≤ place + 9 * size) → Grouping count (k + 1) (from + size) r words'
   unfolding group_of record_read
   grouping_more {count} {k} {from} {place} {r} {words} {words'} h l g (e, t) =
       record { within = omega arith; long = g ∙ h.long; begins = omega (arith, h.begins); near = omega (arith, h.near); read = rw add-one (one ∙ ap (record_read list size k) h.read) }
@@ -137,14 +133,11 @@ module _ (list : List ℕ) (at size : ℕ) (words₀ : List ℕ) where
       let m : size * k ≤ size * count = mul-le-mul {n₁ = size} {m₁ = k} {n₂ = size} {m₂ = count} (omega arith) h.within in omega (arith, h.near, h.begins)
 
   -- places and lengths are far below 2^32
-  pub grouping_place : {count k from place : ℕ} {words : List ℕ} → Grouping count k from place words → k < count
-      → (at < 4000000000) × (length words₀ ≡ size * count) × (length words₀ ≤ 20000) → place + 9 * size < 4294967288
+  pub grouping_place : {count k from place : ℕ} {words : List ℕ} → Grouping count k from place words → k < count → (at < 4000000000) × (length words₀ ≡ size * count) × (length words₀ ≤ 20000) → place + 9 * size < 4294967288
   grouping_place h l (a, e, b) = omega (arith, h.near, grouping_room h l e, h.long)
 
-  pub grouping_short : {count k from place : ℕ} {words : List ℕ} → Grouping count k from place words
-      → (at < 4000000000) × (length words₀ ≡ size * count) × (length words₀ ≤ 20000) → length words < 4294967296
+  pub grouping_short : {count k from place : ℕ} {words : List ℕ} → Grouping count k from place words → (at < 4000000000) × (length words₀ ≡ size * count) × (length words₀ ≤ 20000) → length words < 4294967296
   grouping_short h (a, e, b) = omega (arith, h.long)
 
-  pub grouping_next : {count k from place : ℕ} {words : List ℕ} → Grouping count k from place words → k < count
-      → (at < 4000000000) × (length words₀ ≡ size * count) × (length words₀ ≤ 20000) → from + size < 18446744073709551616
+  pub grouping_next : {count k from place : ℕ} {words : List ℕ} → Grouping count k from place words → k < count → (at < 4000000000) × (length words₀ ≡ size * count) × (length words₀ ≤ 20000) → from + size < 18446744073709551616
   grouping_next h l (a, e, b) = omega (arith, grouping_room h l e, h.long)

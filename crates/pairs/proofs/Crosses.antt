@@ -62,9 +62,7 @@ sum_swap none (some y) = refl
 sum_swap none none = refl
 
 -- `value_with`: the higher body's cross first, whichever of the two that is
-module _ (h : Arms) (p : RowJacobian) (a b : Crossed) (r : Float)
-    (ea : met_at h p.body_a p.linear_a p.angular_a ≡ crossed_out a)
-    (eb : met_at h p.body_b p.linear_b p.angular_b ≡ crossed_out b) where
+module _ (h : Arms) (p : RowJacobian) (a b : Crossed) (r : Float) (ea : met_at h p.body_a p.linear_a p.angular_a ≡ crossed_out a) (eb : met_at h p.body_b p.linear_b p.angular_b ≡ crossed_out b) where
   pub b_first : r ≡ number_of (sum_of (crossed_out b) (crossed_out a)) → r ≡ value_with h p
   unfolding value_with
   b_first e = rw (ea, eb) (e ∙ ap number_of (sum_swap (crossed_out b) (crossed_out a)))
@@ -83,8 +81,7 @@ met_cross mass q body l a = go (ℕ_discrete q.body_a body) (ℕ_discrete q.body
     go (no n) (yes e) = rw (ne_eqb q.body_a body n, eq-eqb q.body_b body e, e)
     go (no n) (no k) = rw (ne_eqb q.body_a body n, ne_eqb q.body_b body k)
 
-value_with_lem : (jacobians : List Float) (links : List ℕ) (masses : List Float) (i j : ℕ)
-    → value_with (arms_of (mass_of masses) (compact_of jacobians links i)) (compact_of jacobians links j) ≡ value_in jacobians links masses i j
+value_with_lem : (jacobians : List Float) (links : List ℕ) (masses : List Float) (i j : ℕ) → value_with (arms_of (mass_of masses) (compact_of jacobians links i)) (compact_of jacobians links j) ≡ value_in jacobians links masses i j
 unfolding value_with value_in pair_of
 value_with_lem jacobians links masses i j =
     let q = compact_of jacobians links i in
@@ -92,14 +89,11 @@ value_with_lem jacobians links masses i j =
     rw (met_cross (mass_of masses) q p.body_a p.linear_a p.angular_a, met_cross (mass_of masses) q p.body_b p.linear_b p.angular_b)
 
 -- `value_row`
-pub value_of : (jacobians : List Float) (links : List ℕ) (masses : List Float) (i j : ℕ) (h : Arms) (r : Float)
-    → h ≡ arms_of (mass_of masses) (compact_of jacobians links i) → r ≡ value_with h (compact_of jacobians links j)
-    → r ≡ value_in jacobians links masses i j
+pub value_of : (jacobians : List Float) (links : List ℕ) (masses : List Float) (i j : ℕ) (h : Arms) (r : Float) → h ≡ arms_of (mass_of masses) (compact_of jacobians links i) → r ≡ value_with h (compact_of jacobians links j) → r ≡ value_in jacobians links masses i j
 value_of jacobians links masses i j h r e f = f ∙ rw e (value_with_lem jacobians links masses i j)
 
 -- the masses of a row's bodies are there
-module _ (jacobians : List Float) (links : List ℕ) (masses : List Float) (rows bodies i : ℕ) (p : RowJacobian)
-    (e : p ≡ compact_of jacobians links i) (h : Linked links rows bodies) (l : 10 * bodies ≤ length masses) (li : i < rows) where
+module _ (jacobians : List Float) (links : List ℕ) (masses : List Float) (rows bodies i : ℕ) (p : RowJacobian) (e : p ≡ compact_of jacobians links i) (h : Linked links rows bodies) (l : 10 * bodies ≤ length masses) (li : i < rows) where
   pub mass_a : 10 * p.body_a + 10 ≤ length masses
   unfolding compact_of
   mass_a = let b = h.a i (omega arith) in rw e (omega arith)

@@ -44,8 +44,7 @@ pub firsts_none : (links firsts : List ℕ) → Firsts links firsts 0
 firsts_none links firsts = record { a = λ k l. absurd (omega arith); b = λ k l. absurd (omega arith) }
 
 -- a body whose first row is above k is none of row k
-apart : {links firsts : List ℕ} {i : ℕ} → Firsts links firsts i → (body k : ℕ) → k < i → k < get_or firsts body 0
-    → (eqb body (get_or links (2 * k) 0) || eqb body (get_or links (2 * k + 1) 0)) ≡ false
+apart : {links firsts : List ℕ} {i : ℕ} → Firsts links firsts i → (body k : ℕ) → k < i → k < get_or firsts body 0 → (eqb body (get_or links (2 * k) 0) || eqb body (get_or links (2 * k + 1) 0)) ≡ false
 apart {links} {firsts} h body k l u = rw (
   ne_eqb body (get_or links (2 * k) 0) (λ e. omega (arith, ap (λ x. get_or firsts x 0) e, h.a k l)),
   ne_eqb body (get_or links (2 * k + 1) 0) (λ e. omega (arith, ap (λ x. get_or firsts x 0) e, h.b k l)),

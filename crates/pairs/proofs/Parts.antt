@@ -35,8 +35,7 @@ row_yes share i m e = rw (add-one m, e)
 
 row_past : (share : ℕ → ℕ → Bool) (i m n : ℕ) → m ≤ n → ((k : ℕ) → m ≤ k → k < n → share i k ≡ false) → row_pairs share i n ≡ row_pairs share i m
 unfolding row_pairs
-row_past share i m n h = le_ind (λ n. ((k : ℕ) → m ≤ k → k < n → share i k ≡ false) → row_pairs share i n ≡ row_pairs share i m) (λ e. refl)
-    (λ k l ih e. rw (e k l (omega arith)) (omega (arith, ih (λ q q1 q2. e q q1 (omega arith))))) n h
+row_past share i m n h = le_ind (λ n. ((k : ℕ) → m ≤ k → k < n → share i k ≡ false) → row_pairs share i n ≡ row_pairs share i m) (λ e. refl) (λ k l ih e. rw (e k l (omega arith)) (omega (arith, ih (λ q q1 q2. e q q1 (omega arith))))) n h
 
 -- ---- the ways through `try_column`
 module _ (links : List ℕ) (a b w j t' : ℕ) (t : Bool) (et : t ≡ shares_in links a b w) (ew : w ≡ j) (room p : ℕ) where
@@ -89,15 +88,9 @@ module _ {share : ℕ → ℕ → Bool} where
       at k lt g false t = e k (ltb-false k m t) lt
 
   -- what stands behind a part does not matter to it
-  part_frame : {columns : List ℕ} (columns' : List ℕ) {i a b m : ℕ} → Part share columns i a b m
-      → ((q : ℕ) → q < b → get_or columns' q 0 ≡ get_or columns q 0) → Part share columns' i a b m
+  part_frame : {columns : List ℕ} (columns' : List ℕ) {i a b m : ℕ} → Part share columns i a b m → ((q : ℕ) → q < b → get_or columns' q 0 ≡ get_or columns q 0) → Part share columns' i a b m
   part_frame {columns} columns' {i} {a} {b} {m} h col = record {
-    rising =
-        record {
-          forward = h.rising.forward;
-          below = λ q q1 q2. rw (col q q2) (h.rising.below q q1 q2);
-          ascending = λ s t s1 s2 s3. rw (col s (omega arith), col t s3) (h.rising.ascending s t s1 s2 s3);
-        };
+    rising = record { forward = h.rising.forward; below = λ q q1 q2. rw (col q q2) (h.rising.below q q1 q2); ascending = λ s t s1 s2 s3. rw (col s (omega arith), col t s3) (h.rising.ascending s t s1 s2 s3) };
     right = λ q q1 q2. rw (col q q2) (h.right q q1 q2);
     all = λ k lt g. h.all k lt (record { nowhere = λ q q1 q2 e. g.nowhere q q1 q2 (col q q2 ∙ e) });
     counted = h.counted;
@@ -137,13 +130,7 @@ module _ {share : ℕ → ℕ → Bool} where
   turn : {columns₀ columns : List ℕ} {i a p m room q : ℕ} (s t : Bool) → share i m ≡ s → ltb p room ≡ t → RowPart share columns₀ columns i a p m → room ≡ length columns₀
       → cond s (check t (Done (p + 1)) Full) (Done p) ≡ Done q → RowPart share columns₀ (cond s (check t (set columns p m) columns) columns) i a q (m + 1)
   unfolding check
-  turn {p = p} {m = m} {q = q} false t e el h l d = let u : p ≡ q = cc in rw (← u)
-      (record {
-        long = h.long;
-        before = h.before;
-        part = part_past (m + 1) (omega arith) h.part (λ k k1 k2. let z : k ≡ m = omega arith in rw z e);
-        room = h.room;
-      })
+  turn {p = p} {m = m} {q = q} false t e el h l d = let u : p ≡ q = cc in rw (← u) (record { long = h.long; before = h.before; part = part_past (m + 1) (omega arith) h.part (λ k k1 k2. let z : k ≡ m = omega arith in rw z e); room = h.room })
   turn {p = p} {room = room} {q = q} true false e el h l d = absurd (let z : ◌≡◌ {A = ℕ} 0 1 = cc in omega arith)
   turn {columns₀} {columns} {p = p} {m = m} {room = room} {q = q} true true e el h l d =
       let u : p + 1 ≡ q = cc in
@@ -185,8 +172,7 @@ row_begin links columns i from first l h = record {
 
 module _ (links columns₀ columns : List ℕ) (i a b first p m room : ℕ) (r : Gathered) (h : RowPart (share_in links) columns₀ columns i first p m) (z : Bodies links i a b)
     (e : r ≡ tried_of (shares_in links a b m) room p) where
-  pub row_more : (columns' : List ℕ) (q : ℕ) → room ≡ length columns₀ → columns' ≡ tried_columns (shares_in links a b m) room columns p m
-      → r ≡ Done q → RowPart (share_in links) columns₀ columns' i first q (m + 1)
+  pub row_more : (columns' : List ℕ) (q : ℕ) → room ≡ length columns₀ → columns' ≡ tried_columns (shares_in links a b m) room columns p m → r ≡ Done q → RowPart (share_in links) columns₀ columns' i first q (m + 1)
   unfolding tried_of tried_columns
   row_more columns' q l ec t = rw ec (turn (shares_in links a b m) (ltb p room) (shares_same links i a b m z) refl h l (sym e ∙ t))
 
@@ -221,13 +207,11 @@ module _ (links : List ℕ) (i a b m : ℕ) where
   unfolding eight_apart
   eight_few l = rw l
 
-  pub eight_more : (w : ℕ) (r s : Bool) → w ≡ m → (not (eqb (m % 8) 0) || ltb (i - m) 8) ≡ false → r ≡ any_share links a b w 4
-      → s ≡ any_share links a b (w + 4) 4 → not (r || s) ≡ eight_apart links i a b m
+  pub eight_more : (w : ℕ) (r s : Bool) → w ≡ m → (not (eqb (m % 8) 0) || ltb (i - m) 8) ≡ false → r ≡ any_share links a b w 4 → s ≡ any_share links a b (w + 4) 4 → not (r || s) ≡ eight_apart links i a b m
   unfolding eight_apart
   eight_more w r s ew l e f = rw (l, ← ew, e, f)
 
-  apart_test : (s t : Bool) → (not (eqb (m % 8) 0) || ltb (i - m) 8) ≡ s → (any_share links a b m 4 || any_share links a b (m + 4) 4) ≡ t
-      → eight_apart links i a b m ≡ true → (s ≡ false) × (t ≡ false)
+  apart_test : (s t : Bool) → (not (eqb (m % 8) 0) || ltb (i - m) 8) ≡ s → (any_share links a b m 4 || any_share links a b (m + 4) 4) ≡ t → eight_apart links i a b m ≡ true → (s ≡ false) × (t ≡ false)
   unfolding eight_apart
   apart_test s t es et e = both s t (rw (es, et) at e)
     where
@@ -250,18 +234,10 @@ module _ (links : List ℕ) (i a b m : ℕ) where
         at true x both = any_none links a b m 4 both.0 k l (ltb-true k (m + 4) x)
         at false x both = any_none links a b (m + 4) 4 both.1 k (ltb-false k (m + 4) x) (omega arith)
 
-    pub row_eight : (columns₀ columns : List ℕ) (first p : ℕ) → Bodies links i a b → RowPart (share_in links) columns₀ columns i first p m
-        → RowPart (share_in links) columns₀ columns i first p (m + 8)
-    row_eight columns₀ columns first p z h =
-        record {
-          long = h.long;
-          before = h.before;
-          part = part_past (m + 8) (omega arith) h.part (λ k k1 k2. shares_same links i a b k z ∙ apart k k1 k2);
-          room = h.room;
-        }
+    pub row_eight : (columns₀ columns : List ℕ) (first p : ℕ) → Bodies links i a b → RowPart (share_in links) columns₀ columns i first p m → RowPart (share_in links) columns₀ columns i first p (m + 8)
+    row_eight columns₀ columns first p z h = record { long = h.long; before = h.before; part = part_past (m + 8) (omega arith) h.part (λ k k1 k2. shares_same links i a b k z ∙ apart k k1 k2); room = h.room }
 
-pub row_done : (links columns₀ columns : List ℕ) (i first p j room : ℕ) → RowPart (share_in links) columns₀ columns i first p j → j ≤ i
-    → i ≤ j → RowDone (Done p) (share_in links) columns₀ columns i first room
+pub row_done : (links columns₀ columns : List ℕ) (i first p j room : ℕ) → RowPart (share_in links) columns₀ columns i first p j → j ≤ i → i ≤ j → RowDone (Done p) (share_in links) columns₀ columns i first room
 row_done links columns₀ columns i first p j room h l l' = let e : j ≡ i = omega arith in record {
   done = λ q u. let v : p ≡ q = cc in rw (← v) (rw e at h);
   full = λ u. absurd (let v : ◌≡◌ {A = ℕ} 0 1 = cc in omega arith);
@@ -280,8 +256,7 @@ module _ {share : ℕ → ℕ → Bool} where
     room = omega arith;
   }
 
-  stored_more : {starts columns columns' : List ℕ} {i p b : ℕ} → Stored share starts columns i p → RowPart share columns columns' i p b i
-      → i + 1 < length starts → Stored share (set starts (i + 1) b) columns' (i + 1) b
+  stored_more : {starts columns columns' : List ℕ} {i p b : ℕ} → Stored share starts columns i p → RowPart share columns columns' i p b i → i + 1 < length starts → Stored share (set starts (i + 1) b) columns' (i + 1) b
   unfolding pair_count
   stored_more {starts} {columns} {columns'} {i} {p} {b} h r l = record {
     begin = old 0 (omega arith) ∙ h.begin;
@@ -314,25 +289,17 @@ module _ {share : ℕ → ℕ → Bool} where
   -- ---- the ways through `gather_rows`; w is n in 64 bits
   pub rows_none : (n room : ℕ) (pattern : List ℕ) → length pattern ≡ n + 1 + room → Stored share (starts_in n (set pattern 0 0)) (columns_in n (set pattern 0 0)) 0 0
   rows_none n room pattern long =
-      rw (starts_set n 0 0 pattern (omega arith), columns_stay n 0 0 pattern (omega arith))
-      (stored_none (starts_in n pattern) (columns_in n pattern) (omega (arith, starts_long n pattern (omega arith))))
+      rw (starts_set n 0 0 pattern (omega arith), columns_stay n 0 0 pattern (omega arith)) (stored_none (starts_in n pattern) (columns_in n pattern) (omega (arith, starts_long n pattern (omega arith))))
 
   module _ (n w i p room : ℕ) (ew : w ≡ n) (pattern : List ℕ) (h : Stored share (starts_in n pattern) (columns_in n pattern) i p) (long : length pattern ≡ n + 1 + room) where
     pub rows_within : p ≤ room
     rows_within = omega (arith, h.room, columns_long n room pattern long)
 
     module _ (columns : List ℕ) (r : Gathered) (d : RowDone r share (rest_of (w + 1) pattern) columns i p room) where
-      pub rows_more : (pattern' : List ℕ) (q : ℕ) → i < n → pattern' ≡ set (with_rest (w + 1) pattern columns) (i + 1) q → r ≡ Done q
-          → Stored share (starts_in n pattern') (columns_in n pattern') (i + 1) q
+      pub rows_more : (pattern' : List ℕ) (q : ℕ) → i < n → pattern' ≡ set (with_rest (w + 1) pattern columns) (i + 1) q → r ≡ Done q → Stored share (starts_in n pattern') (columns_in n pattern') (i + 1) q
       rows_more pattern' q l e t =
           let row : RowPart share (columns_in n pattern) columns i p q i = rw (columns_lent w n ew pattern) at (d.done q t) in
-          rw (
-            e,
-            starts_set n (i + 1) q (with_rest (w + 1) pattern columns) (omega arith),
-            columns_stay n (i + 1) q (with_rest (w + 1) pattern columns) (omega arith),
-            starts_stay w n ew pattern columns (omega arith),
-            columns_come w n ew pattern columns (omega arith),
-          )
+          rw (e, starts_set n (i + 1) q (with_rest (w + 1) pattern columns) (omega arith), columns_stay n (i + 1) q (with_rest (w + 1) pattern columns) (omega arith), starts_stay w n ew pattern columns (omega arith), columns_come w n ew pattern columns (omega arith))
           (stored_more h row (omega (arith, starts_long n pattern (omega arith))))
 
       pub rows_full : (starts' columns' : List ℕ) → i < n → r ≡ Full → Gathering Full share starts' columns' n room
@@ -345,8 +312,7 @@ module _ {share : ℕ → ℕ → Bool} where
             told = rw (lt-ltb room (pair_count share n) past);
           }
 
-  pub rows_end : (starts columns : List ℕ) (i n room p : ℕ) → Stored share starts columns i p → length columns ≡ room → i ≤ n → n ≤ i
-      → Gathering (Done p) share starts columns n room
+  pub rows_end : (starts columns : List ℕ) (i n room p : ℕ) → Stored share starts columns i p → length columns ≡ room → i ≤ n → n ≤ i → Gathering (Done p) share starts columns n room
   unfolding gather_run
   rows_end starts columns i n room p h long l l' =
       let e : i ≡ n = omega arith in

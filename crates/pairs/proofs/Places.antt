@@ -25,7 +25,7 @@ use Rattle.compact_table.specs.Compact.{compact_of}
 use Rattle.mass_operator.specs.System.{System, compact_system}
 use Rattle.sparse.specs.Triangle.{Sparse}
 use Rattle.sparse.specs.Kept.{start, Kept, Row, seek, pick, numbers}
-use Rattle.sparse.proofs.Rows.{row_of, one_row_lem, seek_found, seek_none, numbers_some}
+use Rattle.sparse.proofs.Rows.{row_of, one_row, seek_found, seek_none, numbers_some}
 use Rattle.sparse.proofs.Left.{free_past}
 use Rattle.pairs.specs.Pairs.{shares_of, pattern_of, row_pairs, pair_count, pair_limit, pair_room, arm_of, cross_at, sum_of, pair_of, pairs_of, finite_pair, finite_pairs}
 use Rattle.pairs.specs.Pattern.{starts_in, columns_in}
@@ -51,14 +51,13 @@ module _ {starts columns : List ℕ} {i a b : ℕ} (row : Row starts columns i a
   pub valued_empty : (values : List Float) → Valued value starts columns values (start starts i) → a ≡ b → Valued value starts columns values (start starts (i + 1))
   valued_empty values h e = valued_last values a (valued_first values h) (omega arith)
 
-  pub valued_more : (values values' : List Float) (p j : ℕ) (v : Float) → Valued value starts columns values p → a ≤ p → p < b
-      → length values ≡ length columns → j ≡ get_or columns p 0 → v ≡ value i j
+  pub valued_more : (values values' : List Float) (p j : ℕ) (v : Float) → Valued value starts columns values p → a ≤ p → p < b → length values ≡ length columns → j ≡ get_or columns p 0 → v ≡ value i j
       → values' ≡ set values p v → Valued value starts columns values' (p + 1)
   valued_more values values' p j v h p1 p2 l ej ev e = rw e (record { at = λ x q q1 q2 q3. go x q q1 q2 q3 (ℕ_discrete q p) })
     where
       go : (x q : ℕ) → start starts x ≤ q → q < start starts (x + 1) → q < p + 1 → Dec (q ≡ p) → get_or (set values p v) q nan ≡ value x (get_or columns q 0)
       go x q q1 q2 q3 (yes z) =
-          let o : x ≡ i = one_row_lem row x p p1 p2 (omega arith) (omega arith) in
+          let o : x ≡ i = one_row row x p p1 p2 (omega arith) (omega arith) in
           rw (z, o, ← ej, ← ev) (get_or-set_same values p v nan (omega (arith, row.inside)))
       go x q q1 q2 q3 (no z) = get_or-set_other values p q v nan z ∙ h.at x q q1 q2 (omega arith)
 
@@ -85,16 +84,14 @@ module _ {starts columns : List ℕ} {i a b : ℕ} (row : Row starts columns i a
   pub fine_empty : f ≡ finite_below values (start starts i) → a ≡ b → f ≡ finite_below values (start starts (i + 1))
   fine_empty h e = fine_last a (fine_first h) (omega arith) (omega arith)
 
-  pub fine_more : (values' : List Float) (p : ℕ) (v : Float) (t : Bool) → f ≡ finite_below values p → p < b → length values ≡ length columns
-      → t ≡ finite v → values' ≡ set values p v → (f && t) ≡ finite_below values' (p + 1)
+  pub fine_more : (values' : List Float) (p : ℕ) (v : Float) (t : Bool) → f ≡ finite_below values p → p < b → length values ≡ length columns → t ≡ finite v → values' ≡ set values p v → (f && t) ≡ finite_below values' (p + 1)
   unfolding finite_below every
   fine_more values' p v t h l long et e =
       let below : f ≡ every (λ q. finite (get_or (set values p v) q nan)) p = h ∙ every_same _ _ p (λ q lq. ap finite (sym (get_or-set_other values p q v nan (λ z. absurd (omega arith))))) in
       let last : t ≡ finite (get_or (set values p v) p nan) = et ∙ ap finite (sym (get_or-set_same values p v nan (omega (arith, row.inside)))) in
       rw (e, add-one p) (check_and f t ∙ rw (← below, ← last) refl)
 
-pub valued_end : (value : ℕ → ℕ → Float) (starts columns : List ℕ) (values : List Float) (i n : ℕ)
-    → Valued value starts columns values (start starts i) → i ≤ n → n ≤ i → Valued value starts columns values (start starts n)
+pub valued_end : (value : ℕ → ℕ → Float) (starts columns : List ℕ) (values : List Float) (i n : ℕ) → Valued value starts columns values (start starts i) → i ≤ n → n ≤ i → Valued value starts columns values (start starts n)
 valued_end value starts columns values i n h l l' = let e : i ≡ n = omega arith in rw e at h
 
 -- ---- a pair has a value exactly where its rows share a body
@@ -215,8 +212,7 @@ module _ (L : Sparse) (starts columns : List ℕ) (values : List Float) (n : ℕ
   home q zero lm h = absurd (omega (arith, k.begin))
   home q (suc m) lm h = go (dec_le (start starts m) q) (home q m (omega arith))
     where
-      go : Dec (start starts m ≤ q) → (q < start starts m → (i : ℕ) × (i < m) × (start starts i ≤ q) × (q < start starts (i + 1)))
-          → (i : ℕ) × (i < suc m) × (start starts i ≤ q) × (q < start starts (i + 1))
+      go : Dec (start starts m ≤ q) → (q < start starts m → (i : ℕ) × (i < m) × (start starts i ≤ q) × (q < start starts (i + 1))) → (i : ℕ) × (i < suc m) × (start starts i ≤ q) × (q < start starts (i + 1))
       go (yes g) ih = (m, omega arith, g, rw (add-one m) h)
       go (no g) ih = let (i, a, b, c) = ih (omega arith) in (i, omega arith, b, c)
 
@@ -284,18 +280,15 @@ past_limit share n h = go (ltb pair_limit (n * (n - 1) / 2)) h
     go false b = let f = few share n in absurd (omega arith)
 
 -- ---- `fill`; w is n in 64 bits
-pub valued_lent : (w n : ℕ) → w ≡ n → (value : ℕ → ℕ → Float) (pattern : List ℕ) (values : List Float)
-    → Valued value (take (w + 1) pattern) (rest_of (w + 1) pattern) values (start (take (w + 1) pattern) w)
+pub valued_lent : (w n : ℕ) → w ≡ n → (value : ℕ → ℕ → Float) (pattern : List ℕ) (values : List Float) → Valued value (take (w + 1) pattern) (rest_of (w + 1) pattern) values (start (take (w + 1) pattern) w)
     → Valued value (starts_in n pattern) (columns_in n pattern) values (start (starts_in n pattern) n)
 valued_lent w n ew value pattern values h = rw (starts_lent w n ew pattern, columns_lent w n ew pattern, ew) at h
 
-pub fine_lent : (w n : ℕ) → w ≡ n → (pattern : List ℕ) (values : List Float) (b : Bool)
-    → b ≡ finite_below values (start (take (w + 1) pattern) w) → b ≡ finite_below values (start (starts_in n pattern) n)
+pub fine_lent : (w n : ℕ) → w ≡ n → (pattern : List ℕ) (values : List Float) (b : Bool) → b ≡ finite_below values (start (take (w + 1) pattern) w) → b ≡ finite_below values (start (starts_in n pattern) n)
 fine_lent w n ew pattern values b h = rw (starts_lent w n ew pattern, ew) at h
 
 -- ---- the ways through `pairs`; pattern₀ is the pattern at entry
-pub pairs_free : (rows count : ℕ) (pattern₀ pattern : List ℕ) (values₀ values : List Float) → length pattern ≡ length pattern₀
-    → length values ≡ length values₀ → PairsFree rows count pattern₀ pattern values₀ values
+pub pairs_free : (rows count : ℕ) (pattern₀ pattern : List ℕ) (values₀ values : List Float) → length pattern ≡ length pattern₀ → length values ≡ length values₀ → PairsFree rows count pattern₀ pattern values₀ values
 pairs_free rows count pattern₀ pattern values₀ values a b = record { columns_past = free_past (rows + 1 + count) pattern₀ pattern a; values_past = free_past count values₀ values b }
 
 module _ {share : ℕ → ℕ → Bool} (n : ℕ) (pattern : List ℕ) (room : ℕ) (r : Gathered) (g : Gathering r share (starts_in n pattern) (columns_in n pattern) n room)
@@ -335,8 +328,7 @@ module _ (n bodies : ℕ) (jacobians : List Float) (links : List ℕ) (masses : 
     judged : b ≡ finite_pairs (pairs_of (compact_system n bodies jacobians links masses)) n
     judged =
         eb
-        ∙ finite_same (pairs_of (compact_system n bodies jacobians links masses)) (starts_in n pattern) (columns_in n pattern) values n
-        (pairs_kept n pattern room r g pattern₀ same-long long c t) (starts_long n pattern (omega arith)) held.pairs
+        ∙ finite_same (pairs_of (compact_system n bodies jacobians links masses)) (starts_in n pattern) (columns_in n pattern) values n (pairs_kept n pattern room r g pattern₀ same-long long c t) (starts_long n pattern (omega arith)) held.pairs
 
     pub pairs_twelve : not b ≡ true → PairsHeld (compact_system n bodies jacobians links masses) (paired.Refused 12) values₀ (starts_in n pattern) (columns_in n pattern) values
     unfolding paired_of pairs_run judged_pairs on check

@@ -32,8 +32,7 @@ fn fill(
     requires linked { Linked links.now rows bodies }
     requires pattern_len { length pattern.now ≡ rows + 1 + length values.old }
     requires kept { Kept (starts_in rows pattern.now) (columns_in rows pattern.now) }
-    ensures valued { Valued (value_in jacobians.now links.now masses.now)
-        (starts_in rows pattern.now) (columns_in rows pattern.now) values.new
+    ensures valued { Valued (value_in jacobians.now links.now masses.now) (starts_in rows pattern.now) (columns_in rows pattern.now) values.new
         (start (starts_in rows pattern.now) rows) }
     ensures value { result ≡ finite_below values.new (start (starts_in rows pattern.now) rows) }
 {
@@ -65,14 +64,9 @@ pub fn pairs(
     requires rows_in_bounds { (12 * rows ≤ length jacobians.now) × (2 * rows ≤ length links.now) × (10 * bodies ≤ length masses.now) }
     requires linked { Linked links.now rows bodies }
     requires pattern_len { (length pattern.old ≡ rows + 1 + pair_room rows) × (length values.old ≡ pair_room rows) × (room ≡ pair_room rows) }
-    ensures pairs_held { PairsHeld
-        (compact_system rows bodies jacobians.now links.now masses.now) result
-        values.old (starts_in rows pattern.new) (columns_in rows pattern.new)
-        values.new }
-    ensures pairs_free { PairsFree rows
-        (pair_count
-        (pattern_of (compact_system rows bodies jacobians.now links.now masses.now))
-        rows)
+    ensures pairs_held { PairsHeld (compact_system rows bodies jacobians.now links.now masses.now) result values.old
+        (starts_in rows pattern.new) (columns_in rows pattern.new) values.new }
+    ensures pairs_free { PairsFree rows (pair_count (pattern_of (compact_system rows bodies jacobians.now links.now masses.now)) rows)
         pattern.old pattern.new values.old values.new }
 {
     let Gathered::Done(count) = gather(links, pattern, room, rows) else {

@@ -148,8 +148,7 @@ fn gather_rows(
     n: u32,
 ) -> Gathered
     requires { (2 * n ≤ length links.now) × (length pattern.old ≡ n + 1 + room) }
-    ensures { Gathering result (share_in links.now) (starts_in n pattern.new)
-        (columns_in n pattern.new) n room }
+    ensures { Gathering result (share_in links.now) (starts_in n pattern.new) (columns_in n pattern.new) n room }
 {
     pattern[0] = 0;
     let ends = wide(n) + 1;
@@ -183,8 +182,7 @@ const NO_ROW: u32 = 4294967295;
 // The pairs of `n` rows. The answer is their number, or Full where there are more than `room`. Words of the pattern of which `Gathering` tells nothing are free.
 pub fn gather(links: &[u32], pattern: &mut [u32], room: u32, n: u32) -> Gathered
     requires { (2 * n ≤ length links.now) × (length pattern.old ≡ n + 1 + room) }
-    ensures gathering { Gathering result (share_in links.now) (starts_in n pattern.new)
-        (columns_in n pattern.new) n room }
+    ensures gathering { Gathering result (share_in links.now) (starts_in n pattern.new) (columns_in n pattern.new) n room }
     ensures free { Free pattern.old pattern.new }
 {
     if n < FEW_ROWS {

@@ -26,11 +26,9 @@ fn value_row(
     requires linked { Linked links.now rows bodies }
     requires i_lt_rows { (i < rows) × (length starts.now ≡ rows + 1) × (length values.old ≡ length columns.now) }
     requires kept { Kept starts.now columns.now }
-    requires valued { Valued (value_in jacobians.now links.now masses.now) starts.now columns.now values.old
-        (start starts.now i) }
+    requires valued { Valued (value_in jacobians.now links.now masses.now) starts.now columns.now values.old (start starts.now i) }
     requires fine_value { fine ≡ finite_below values.old (start starts.now i) }
-    ensures valued_2 { Valued (value_in jacobians.now links.now masses.now)
-        starts.now columns.now values.new (start starts.now (i + 1)) }
+    ensures valued_2 { Valued (value_in jacobians.now links.now masses.now) starts.now columns.now values.new (start starts.now (i + 1)) }
     ensures value { result ≡ finite_below values.new (start starts.now (i + 1)) }
 {
     let row = row(starts, columns, i);
@@ -67,8 +65,7 @@ pub fn fill_values(
     requires linked { Linked links.now rows bodies }
     requires starts_len { (length starts.now ≡ rows + 1) × (length values.old ≡ length columns.now) }
     requires kept { Kept starts.now columns.now }
-    ensures valued { Valued (value_in jacobians.now links.now masses.now)
-        starts.now columns.now values.new (start starts.now rows) }
+    ensures valued { Valued (value_in jacobians.now links.now masses.now) starts.now columns.now values.new (start starts.now rows) }
     ensures value { result ≡ finite_below values.new (start starts.now rows) }
     ensures free { Free values.old values.new }
 {

@@ -1,5 +1,5 @@
 // The position solve over lent tables, by lent rules: the entry.
-ghost use Rattle.std.specs.Prelude.{◌&&◌, length};
+ghost use Rattle.std.specs.Prelude.{◌≡◌, ◌&&◌, length};
 ghost use Rattle.rules.specs.Rows.{rules_in};
 ghost use Rattle.preconditioner.specs.Mode.{mode_of};
 ghost use Rattle.kapitsa_joint.specs.Kind.{place_of};
@@ -44,39 +44,13 @@ pub fn solve_prepared(
     order: &mut [u32],
     values: &mut [f64],
 ) -> PositionPcg
-    ensures { SolveRuled
-        ((rules_lent rows (length rule_words.now) (length rule_tolerances.now)
-        (length rule_numbers.old) && beside_lent kind rows bodies (length centres.now)
-        (length new_centres.old) (length given.now))
-        && passes3 rows bodies mode numbers.entry.now words.now masses.now
-        solution.old impulses.old
-        (work_memory jacobians.old links.old tolerances.old diagonal.old
-        residual.old pending.old direction.old product.old
-        body_impulses.old pattern.old order.old values.old))
+    ensures { SolveRuled ((rules_lent rows (length rule_words.now) (length rule_tolerances.now) (length rule_numbers.old) && beside_lent kind rows bodies (length centres.now) (length new_centres.old) (length given.now)) && passes3 rows bodies mode numbers.entry.now words.now masses.now solution.old impulses.old (work_memory jacobians.old links.old tolerances.old diagonal.old residual.old pending.old direction.old product.old body_impulses.old pattern.old order.old values.old))
         (rules_in rule_words.now rule_tolerances.now)
-        (solve_for kind rows bodies numbers.entry.now words.now masses.now
-        centres.now given.now
-        (rules_in rule_words.now rule_tolerances.now) shift)
-        (mode_of mode shift) limit (place_of kind) rows
-        record {
-          numbers = numbers.entry.now;
-          solution = solution.old;
-          impulses = impulses.old;
-          centres = new_centres.old;
-        }
-        record {
-          numbers = numbers.exit.now;
-          solution = solution.new;
-          impulses = impulses.new;
-          centres = new_centres.new;
-        }
+        (solve_for kind rows bodies numbers.entry.now words.now masses.now centres.now given.now (rules_in rule_words.now rule_tolerances.now) shift) (mode_of mode shift) limit (place_of kind) rows
+        record { numbers = numbers.entry.now; solution = solution.old; impulses = impulses.old; centres = new_centres.old } record { numbers = numbers.exit.now; solution = solution.new; impulses = impulses.new; centres = new_centres.new }
         rule_numbers.old rule_numbers.new result
-        (work_memory jacobians.old links.old tolerances.old diagonal.old
-        residual.old pending.old direction.old product.old
-        body_impulses.old pattern.old order.old values.old)
-        (work_memory jacobians.new links.new tolerances.new diagonal.new
-        residual.new pending.new direction.new product.new
-        body_impulses.new pattern.new order.new values.new) }
+        (work_memory jacobians.old links.old tolerances.old diagonal.old residual.old pending.old direction.old product.old body_impulses.old pattern.old order.old values.old)
+        (work_memory jacobians.new links.new tolerances.new diagonal.new residual.new pending.new direction.new product.new body_impulses.new pattern.new order.new values.new) }
 {
     let lent = rules_lent(
         rows,
@@ -159,38 +133,13 @@ pub fn solve_position_pcg_prepared(
     order: &mut [u32],
     values: &mut [f64],
 ) -> PositionPcg
-    ensures { SolveRuled
-        ((rules_lent rows (length rule_words.now) (length rule_tolerances.now)
-        (length rule_numbers.old) && centres_lent bodies (length centres.now)
-        (length new_centres.old))
-        && passes3 rows bodies mode numbers.entry.now words.now masses.now
-        solution.old impulses.old
-        (work_memory jacobians.old links.old tolerances.old diagonal.old
-        residual.old pending.old direction.old product.old
-        body_impulses.old pattern.old order.old values.old))
+    ensures { SolveRuled ((rules_lent rows (length rule_words.now) (length rule_tolerances.now) (length rule_numbers.old) && centres_lent bodies (length centres.now) (length new_centres.old)) && passes3 rows bodies mode numbers.entry.now words.now masses.now solution.old impulses.old (work_memory jacobians.old links.old tolerances.old diagonal.old residual.old pending.old direction.old product.old body_impulses.old pattern.old order.old values.old))
         (rules_in rule_words.now rule_tolerances.now)
-        (position_of rows bodies numbers.entry.now words.now masses.now centres.now
-        (rules_in rule_words.now rule_tolerances.now) shift)
-        (mode_of mode shift) limit 24 rows
-        record {
-          numbers = numbers.entry.now;
-          solution = solution.old;
-          impulses = impulses.old;
-          centres = new_centres.old;
-        }
-        record {
-          numbers = numbers.exit.now;
-          solution = solution.new;
-          impulses = impulses.new;
-          centres = new_centres.new;
-        }
+        (position_of rows bodies numbers.entry.now words.now masses.now centres.now (rules_in rule_words.now rule_tolerances.now) shift) (mode_of mode shift) limit 24 rows
+        record { numbers = numbers.entry.now; solution = solution.old; impulses = impulses.old; centres = new_centres.old } record { numbers = numbers.exit.now; solution = solution.new; impulses = impulses.new; centres = new_centres.new }
         rule_numbers.old rule_numbers.new result
-        (work_memory jacobians.old links.old tolerances.old diagonal.old
-        residual.old pending.old direction.old product.old
-        body_impulses.old pattern.old order.old values.old)
-        (work_memory jacobians.new links.new tolerances.new diagonal.new
-        residual.new pending.new direction.new product.new
-        body_impulses.new pattern.new order.new values.new) }
+        (work_memory jacobians.old links.old tolerances.old diagonal.old residual.old pending.old direction.old product.old body_impulses.old pattern.old order.old values.old)
+        (work_memory jacobians.new links.new tolerances.new diagonal.new residual.new pending.new direction.new product.new body_impulses.new pattern.new order.new values.new) }
 {
     let none: [f64; 0] = [0.0; 0];
     solve_prepared(

@@ -40,37 +40,13 @@ pub fn solve_velocity_pcg_prepared(
     order: &mut [u32],
     values: &mut [f64],
 ) -> PositionPcg
-    ensures { SolveRuled
-        ((rules_lent rows (length rule_words.now) (length rule_tolerances.now)
-        (length rule_numbers.old) && residual_lent rows (length given.now))
-        && passes3 rows bodies mode numbers.entry.now words.now masses.now
-        solution.old impulses.old
-        (work_memory jacobians.old links.old tolerances.old diagonal.old
-        residual.old pending.old direction.old product.old
-        body_impulses.old pattern.old order.old values.old))
+    ensures { SolveRuled ((rules_lent rows (length rule_words.now) (length rule_tolerances.now) (length rule_numbers.old) && residual_lent rows (length given.now)) && passes3 rows bodies mode numbers.entry.now words.now masses.now solution.old impulses.old (work_memory jacobians.old links.old tolerances.old diagonal.old residual.old pending.old direction.old product.old body_impulses.old pattern.old order.old values.old))
         (rules_in rule_words.now rule_tolerances.now)
-        (velocity_of rows bodies numbers.entry.now words.now masses.now given.now
-        (rules_in rule_words.now rule_tolerances.now) shift)
-        (mode_of mode shift) limit 25 rows
-        record {
-          numbers = numbers.entry.now;
-          solution = solution.old;
-          impulses = impulses.old;
-          centres = [];
-        }
-        record {
-          numbers = numbers.exit.now;
-          solution = solution.new;
-          impulses = impulses.new;
-          centres = [];
-        }
+        (velocity_of rows bodies numbers.entry.now words.now masses.now given.now (rules_in rule_words.now rule_tolerances.now) shift) (mode_of mode shift) limit 25 rows
+        record { numbers = numbers.entry.now; solution = solution.old; impulses = impulses.old; centres = [] } record { numbers = numbers.exit.now; solution = solution.new; impulses = impulses.new; centres = [] }
         rule_numbers.old rule_numbers.new result
-        (work_memory jacobians.old links.old tolerances.old diagonal.old
-        residual.old pending.old direction.old product.old
-        body_impulses.old pattern.old order.old values.old)
-        (work_memory jacobians.new links.new tolerances.new diagonal.new
-        residual.new pending.new direction.new product.new
-        body_impulses.new pattern.new order.new values.new) }
+        (work_memory jacobians.old links.old tolerances.old diagonal.old residual.old pending.old direction.old product.old body_impulses.old pattern.old order.old values.old)
+        (work_memory jacobians.new links.new tolerances.new diagonal.new residual.new pending.new direction.new product.new body_impulses.new pattern.new order.new values.new) }
 {
     let none: [f64; 0] = [0.0; 0];
     let mut no_centres: [f64; 0] = [0.0; 0];

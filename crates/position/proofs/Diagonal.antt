@@ -25,9 +25,7 @@ module _ (mass : ℕ → SolverMass) (r : ConstraintRow) where
   both_finite t = add_finite binary64 diagonal_a diagonal_b t
 
   -- pcg.rs, solve_position_pcg_prepared: mass_a.diagonal(..)?, mass_b.diagonal(..)?, then the residual and the sum
-  pub diagonal_final : (bodies : ℕ) → is_valid_of bodies r ≡ true
-      → ((finite diagonal_a && finite diagonal_b) && finite (neg r.scalars.error)) && finite (row_diagonal mass r)
-      ≡ passes8 (row_diagonal mass r)
+  pub diagonal_final : (bodies : ℕ) → is_valid_of bodies r ≡ true → ((finite diagonal_a && finite diagonal_b) && finite (neg r.scalars.error)) && finite (row_diagonal mass r) ≡ passes8 (row_diagonal mass r)
   unfolding passes8
   diagonal_final bodies h = go (finite diagonal_a) (finite diagonal_b) (finite (neg r.scalars.error)) (finite (row_diagonal mass r)) both_finite (start_finite bodies r h)
     where

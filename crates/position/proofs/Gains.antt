@@ -17,8 +17,7 @@ unfolding gain_of
 gain_is place numbers solution i = refl
 
 -- ---- a turn of `multipliers_finite`
-pub gain_tested : (place : ℕ) (numbers solution : List Float) (i : ℕ) (x : Float) (b : Bool) → x ≡ gain_of place numbers solution i
-    → b ≡ finite x → b ≡ finite (gain_of place numbers solution i)
+pub gain_tested : (place : ℕ) (numbers solution : List Float) (i : ℕ) (x : Float) (b : Bool) → x ≡ gain_of place numbers solution i → b ≡ finite x → b ≡ finite (gain_of place numbers solution i)
 gain_tested place numbers solution i x b ex eb = eb ∙ ap finite ex
 
 -- ---- `add_multipliers`
@@ -32,8 +31,7 @@ module _ (place : ℕ) (numbers solution : List Float) where
   gained_later : (k i : ℕ) → k ≤ i → get_or (gained place numbers solution k) (27 * i + place) nan ≡ get_or numbers (27 * i + place) nan
   unfolding gained
   gained_later zero i h = refl
-  gained_later (suc k) i h = get_or-set_other (gained place numbers solution k) (27 * k + place) (27 * i + place)
-      (gain_of place numbers solution k) nan (λ e. omega arith) ∙ gained_later k i (omega arith)
+  gained_later (suc k) i h = get_or-set_other (gained place numbers solution k) (27 * k + place) (27 * i + place) (gain_of place numbers solution k) nan (λ e. omega arith) ∙ gained_later k i (omega arith)
 
   -- the loop: n rows, of which the first i have gained
   pub record Gains (n i : ℕ) (now : List Float) : Type 0 where
@@ -46,8 +44,7 @@ module _ {place : ℕ} {numbers solution : List Float} {n : ℕ} where
   unfolding gained
   gains_none = record { within = omega arith; long = refl; made = refl }
 
-  pub gains_more : {i : ℕ} {now after : List Float} {x : Float} → Gains place numbers solution n i now → i < n
-      → x ≡ gain_of place now solution i → after ≡ set now (27 * i + place) x → Gains place numbers solution n (i + 1) after
+  pub gains_more : {i : ℕ} {now after : List Float} {x : Float} → Gains place numbers solution n i now → i < n → x ≡ gain_of place now solution i → after ≡ set now (27 * i + place) x → Gains place numbers solution n (i + 1) after
   unfolding gained gain_of
   gains_more {i} {now} {after} {x} h l ex e = record { within = omega arith; long = ap length made ∙ gained_length place numbers solution (i + 1); made = made }
     where

@@ -12,6 +12,5 @@ pub row_meets : (x s y : Float) → s ≡ absolute x → le s y ≡ le (absolute
 row_meets x s y es = rw es
 
 -- ---- `row_tolerance`
-pub tolerance_is : (tolerance : JointTolerance) (word : ℕ) (y : Float) (d : RowDimension) → d ≡ dimension_of word
-    → y ≡ tolerance_of tolerance d → y ≡ tolerance_of tolerance (dimension_of word)
+pub tolerance_is : (tolerance : JointTolerance) (word : ℕ) (y : Float) (d : RowDimension) → d ≡ dimension_of word → y ≡ tolerance_of tolerance d → y ≡ tolerance_of tolerance (dimension_of word)
 tolerance_is tolerance word y d ed ey = ey ∙ rw ed

@@ -34,10 +34,7 @@ in_pairs true true true true false f = refl
 in_pairs true true true false e f = refl
 
 pub still_is : (g : GeneralizedImpulse)
-    →
-    (((eq g.linear.x plus_zero && eq g.angular.x plus_zero) && (eq g.linear.y plus_zero && eq g.angular.y plus_zero)) &&
-    (eq g.linear.z plus_zero && eq g.angular.z plus_zero))
-    ≡ still_of g
+    → (((eq g.linear.x plus_zero && eq g.angular.x plus_zero) && (eq g.linear.y plus_zero && eq g.angular.y plus_zero)) && (eq g.linear.z plus_zero && eq g.angular.z plus_zero)) ≡ still_of g
 unfolding zero_of still_of
 still_is g = in_pairs (eq g.linear.x plus_zero) (eq g.linear.y plus_zero) (eq g.linear.z plus_zero) (eq g.angular.x plus_zero) (eq g.angular.y plus_zero) (eq g.angular.z plus_zero)
 
@@ -47,8 +44,7 @@ unfolding next_centre
 next_is m g centre step r es er = er ∙ ap (add_of centre) es
 
 -- ---- `moved_at`
-module _ (mass : ℕ → SolverMass) (impulse : ℕ → GeneralizedImpulse) (centre : ℕ → Vec3) (b : ℕ) (g : GeneralizedImpulse) (v : Vec3)
-    (still : Bool) (eg : g ≡ impulse b) (ev : v ≡ centre b) (es : still ≡ still_of g) where
+module _ (mass : ℕ → SolverMass) (impulse : ℕ → GeneralizedImpulse) (centre : ℕ → Vec3) (b : ℕ) (g : GeneralizedImpulse) (v : Vec3) (still : Bool) (eg : g ≡ impulse b) (ev : v ≡ centre b) (es : still ≡ still_of g) where
   pub moved_still : still ≡ true → v ≡ moved_at mass impulse centre b
   unfolding moved_at
   moved_still t = rw (← eg, ← es, t) ev

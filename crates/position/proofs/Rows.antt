@@ -1,5 +1,5 @@
 -- How the rows of step 0 are judged, and that it does not look at the tests before it. Assumes nothing.
-use Prim.Native.Nat.{ℕ, zero, suc}
+use Prim.Native.Nat.{ℕ, zero, suc, ◌<◌}
 use mathlib.Core.Path.{◌≡◌, refl, sym, ◌∙◌}
 use mathlib.Core.Bool.{Bool, true, false, true≢false}
 use mathlib.Core.List.{List, [], ◌∷◌}
@@ -63,9 +63,7 @@ module _ (p : Problem) where
   unfolding rows_judged check
   rows_each = go p.valid_first
     where
-      go : (b : Bool) → check b (every is_valid_at p.table.rows) true ≡ true
-          → check b (next (valid_judged p) (λ _. diagonals_judged p)) (judged (row_judged p) p.table.rows)
-          ≡ judged (row_judged p) p.table.rows
+      go : (b : Bool) → check b (every is_valid_at p.table.rows) true ≡ true → check b (next (valid_judged p) (λ _. diagonals_judged p)) (judged (row_judged p) p.table.rows) ≡ judged (row_judged p) p.table.rows
       go true h = on_going _ _ _ {s = tt} (valid_judged_lem ∙ check_true _ _ _ h) ∙ diagonals_judged_lem h
       go false h = refl
 
@@ -73,8 +71,7 @@ module _ (p : Problem) where
   unfolding rows_judged check
   rows_seven = go p.valid_first
     where
-      go : (b : Bool) → check b (every is_valid_at p.table.rows) true ≡ false
-          → check b (next (valid_judged p) (λ _. diagonals_judged p)) (judged (row_judged p) p.table.rows) ≡ ended 7
+      go : (b : Bool) → check b (every is_valid_at p.table.rows) true ≡ false → check b (next (valid_judged p) (λ _. diagonals_judged p)) (judged (row_judged p) p.table.rows) ≡ ended 7
       go true h = on_ended _ _ _ {a = 7} (valid_judged_lem ∙ check_false _ _ _ h)
       go false h = absurd (true≢false h)
 
@@ -83,7 +80,6 @@ module _ (p : Problem) where
   rows_passed h = ⊎_elim (λ v. sym (rows_each v) ∙ h) (λ v. absurd (apart _ h (rows_seven v))) (saw_bool valid_before)
 
 -- ---- step 0 looks at four parts of a problem
-pub begun_of : (p : Problem) (a : Begun) (diagonal residual : List Float)
-    → BegunHeld (started_problem p.valid_first p.table p.tolerance p.start) a diagonal residual → BegunHeld p a diagonal residual
+pub begun_of : (p : Problem) (a : Begun) (diagonal residual : List Float) → BegunHeld (started_problem p.valid_first p.table p.tolerance p.start) a diagonal residual → BegunHeld p a diagonal residual
 unfolding rows_judged valid_judged diagonals_judged row_judged
 begun_of p a diagonal residual h = record { judgement = h.judgement; diagonal_is = h.diagonal_is; residual_is = h.residual_is }

@@ -80,18 +80,8 @@ module _ (valid_first : Bool) (t : Table) (tolerance : ℕ → Float) (from : Li
 
       pub started_refused : (number : ℕ) → a ≡ rows.Refused number → BegunHeld P (begun.Refused number) diagonal residual
       unfolding judged
-      started_refused number e =
-          record {
-            judgement = rows_each P h.valid ∙ at_stop h.passed l (refused_row number e);
-            diagonal_is = λ q. absurd (unlike number q);
-            residual_is = λ q. absurd (unlike number q);
-          }
+      started_refused number e = record { judgement = rows_each P h.valid ∙ at_stop h.passed l (refused_row number e); diagonal_is = λ q. absurd (unlike number q); residual_is = λ q. absurd (unlike number q) }
 
     pub started_done : t.rows ≤ i → BegunHeld P begun.Done diagonal residual
     unfolding judged diagonals residuals
-    started_done l =
-        record {
-          judgement = rows_each P h.valid ∙ at_end h.passed l;
-          diagonal_is = λ _. filled_tabulate h.diagonal_filled l;
-          residual_is = λ _. filled_tabulate h.residual_filled l;
-        }
+    started_done l = record { judgement = rows_each P h.valid ∙ at_end h.passed l; diagonal_is = λ _. filled_tabulate h.diagonal_filled l; residual_is = λ _. filled_tabulate h.residual_filled l }

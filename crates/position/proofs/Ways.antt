@@ -17,12 +17,10 @@ use Rattle.kapitsa_joint.specs.declared.row.ConstraintRow.{ConstraintRow}
 use Rattle.kapitsa_joint.specs.declared.mass.SolverMass.{SolverMass}
 use Rattle.joint_refusals.specs.Refusals.{is_valid_of}
 use Rattle.position.specs.Problem.{started_problem}
-use Rattle.binary64.specs.One.{one}
-use Rattle.position.specs.Prepare.{row_diagonal, passes8, is_low, passes9, row_judged, prepared_diagonal, prepared_residual}
+use Rattle.position.specs.Prepare.{one, row_diagonal, passes8, is_low, passes9, row_judged, prepared_diagonal, prepared_residual}
 
 -- ---- `row_diagonal`
-pub diagonal_is : (masses : List Float) (r : ConstraintRow) (v w : ℕ) (m n : SolverMass) (a b : Float) → m ≡ mass_of masses v
-    → v ≡ r.words.body_a → n ≡ mass_of masses w → w ≡ r.words.body_b
+pub diagonal_is : (masses : List Float) (r : ConstraintRow) (v w : ℕ) (m n : SolverMass) (a b : Float) → m ≡ mass_of masses v → v ≡ r.words.body_a → n ≡ mass_of masses w → w ≡ r.words.body_b
     → a ≡ cross_of m r.linear_a r.angular_a r.linear_a r.angular_a → b ≡ cross_of n r.linear_b r.angular_b r.linear_b r.angular_b
     → add binary64 a b ≡ row_diagonal (mass_of masses) r
 unfolding row_diagonal diagonal_of

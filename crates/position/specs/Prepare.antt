@@ -2,13 +2,12 @@
 -- pcg.rs, solve_position_pcg_prepared, the loop over the rows.
 use Rattle.std.specs.Prelude.{ℕ, Bool, not, ◌&&◌, cond, List, [], ◌∷◌, Float}
 use Rattle.std.specs.Float.{binary64}
-use Rattle.std.specs.Float.Ieee.{add, le, lt}
+use Rattle.std.specs.Float.Ieee.{add, le, lt, of_bits}
 use Rattle.std.specs.Float.Ieee.Scale.{finite}
 use Rattle.loops.specs.Run.{Run, check, next}
 use Rattle.loops.specs.Judge.{judge, judged}
 use Rattle.loops.specs.Tabulate.{tabulate}
 use Rattle.loops.specs.Cleared.{plus_zero}
-use Rattle.binary64.specs.One.{one}
 use Rattle.binary64.specs.Order.{absolute, min_positive}
 use Rattle.kapitsa_joint.specs.Mass.{diagonal_of}
 use Rattle.kapitsa_joint.specs.Table.{Table}
@@ -16,6 +15,10 @@ use Rattle.kapitsa_joint.specs.declared.row.ConstraintRow.{ConstraintRow}
 use Rattle.kapitsa_joint.specs.declared.mass.SolverMass.{SolverMass}
 use Rattle.joint_refusals.specs.Refusals.{is_valid_of}
 use Rattle.position.specs.Problem.{Problem}
+
+-- 1.0
+abbrev pub one : Float
+one = of_bits binary64 0x3ff0_0000_0000_0000
 
 unfoldable pub row_diagonal : (ℕ → SolverMass) → ConstraintRow → Float
 row_diagonal mass r =

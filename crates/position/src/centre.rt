@@ -29,9 +29,7 @@ fn next_center(mass: SolverMass, impulse: GeneralizedImpulse, center: Vec3) -> V
 // The centre of body b. Where its six impulses are zero its bits stay: −0.0 + 0.0 would be +0.0.
 fn moved_at(masses: &[f64], impulses: &[f64], centres: &[f64], b: usize) -> Vec3
     requires { (10 * b + 10 ≤ length masses.now) × (6 * b + 6 ≤ length impulses.now) × (3 * b + 3 ≤ length centres.now) }
-    ensures { result
-        ≡ moved_at (mass_of masses.now) (paired_of impulses.now)
-        (λ b. vec_of centres.now (3 * b)) b }
+    ensures { result ≡ moved_at (mass_of masses.now) (paired_of impulses.now) (λ b. vec_of centres.now (3 * b)) b }
 {
     let impulse = paired_at(impulses, b);
     let center = vec_at(centres, 3 * b);
@@ -44,10 +42,7 @@ fn moved_at(masses: &[f64], impulses: &[f64], centres: &[f64], b: usize) -> Vec3
 // Refusal 17, of the centres: true where it does not apply.
 pub fn moved_finite(masses: &[f64], impulses: &[f64], centres: &[f64], bodies: usize) -> bool
     requires { (10 * bodies ≤ length masses.now) × (6 * bodies ≤ length impulses.now) × (3 * bodies ≤ length centres.now) }
-    ensures { result
-        ≡ centres_finite
-        (moved_by (mass_of masses.now) (paired_of impulses.now)
-        (centres_in bodies centres.now)) }
+    ensures { result ≡ centres_finite (moved_by (mass_of masses.now) (paired_of impulses.now) (centres_in bodies centres.now)) }
 {
     let mut b = 0;
     while b < bodies {
@@ -67,12 +62,8 @@ pub fn move_centres(
     bodies: usize,
     new_centres: &mut [f64],
 )
-    requires { (10 * bodies ≤ length masses.now) × (6 * bodies ≤ length impulses.now)
-        × (3 * bodies ≤ length centres.now) × (length new_centres.old ≡ 3 * bodies) }
-    ensures { new_centres.new
-        ≡ flat_centres
-        (moved_by (mass_of masses.now) (paired_of impulses.now)
-        (centres_in bodies centres.now)) }
+    requires { (10 * bodies ≤ length masses.now) × (6 * bodies ≤ length impulses.now) × (3 * bodies ≤ length centres.now) × (length new_centres.old ≡ 3 * bodies) }
+    ensures { new_centres.new ≡ flat_centres (moved_by (mass_of masses.now) (paired_of impulses.now) (centres_in bodies centres.now)) }
 {
     let mut b = 0;
     while b < bodies {

@@ -1,5 +1,6 @@
 // The accumulated multipliers, or impulses: tested before anything is written, then gained. `place` is where a row has its number: 24, or 25.
-ghost use Rattle.std.specs.Prelude.{◌≡◌, ◌+◌, ◌*◌, ◌<◌, ◌≤◌, length};
+ghost use Rattle.std.specs.Prelude.{◌≡◌, ◌+◌, ◌*◌, ◌<◌, ◌≤◌, length, get_or};
+ghost use Rattle.std.specs.Float.{nan};
 ghost use Rattle.position.specs.Multipliers.{gain_of, gains_finite, gained};
 
 fn gain(place: usize, numbers: &[f64], solution: &[f64], i: usize) -> f64

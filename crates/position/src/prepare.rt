@@ -10,8 +10,7 @@ ghost use Rattle.kapitsa_joint.specs.Table.{table_of, tolerances_in};
 ghost use Rattle.joint_refusals.specs.Refusals.{is_valid_of};
 ghost use Rattle.mass_operator.specs.Flat.{coefficients};
 ghost use Rattle.position.specs.Problem.{started_problem};
-ghost use Rattle.binary64.specs.One.{one};
-ghost use Rattle.position.specs.Prepare.{row_diagonal, passes8, is_low, passes9, row_judged, prepared_diagonal, prepared_residual};
+ghost use Rattle.position.specs.Prepare.{one, row_diagonal, passes8, is_low, passes9, row_judged, prepared_diagonal, prepared_residual};
 ghost use Rattle.position.specs.Answers.{row_out, BegunHeld};
 
 use joint_refusals::{is_valid_at, rows_valid};
@@ -55,9 +54,7 @@ fn row_diagonal(masses: &[f64], row: ConstraintRow) -> f64
 
 // 8 and 9 of a row, and its numbers.
 fn judge_diagonal(diagonal: f64, residual: f64, tolerance: f64) -> RowAnswer
-    ensures { next (judge ((8, passes8 diagonal) ∷ ((9, passes9 diagonal residual tolerance) ∷ [])))
-        (λ _. going (cond (is_low diagonal) one diagonal, cond (is_low diagonal) plus_zero residual))
-        ≡ row_out result }
+    ensures { next (judge ((8, passes8 diagonal) ∷ ((9, passes9 diagonal residual tolerance) ∷ []))) (λ _. going (cond (is_low diagonal) one diagonal, cond (is_low diagonal) plus_zero residual)) ≡ row_out result }
 {
     if !binary64::is_finite(diagonal) {
         return RowAnswer::Refused(8);
@@ -87,22 +84,9 @@ fn prepare_row(
     residual: f64,
     i: usize,
 ) -> RowAnswer
-    requires { (27 * rows ≤ length numbers.now) × (8 * rows ≤ length words.now)
-        × (10 * bodies ≤ length masses.now) × (rows ≤ length tolerances.now) × (i < rows) }
-    ensures { next
-        (row_judged
-        (started_problem false
-        (table_of rows bodies numbers.now words.now masses.now)
-        (tolerances_in tolerances.now) (λ _. residual))
-        i)
-        (λ _.
-        going (
-          prepared_diagonal (table_of rows bodies numbers.now words.now masses.now)
-              i,
-          prepared_residual (table_of rows bodies numbers.now words.now masses.now)
-              (λ _. residual) i,
-        ))
-        ≡ row_out result }
+    requires { (27 * rows ≤ length numbers.now) × (8 * rows ≤ length words.now) × (10 * bodies ≤ length masses.now) × (rows ≤ length tolerances.now) × (i < rows) }
+    ensures { next (row_judged (started_problem false (table_of rows bodies numbers.now words.now masses.now) (tolerances_in tolerances.now) (λ _. residual)) i)
+        (λ _. going (prepared_diagonal (table_of rows bodies numbers.now words.now masses.now) i, prepared_residual (table_of rows bodies numbers.now words.now masses.now) (λ _. residual) i)) ≡ row_out result }
 {
     if !is_valid_at(numbers, words, i, bodies) {
         return RowAnswer::Refused(7);
@@ -114,9 +98,7 @@ fn prepare_row(
 // 7 of all rows, where it comes before any 8 and 9: true where it does not apply.
 fn valid_before(valid_first: bool, numbers: &[f64], words: &[u32], rows: usize, bodies: u32) -> bool
     requires { (27 * rows ≤ length numbers.now) × (8 * rows ≤ length words.now) }
-    ensures { result
-        ≡ check valid_first (every (λ i. is_valid_of bodies (row_of numbers.now words.now i)) rows)
-        true }
+    ensures { result ≡ check valid_first (every (λ i. is_valid_of bodies (row_of numbers.now words.now i)) rows) true }
 {
     if !valid_first {
         return true;
@@ -135,15 +117,8 @@ pub fn begin(
     diagonal: &mut [f64],
     residual: &mut [f64],
 ) -> Begun
-    requires { (27 * length diagonal.old ≤ length numbers.now) × (8 * length diagonal.old ≤ length words.now)
-        × (10 * bodies ≤ length masses.now) × (length tolerances.now ≡ length diagonal.old)
-        × (length residual.old ≡ length diagonal.old) }
-    ensures begun_held { BegunHeld
-        (started_problem valid_first
-        (table_of (length diagonal.old) bodies numbers.now words.now
-        masses.now)
-        (tolerances_in tolerances.now) (coefficients residual.old))
-        result diagonal.new residual.new }
+    requires { (27 * length diagonal.old ≤ length numbers.now) × (8 * length diagonal.old ≤ length words.now) × (10 * bodies ≤ length masses.now) × (length tolerances.now ≡ length diagonal.old) × (length residual.old ≡ length diagonal.old) }
+    ensures begun_held { BegunHeld (started_problem valid_first (table_of (length diagonal.old) bodies numbers.now words.now masses.now) (tolerances_in tolerances.now) (coefficients residual.old)) result diagonal.new residual.new }
     ensures free { Free diagonal.old diagonal.new × Free residual.old residual.new }
 {
     let rows = diagonal.len();

@@ -33,9 +33,7 @@ pub fn position_vector_converged(tolerances: &[f64], residual: &[f64]) -> bool
 // position_pcg_result of pcg.rs: its two maxima.
 pub fn residual_maxima(words: &[u32], residual: &[f64]) -> Maxima
     requires { 8 * length residual.now ≤ length words.now }
-    ensures { result
-        ≡ maxima_of (λ i. dimension_of (get_or words.now (8 * i + 1) 0)) residual.now
-        (length residual.now) }
+    ensures { result ≡ maxima_of (λ i. dimension_of (get_or words.now (8 * i + 1) 0)) residual.now (length residual.now) }
 {
     let mut maxima = Maxima {
         linear: 0.0,

@@ -40,8 +40,7 @@ no_centres_lem [] e = refl
 no_centres_lem (x ∷ l) e = absurd (omega (arith, e))
 
 -- ---- of either kind, what is delivered by the lent lists is what is delivered of the problem
-module _ (kind : Kind) (rows bodies : ℕ) (numbers : List Float) (words : List ℕ) (masses centres residual : List Float) (rules : Rules)
-    (shift : Float) (long : length centres ≡ 3 * placed_of kind bodies) where
+module _ (kind : Kind) (rows bodies : ℕ) (numbers : List Float) (words : List ℕ) (masses centres residual : List Float) (rules : Rules) (shift : Float) (long : length centres ≡ 3 * placed_of kind bodies) where
   abbrev problem : Problem
   problem = solve_for kind rows bodies numbers words masses centres residual rules shift
 
@@ -52,17 +51,14 @@ module _ (kind : Kind) (rows bodies : ℕ) (numbers : List Float) (words : List 
   accumulated_in_lem kinds.Position = multipliers_in rows bodies numbers words masses
   accumulated_in_lem kinds.Velocity = impulses_in rows bodies numbers words masses
 
-  centres_in_lem : (k : Kind) → length centres ≡ 3 * placed_of k bodies
-      → centres_in (placed_of k bodies) centres ≡ (solve_for k rows bodies numbers words masses centres residual rules shift).centres
+  centres_in_lem : (k : Kind) → length centres ≡ 3 * placed_of k bodies → centres_in (placed_of k bodies) centres ≡ (solve_for k rows bodies numbers words masses centres residual rules shift).centres
   centres_in_lem kinds.Position e = refl
   centres_in_lem kinds.Velocity e = no_centres_lem centres e
 
   finished_in : finished (place_of kind) (placed_of kind bodies) ≡ finished_of problem.table problem.accumulated problem.centres
-  finished_in = ap (λ (f : ℕ → Float). finished_of problem.table f (centres_in (placed_of kind bodies) centres)) (accumulated_in_lem kind) ∙ ap
-      (finished_of problem.table problem.accumulated) (centres_in_lem kind long)
+  finished_in = ap (λ (f : ℕ → Float). finished_of problem.table f (centres_in (placed_of kind bodies) centres)) (accumulated_in_lem kind) ∙ ap (finished_of problem.table problem.accumulated) (centres_in_lem kind long)
 
-  pub delivered_in : (place placed n : ℕ) (before : Lent) (x : Run (Bool × ℕ × Iterate) ℕ) (o : Outcome) → place ≡ place_of kind
-      → placed ≡ placed_of kind bodies → outcome_at place n before (next x (finished place placed)) ≡ o
+  pub delivered_in : (place placed n : ℕ) (before : Lent) (x : Run (Bool × ℕ × Iterate) ℕ) (o : Outcome) → place ≡ place_of kind → placed ≡ placed_of kind bodies → outcome_at place n before (next x (finished place placed)) ≡ o
       → outcome_at (place_of kind) n before (next x (finished_of problem.table problem.accumulated problem.centres)) ≡ o
   delivered_in place placed n before x o ek ep h =
       ap (λ (f : Bool × ℕ × Iterate → Answer). outcome_at (place_of kind) n before (next x f)) (sym finished_in)

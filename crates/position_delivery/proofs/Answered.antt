@@ -28,23 +28,16 @@ abbrev outcome : PositionPcg → Lent → Outcome
 outcome r l = record { answer = r; lent = l }
 
 -- ---- up to the step counted the centres themselves are not looked at, only whether they are finite
-pub counted_centres : (options : List (ℕ × Bool)) (limits : Tolerances) (placed : Bool) (c d : Centres) (p : Problem) (mode : Mode)
-    (limit : ℕ)
-    → counted_of mode (with_tests options limits placed c p) limit ≡ counted_of mode (with_tests options limits placed d p) limit
+pub counted_centres : (options : List (ℕ × Bool)) (limits : Tolerances) (placed : Bool) (c d : Centres) (p : Problem) (mode : Mode) (limit : ℕ) → counted_of mode (with_tests options limits placed c p) limit ≡ counted_of mode (with_tests options limits placed d p) limit
 unfolding counted_of counting opening_of begin_of rows_judged valid_judged diagonals_judged row_judged
 counted_centres options limits placed c d p mode limit = refl
 
 -- ---- what is delivered of what is counted
-pub delivered_of : (p : Problem) (mode : Mode) (place n limit : ℕ) (before : Lent) (x : Run (Bool × ℕ × Iterate) ℕ) (o : Outcome)
-    → counted_of mode p limit ≡ x → outcome_at place n before (next x (finished_of p.table p.accumulated p.centres)) ≡ o
-    → outcome_at place n before (solve (method_of true p mode) limit) ≡ o
+pub delivered_of : (p : Problem) (mode : Mode) (place n limit : ℕ) (before : Lent) (x : Run (Bool × ℕ × Iterate) ℕ) (o : Outcome) → counted_of mode p limit ≡ x → outcome_at place n before (next x (finished_of p.table p.accumulated p.centres)) ≡ o → outcome_at place n before (solve (method_of true p mode) limit) ≡ o
 unfolding solve finished_of counted_of on
-delivered_of p mode place n limit before x o e h = ap (outcome_at place n before)
-    (joined (opening_of true p limit) ∙ ap (λ (y : Run (Bool × ℕ × Iterate) ℕ). next y (deliver (method_of true p mode))) e) ∙ h
+delivered_of p mode place n limit before x o e h = ap (outcome_at place n before) (joined (opening_of true p limit) ∙ ap (λ (y : Run (Bool × ℕ × Iterate) ℕ). next y (deliver (method_of true p mode))) e) ∙ h
   where
-    joined : (r : Run Unit ℕ)
-        → next r (λ _. next (counting (method_of true p mode) limit) (deliver (method_of true p mode)))
-        ≡ next (next r (λ _. counting (method_of true p mode) limit)) (deliver (method_of true p mode))
+    joined : (r : Run Unit ℕ) → next r (λ _. next (counting (method_of true p mode) limit) (deliver (method_of true p mode))) ≡ next (next r (λ _. counting (method_of true p mode) limit)) (deliver (method_of true p mode))
     joined (going _) = refl
     joined (ended k) = refl
 
@@ -54,16 +47,14 @@ module _ (p : Problem) (mode : Mode) (place n limit : ℕ) (before : Lent) (b fi
   unfolding solve proposal_of committed_of opening_of judge
   entry_refused h = ap (outcome_at place n before) (on_ended _ _ _ {a = 3} (test_fail fits 3 _ e h))
 
-  pub entry_on : (o : Outcome) → not b ≡ false → outcome_at place n before (solve (method_of true p mode) limit) ≡ o
-      → outcome_at place n before (solve (method_of fits p mode) limit) ≡ o
+  pub entry_on : (o : Outcome) → not b ≡ false → outcome_at place n before (solve (method_of true p mode) limit) ≡ o → outcome_at place n before (solve (method_of fits p mode) limit) ≡ o
   entry_on o h q = let z : true ≡ fits = sym (not-false b h) ∙ e in ap (λ (x : Bool). outcome_at place n before (solve (method_of x p mode) limit)) (sym z) ∙ q
 
 -- whatever the answer, it means what it says
 module _ (m : Method Iterate Carried Delivered) (limit place n : ℕ) (before after : Lent) (r : PositionPcg) where
   said : (a : Answer) → solve m limit ≡ a → MeaningAt m limit place n before (outcome_at place n before a).answer (outcome_at place n before a).lent
   unfolding proposal_of committed_of
-  said (going ((flag, count, v), f)) e = let w = means m limit (going ((flag, count, v), f)) e in
-      record { step = v; delivered = f; accepted = w.0; result_is = refl; lent_is = refl; none_turns_back = w.1 }
+  said (going ((flag, count, v), f)) e = let w = means m limit (going ((flag, count, v), f)) e in record { step = v; delivered = f; accepted = w.0; result_is = refl; lent_is = refl; none_turns_back = w.1 }
   said (ended k) e = record { turned = means m limit (ended k) e; kept = refl }
 
   pub entry_means : outcome_at place n before (solve m limit) ≡ outcome r after → MeaningAt m limit place n before r after

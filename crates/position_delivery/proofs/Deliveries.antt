@@ -47,8 +47,7 @@ use Rattle.recurrence.specs.Step.{Iterate}
 use Rattle.kapitsa_joint.specs.declared.maxima.Maxima.{Maxima}
 
 -- ---- `accept`
-pub accepts : (flag : Bool) (count : ℕ) (words : List ℕ) (residual : List Float) (m : Maxima)
-    → m ≡ maxima_of (λ i. dimension_of (get_or words (8 * i + 1) 0)) residual (length residual)
+pub accepts : (flag : Bool) (count : ℕ) (words : List ℕ) (residual : List Float) (m : Maxima) → m ≡ maxima_of (λ i. dimension_of (get_or words (8 * i + 1) 0)) residual (length residual)
     → answers.Accepted (record { converged = flag; iterations = count; linear_residual_m = m.linear; angular_residual_rad = m.angular }) ≡ accepted_of flag count words residual
 unfolding accepted_of
 accepts flag count words residual m e = rw e
@@ -84,9 +83,7 @@ module _ (j : ℕ → RowJacobian) (numbers pending : List Float) (rows bodies :
     pub judged_overflow : a ≡ applied.Overflow → Judged false place placed bodies numbers masses centres (impulses_of j (coefficients pending) rows bodies) pending l
     judged_overflow t = record { passed = rw (failed _ (all _ refl ∙ t)); summed = in_order }
 
-    pub judged_finite : (gains moved : Bool) → placed ≤ bodies → a ≡ applied.Done
-        → gains ≡ gains_finite place numbers pending (length pending)
-        → moved ≡ centres_finite (moved_by (mass_of masses) (paired_of l) (centres_in placed centres))
+    pub judged_finite : (gains moved : Bool) → placed ≤ bodies → a ≡ applied.Done → gains ≡ gains_finite place numbers pending (length pending) → moved ≡ centres_finite (moved_by (mass_of masses) (paired_of l) (centres_in placed centres))
         → Judged (gains && moved) place placed bodies numbers masses centres (impulses_of j (coefficients pending) rows bodies) pending l
     judged_finite gains moved few t eg em = record { passed = rw (passed _ (all _ refl ∙ t), ← eg, em, same); summed = in_order }
       where
@@ -94,14 +91,11 @@ module _ (j : ℕ → RowJacobian) (numbers pending : List Float) (rows bodies :
         same = moved_finite_same (mass_of masses) (paired_of l) (impulse_of (impulses_of j (coefficients pending) rows bodies)) (centres_in placed centres) (read l bodies placed few in_order)
 
 -- ---- `show`
-module _ (r : Bool) (place placed bodies : ℕ) (numbers masses centres impulses pending l solution₀ impulses₀ centres₀ : List Float)
-    (judged : Judged r place placed bodies numbers masses centres impulses pending l) where
+module _ (r : Bool) (place placed bodies : ℕ) (numbers masses centres impulses pending l solution₀ impulses₀ centres₀ : List Float) (judged : Judged r place placed bodies numbers masses centres impulses pending l) where
   pub shown_none : not r ≡ true → Shown false place placed numbers masses centres impulses pending solution₀ impulses₀ centres₀ solution₀ impulses₀ centres₀
   shown_none h = record { passed = sym (not-true r h) ∙ judged.passed; shown = λ e. absurd (let z : ◌≡◌ {A = ℕ} 0 1 = cc in omega arith); kept = λ _. (refl, refl, refl) }
 
-  pub shown_all : (solution₁ impulses₁ centres₁ : List Float) → placed ≤ bodies → not r ≡ false → solution₁ ≡ pending
-      → impulses₁ ≡ flat_impulses (paired_of l) bodies
-      → centres₁ ≡ flat_centres (moved_by (mass_of masses) (paired_of l) (centres_in placed centres))
+  pub shown_all : (solution₁ impulses₁ centres₁ : List Float) → placed ≤ bodies → not r ≡ false → solution₁ ≡ pending → impulses₁ ≡ flat_impulses (paired_of l) bodies → centres₁ ≡ flat_centres (moved_by (mass_of masses) (paired_of l) (centres_in placed centres))
       → Shown true place placed numbers masses centres impulses pending solution₀ impulses₀ centres₀ solution₁ impulses₁ centres₁
   shown_all solution₁ impulses₁ centres₁ few h es ei ec = record {
     passed = sym (not-false r h) ∙ judged.passed;
@@ -111,8 +105,7 @@ module _ (r : Bool) (place placed bodies : ℕ) (numbers masses centres impulses
 
 -- ---- the accumulated numbers of an accepted answer
 module _ (place : ℕ) (numbers : List Float) where
-  with_gained : (solution l : List Float) (n k : ℕ) → k ≤ n → ((i : ℕ) → i < n → get_or l i nan ≡ gain_of place numbers solution i)
-      → with_accumulated place numbers l k ≡ gained place numbers solution k
+  with_gained : (solution l : List Float) (n k : ℕ) → k ≤ n → ((i : ℕ) → i < n → get_or l i nan ≡ gain_of place numbers solution i) → with_accumulated place numbers l k ≡ gained place numbers solution k
   unfolding with_accumulated gained
   with_gained solution l n zero h g = refl
   with_gained solution l n (suc k) h g = rw (with_gained solution l n k (omega arith) g, g k (omega arith))
@@ -134,14 +127,12 @@ module _ (place : ℕ) (numbers : List Float) where
   unfolding gains_of
   gains_long rows solution = length_tabulate (λ i. add binary64 (accumulated_in place numbers i) (get_or solution i nan)) rows
 
-  gained_multipliers : (rows : ℕ) (solution : List Float)
-      → with_accumulated place numbers (gains_of (accumulated_in place numbers) rows solution) rows ≡ gained place numbers solution rows
+  gained_multipliers : (rows : ℕ) (solution : List Float) → with_accumulated place numbers (gains_of (accumulated_in place numbers) rows solution) rows ≡ gained place numbers solution rows
   gained_multipliers rows solution = with_gained solution _ rows rows (omega arith) (gains_at rows solution)
 
   gains_finite_lem : (rows : ℕ) (solution : List Float) → all_finite_of (gains_of (accumulated_in place numbers) rows solution) ≡ gains_finite place numbers solution rows
   unfolding all_finite_of gains_finite
-  gains_finite_lem rows solution = let l = gains_of (accumulated_in place numbers) rows solution in ap (every (λ i. finite (get_or l i nan)))
-      (gains_long rows solution) ∙ every_same _ _ rows (λ i h. ap finite (gains_at rows solution i h))
+  gains_finite_lem rows solution = let l = gains_of (accumulated_in place numbers) rows solution in ap (every (λ i. finite (get_or l i nan))) (gains_long rows solution) ∙ every_same _ _ rows (λ i h. ap finite (gains_at rows solution i h))
 
 -- the three tests of 17
 all_pass : {X : Type 0} (a b d : Bool) (x : X) → (a && (b && d)) ≡ true → next (test a 17) (λ _. next (test b 17) (λ _. next (test d 17) (λ _. going x))) ≡ going x
@@ -166,38 +157,19 @@ module _ (place : ℕ) (numbers masses : List Float) (words : List ℕ) (rows bo
   abbrev accumulated : ℕ → Float
   accumulated = accumulated_in place numbers
 
-  maxima_in_lem : (pending residual : List Float) → length residual ≡ rows
-      → maxima_of (λ i. dimension_of (get_or words (8 * i + 1) 0)) residual (length residual)
-      ≡ maxima_in table (record { solution = pending; residual = residual })
+  maxima_in_lem : (pending residual : List Float) → length residual ≡ rows → maxima_of (λ i. dimension_of (get_or words (8 * i + 1) 0)) residual (length residual) ≡ maxima_in table (record { solution = pending; residual = residual })
   unfolding maxima_in row_of words_of
   maxima_in_lem pending residual e = ap (maxima_of (λ i. dimension_of (get_or words (8 * i + 1) 0)) residual) e
 
   module _ (flag : Bool) (count : ℕ) (pending residual : List Float) (long : length residual ≡ rows) (r : PositionPcg) (accepted : r ≡ accepted_of flag count words residual) where
-    answer_is : (m l k : List Float)
-        → r
-        ≡ answers.Accepted
-        (result_of flag count
-        (record {
-          accumulated = m;
-          impulses = l;
-          centres = k;
-          maxima = maxima_in table (record { solution = pending; residual = residual });
-        }))
+    answer_is : (m l k : List Float) → r ≡ answers.Accepted (result_of flag count (record { accumulated = m; impulses = l; centres = k; maxima = maxima_in table (record { solution = pending; residual = residual }) }))
     unfolding accepted_of
-    answer_is m l k = accepted ∙ ap
-        (λ (x : Maxima).
-        answers.Accepted
-        (record { converged = flag; iterations = count; linear_residual_m = x.linear; angular_residual_rad = x.angular }))
-        (maxima_in_lem pending residual long)
+    answer_is m l k = accepted ∙ ap (λ (x : Maxima). answers.Accepted (record { converged = flag; iterations = count; linear_residual_m = x.linear; angular_residual_rad = x.angular })) (maxima_in_lem pending residual long)
 
-    pub proposed_none : (placed : ℕ) (centres solution impulses new solution₁ impulses₁ new₁ : List Float) → count ≡ 0
-        → length centres ≡ 3 * placed → solution₁ ≡ pending → impulses₁ ≡ zeros (6 * bodies) → new₁ ≡ centres
-        → proposal_of solution impulses new
-        (finished_of table accumulated (centres_in placed centres) (flag, count, record { solution = pending; residual = residual })) ≡
-        record { answer = r; solution = solution₁; impulses = impulses₁; centres = new₁ }
+    pub proposed_none : (placed : ℕ) (centres solution impulses new solution₁ impulses₁ new₁ : List Float) → count ≡ 0 → length centres ≡ 3 * placed → solution₁ ≡ pending → impulses₁ ≡ zeros (6 * bodies) → new₁ ≡ centres
+        → proposal_of solution impulses new (finished_of table accumulated (centres_in placed centres) (flag, count, record { solution = pending; residual = residual })) ≡ record { answer = r; solution = solution₁; impulses = impulses₁; centres = new₁ }
     unfolding finished_of finish_of proposal_of on
-    proposed_none placed centres solution impulses new solution₁ impulses₁ new₁ z lc es ei ec = rw
-        (z, es, ei, ec, flat_centres_in placed centres lc, answer_is (tabulate accumulated rows) (zeros (6 * bodies)) centres, z)
+    proposed_none placed centres solution impulses new solution₁ impulses₁ new₁ z lc es ei ec = rw (z, es, ei, ec, flat_centres_in placed centres lc, answer_is (tabulate accumulated rows) (zeros (6 * bodies)) centres, z)
 
   -- what the step counted comes to
   module _ (flag : Bool) (pending residual : List Float) where
@@ -230,12 +202,8 @@ module _ (place : ℕ) (numbers masses : List Float) (words : List ℕ) (rows bo
       unfolding finished_of finish_of
       refused k t = on_ended _ _ _ {a = 17} (one_fails (all_finite_of totals) (all_finite_of (gains_of accumulated rows pending)) (centres_finite moved) delivery t)
 
-    module _ (centres jacobians solution impulses new : List Float) (links : List ℕ) (placed n b p : ℕ) (q : Bool)
-        (solution₁ impulses₁ new₁ : List Float) (en : n ≡ rows) (eb : b ≡ bodies) (ep : p ≡ placed) (few : placed ≤ bodies)
-        (system : compact_system rows bodies jacobians links masses ≡ system_of table)
-        (shown : Shown q place p numbers masses centres (impulses_of (compact_of jacobians links) (coefficients pending) n b) pending solution
-        impulses new solution₁ impulses₁ new₁)
-        (long : length pending ≡ rows) where
+    module _ (centres jacobians solution impulses new : List Float) (links : List ℕ) (placed n b p : ℕ) (q : Bool) (solution₁ impulses₁ new₁ : List Float) (en : n ≡ rows) (eb : b ≡ bodies) (ep : p ≡ placed) (few : placed ≤ bodies) (system : compact_system rows bodies jacobians links masses ≡ system_of table)
+        (shown : Shown q place p numbers masses centres (impulses_of (compact_of jacobians links) (coefficients pending) n b) pending solution impulses new solution₁ impulses₁ new₁) (long : length pending ≡ rows) where
       abbrev there : Centres
       there = centres_in placed centres
 
@@ -251,40 +219,26 @@ module _ (place : ℕ) (numbers masses : List Float) (words : List ℕ) (rows bo
       centres_are : flat_centres (moved_in p masses (impulses_of (compact_of jacobians links) (coefficients pending) n b) centres) ≡ flat_centres (moved there)
       centres_are = rw (impulses_are, ep) (moved_flat_same (mass_of masses) (impulse_of totals) (impulse_by table step) there placed_at)
 
-      pub proposed_refused : (count : ℕ) → (count ≡ 0 → ⊥) → q ≡ false
-          → proposal_of solution impulses new (finished_of table accumulated there (flag, count, step))
-          ≡ record { answer = answers.Refused 17; solution = solution₁; impulses = impulses₁; centres = new₁ }
+      pub proposed_refused : (count : ℕ) → (count ≡ 0 → ⊥) → q ≡ false → proposal_of solution impulses new (finished_of table accumulated there (flag, count, step)) ≡ record { answer = answers.Refused 17; solution = solution₁; impulses = impulses₁; centres = new₁ }
       unfolding proposal_of
       proposed_refused zero z t = absurd (z refl)
       proposed_refused (suc k) z t = let (es, ei, ec) = shown.kept t in ap (proposal_of solution impulses new) (refused there k (sym tests ∙ t)) ∙ rw (es, ei, ec)
 
-      pub proposed_all : (count : ℕ) (r : PositionPcg) → (count ≡ 0 → ⊥) → q ≡ true → length residual ≡ rows
-          → r ≡ accepted_of flag count words residual
-          → proposal_of solution impulses new (finished_of table accumulated there (flag, count, step))
-          ≡ record { answer = r; solution = solution₁; impulses = impulses₁; centres = new₁ }
+      pub proposed_all : (count : ℕ) (r : PositionPcg) → (count ≡ 0 → ⊥) → q ≡ true → length residual ≡ rows → r ≡ accepted_of flag count words residual → proposal_of solution impulses new (finished_of table accumulated there (flag, count, step)) ≡ record { answer = r; solution = solution₁; impulses = impulses₁; centres = new₁ }
       unfolding proposal_of
       proposed_all zero r z t lr e = absurd (z refl)
       proposed_all (suc k) r z t lr e =
           let (es, ei, ec) = shown.shown t in
-          ap (proposal_of solution impulses new) (finished there k (sym tests ∙ t)) ∙ rw (
-            answer_is flag (suc k) pending residual lr r e (gains_of accumulated rows pending) totals (flat_centres (moved there)),
-            es,
-            ei ∙ impulses_are,
-            ec ∙ centres_are,
-          )
+          ap (proposal_of solution impulses new) (finished there k (sym tests ∙ t)) ∙ rw (answer_is flag (suc k) pending residual lr r e (gains_of accumulated rows pending) totals (flat_centres (moved there)), es, ei ∙ impulses_are, ec ∙ centres_are)
 
     -- ---- the commit of what is proposed is the definition's
     pub commits : (c : Centres) (count : ℕ) (solution impulses new : List Float) → length pending ≡ rows
-        → committed_of place rows numbers (finished_of table accumulated c (flag, count, step)) ≡ committed_by place
-        (proposal_of solution impulses new (finished_of table accumulated c (flag, count, step))).answer numbers
-        (proposal_of solution impulses new (finished_of table accumulated c (flag, count, step))).solution
+        → committed_of place rows numbers (finished_of table accumulated c (flag, count, step)) ≡ committed_by place (proposal_of solution impulses new (finished_of table accumulated c (flag, count, step))).answer numbers (proposal_of solution impulses new (finished_of table accumulated c (flag, count, step))).solution
     unfolding committed_of committed_by proposal_of gained_after finished_of finish_of on
     commits c zero solution impulses new long = kept_multipliers place numbers rows
     commits c (suc k) solution impulses new long = by (passes c) refl
       where
         by : (b : Bool) → passes c ≡ b
-            → committed_of place rows numbers (finished_of table accumulated c (flag, suc k, step)) ≡ committed_by place
-            (proposal_of solution impulses new (finished_of table accumulated c (flag, suc k, step))).answer numbers
-            (proposal_of solution impulses new (finished_of table accumulated c (flag, suc k, step))).solution
+            → committed_of place rows numbers (finished_of table accumulated c (flag, suc k, step)) ≡ committed_by place (proposal_of solution impulses new (finished_of table accumulated c (flag, suc k, step))).answer numbers (proposal_of solution impulses new (finished_of table accumulated c (flag, suc k, step))).solution
         by true t = rw (finished c k t) (gained_multipliers place numbers rows pending ∙ ap (gained place numbers pending) (sym long))
         by false t = rw (refused c k t)

@@ -35,15 +35,10 @@ fn deliverable(
     placed: usize,
     body_impulses: &mut [f64],
 ) -> bool
-    requires pending_in_bounds { (27 * length pending.now ≤ length numbers.now)
-        × (12 * length pending.now ≤ length jacobians.now) × (2 * length pending.now ≤ length links.now)
-        × (length body_impulses.old ≡ 6 * bodies) }
+    requires pending_in_bounds { (27 * length pending.now ≤ length numbers.now) × (12 * length pending.now ≤ length jacobians.now) × (2 * length pending.now ≤ length links.now) × (length body_impulses.old ≡ 6 * bodies) }
     requires place_bound { (place < 27) × (placed ≤ bodies) × (10 * bodies ≤ length masses.now) × (3 * placed ≤ length centres.now) }
     requires linked { Linked links.now (length pending.now) bodies }
-    ensures { Judged result place placed bodies numbers.now masses.now centres.now
-        (impulses_of (compact_of jacobians.now links.now) (coefficients pending.now)
-        (length pending.now) bodies)
-        pending.now body_impulses.new }
+    ensures { Judged result place placed bodies numbers.now masses.now centres.now (impulses_of (compact_of jacobians.now links.now) (coefficients pending.now) (length pending.now) bodies) pending.now body_impulses.new }
 {
     let Applied::Done = global_velocity_impulse(jacobians, links, pending, bodies, body_impulses)
     else {
@@ -69,18 +64,10 @@ fn show(
     impulses: &mut [f64],
     new_centres: &mut [f64],
 ) -> bool
-    requires pending_in_bounds { (27 * length pending.now ≤ length numbers.now)
-        × (12 * length pending.now ≤ length jacobians.now) × (2 * length pending.now ≤ length links.now)
-        × (length body_impulses.old ≡ 6 * bodies) × (length solution.old ≡ length pending.now)
-        × (length impulses.old ≡ 6 * bodies) }
-    requires place_bound { (place < 27) × (placed ≤ bodies) × (10 * bodies ≤ length masses.now)
-        × (3 * placed ≤ length centres.now) × (length new_centres.old ≡ 3 * placed) }
+    requires pending_in_bounds { (27 * length pending.now ≤ length numbers.now) × (12 * length pending.now ≤ length jacobians.now) × (2 * length pending.now ≤ length links.now) × (length body_impulses.old ≡ 6 * bodies) × (length solution.old ≡ length pending.now) × (length impulses.old ≡ 6 * bodies) }
+    requires place_bound { (place < 27) × (placed ≤ bodies) × (10 * bodies ≤ length masses.now) × (3 * placed ≤ length centres.now) × (length new_centres.old ≡ 3 * placed) }
     requires linked { Linked links.now (length pending.now) bodies }
-    ensures { Shown result place placed numbers.now masses.now centres.now
-        (impulses_of (compact_of jacobians.now links.now) (coefficients pending.now)
-        (length pending.now) bodies)
-        pending.now solution.old impulses.old new_centres.old
-        solution.new impulses.new new_centres.new }
+    ensures { Shown result place placed numbers.now masses.now centres.now (impulses_of (compact_of jacobians.now links.now) (coefficients pending.now) (length pending.now) bodies) pending.now solution.old impulses.old new_centres.old solution.new impulses.new new_centres.new }
 {
     if !deliverable(
         place,
@@ -137,22 +124,11 @@ fn propose_step(
     impulses: &mut [f64],
     new_centres: &mut [f64],
 ) -> PositionPcg
-    requires numbers_len { (length numbers.now ≡ 27 * rows) × (length words.now ≡ 8 * rows)
-        × (10 * bodies ≤ length masses.now) × (length solution.old ≡ rows) × (length impulses.old ≡ 6 * bodies) }
+    requires numbers_len { (length numbers.now ≡ 27 * rows) × (length words.now ≡ 8 * rows) × (10 * bodies ≤ length masses.now) × (length solution.old ≡ rows) × (length impulses.old ≡ 6 * bodies) }
     requires place_bound { (place < 27) × (placed ≤ bodies) × (length centres.now ≡ 3 * placed) × (length new_centres.old ≡ 3 * placed) }
-    requires rows_in_bounds { (12 * rows ≤ length jacobians.now) × (2 * rows ≤ length links.now) × (length pending.now ≡ rows)
-        × (length residual.now ≡ rows) × (length body_impulses.old ≡ 6 * bodies) }
+    requires rows_in_bounds { (12 * rows ≤ length jacobians.now) × (2 * rows ≤ length links.now) × (length pending.now ≡ rows) × (length residual.now ≡ rows) × (length body_impulses.old ≡ 6 * bodies) }
     requires stands { Stands (table_of rows bodies numbers.now words.now masses.now) masses.now jacobians.now links.now }
-    ensures { proposal_of solution.entry.now impulses.old new_centres.old
-        (finished_of (table_of rows bodies numbers.now words.now masses.now)
-        (accumulated_in place numbers.now) (centres_in placed centres.now)
-        (flag, count, record { solution = pending.now; residual = residual.now }))
-        ≡ record {
-          answer = result;
-          solution = solution.exit.now;
-          impulses = impulses.new;
-          centres = new_centres.new;
-        } }
+    ensures { proposal_of solution.entry.now impulses.old new_centres.old (finished_of (table_of rows bodies numbers.now words.now masses.now) (accumulated_in place numbers.now) (centres_in placed centres.now) (flag, count, record { solution = pending.now; residual = residual.now })) ≡ record { answer = result; solution = solution.exit.now; impulses = impulses.new; centres = new_centres.new } }
 {
     if count == 0 {
         loops::copy(solution, pending);
@@ -201,23 +177,11 @@ fn propose(
     impulses: &mut [f64],
     new_centres: &mut [f64],
 ) -> PositionPcg
-    requires numbers_len { (length numbers.now ≡ 27 * rows) × (length words.now ≡ 8 * rows)
-        × (10 * bodies ≤ length masses.now) × (length solution.old ≡ rows) × (length impulses.old ≡ 6 * bodies) }
+    requires numbers_len { (length numbers.now ≡ 27 * rows) × (length words.now ≡ 8 * rows) × (10 * bodies ≤ length masses.now) × (length solution.old ≡ rows) × (length impulses.old ≡ 6 * bodies) }
     requires place_bound { (place < 27) × (placed ≤ bodies) × (length centres.now ≡ 3 * placed) × (length new_centres.old ≡ 3 * placed) }
-    requires rows_in_bounds { (12 * rows ≤ length jacobians.now) × (2 * rows ≤ length links.now) × (length pending.now ≡ rows)
-        × (length residual.now ≡ rows) × (length body_impulses.old ≡ 6 * bodies) }
-    requires stands_after { StandsAfter (table_of rows bodies numbers.now words.now masses.now) masses.now counted
-        jacobians.now links.now }
-    ensures centres_value { proposal_of solution.old impulses.old new_centres.old
-        (next (iterated_out counted limit pending.now residual.now)
-        (finished_of (table_of rows bodies numbers.now words.now masses.now)
-        (accumulated_in place numbers.now) (centres_in placed centres.now)))
-        ≡ record {
-          answer = result;
-          solution = solution.new;
-          impulses = impulses.new;
-          centres = new_centres.new;
-        } }
+    requires rows_in_bounds { (12 * rows ≤ length jacobians.now) × (2 * rows ≤ length links.now) × (length pending.now ≡ rows) × (length residual.now ≡ rows) × (length body_impulses.old ≡ 6 * bodies) }
+    requires stands_after { StandsAfter (table_of rows bodies numbers.now words.now masses.now) masses.now counted jacobians.now links.now }
+    ensures centres_value { proposal_of solution.old impulses.old new_centres.old (next (iterated_out counted limit pending.now residual.now) (finished_of (table_of rows bodies numbers.now words.now masses.now) (accumulated_in place numbers.now) (centres_in placed centres.now))) ≡ record { answer = result; solution = solution.new; impulses = impulses.new; centres = new_centres.new } }
     ensures free { Free body_impulses.old body_impulses.new }
 {
     let mut flag = true;
@@ -304,33 +268,9 @@ pub fn propose_and_clear(
     requires solution_len { (length solution.old ≡ rows) × (length impulses.old ≡ 6 * bodies) }
     requires place_bound { (place < 27) × (placed ≤ bodies) × (length centres.now ≡ 3 * placed) × (length new_centres.old ≡ 3 * placed) }
     requires table_room { TableRoom rows bodies (table_memory jacobians.old links.old residual.old pending.old body_impulses.old) }
-    requires stands_after { StandsAfter (table_of rows bodies numbers.now words.now masses.now) masses.now counted
-        jacobians.old links.old }
-    ensures centres_value { outcome_at place rows
-        record {
-          numbers = numbers.entry.now;
-          solution = solution.old;
-          impulses = impulses.old;
-          centres = new_centres.old;
-        }
-        (next (iterated_out counted limit pending.old residual.old)
-        (finished_of (table_of rows bodies numbers.entry.now words.now masses.now)
-        (accumulated_in place numbers.entry.now) (centres_in placed centres.now)))
-        ≡ record {
-          answer = result;
-          lent =
-              record {
-                numbers = committed_by place result numbers.entry.now solution.new;
-                solution = solution.new;
-                impulses = impulses.new;
-                centres = new_centres.new;
-              };
-        } }
-    ensures body_impulses_after { table_memory jacobians.new links.new residual.new
-        pending.new body_impulses.new
-        ≡ cleared_table
-        (table_memory jacobians.old links.old residual.old pending.old
-        body_impulses.old) }
+    requires stands_after { StandsAfter (table_of rows bodies numbers.now words.now masses.now) masses.now counted jacobians.old links.old }
+    ensures centres_value { outcome_at place rows record { numbers = numbers.entry.now; solution = solution.old; impulses = impulses.old; centres = new_centres.old } (next (iterated_out counted limit pending.old residual.old) (finished_of (table_of rows bodies numbers.entry.now words.now masses.now) (accumulated_in place numbers.entry.now) (centres_in placed centres.now))) ≡ record { answer = result; lent = record { numbers = committed_by place result numbers.entry.now solution.new; solution = solution.new; impulses = impulses.new; centres = new_centres.new } } }
+    ensures body_impulses_after { table_memory jacobians.new links.new residual.new pending.new body_impulses.new ≡ cleared_table (table_memory jacobians.old links.old residual.old pending.old body_impulses.old) }
 {
     let answer = propose(
         counted,

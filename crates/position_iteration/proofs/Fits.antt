@@ -11,8 +11,7 @@ use Rattle.preconditioner.specs.Held.{Ready}
 use Rattle.preconditioner.specs.declared.apply.Preconditioner.{Preconditioner}
 use Rattle.position_iteration.specs.Standing.{Standing}
 
-module _ (p : Preconditioner) (n bodies : ℕ) (tolerances masses jacobians : List Float) (links : List ℕ) (m : Memory)
-    (h : Standing p n bodies tolerances masses jacobians links m) (k : ℕ) (e : k ≡ n) where
+module _ (p : Preconditioner) (n bodies : ℕ) (tolerances masses jacobians : List Float) (links : List ℕ) (m : Memory) (h : Standing p n bodies tolerances masses jacobians links m) (k : ℕ) (e : k ≡ n) where
   -- `step_length`
   pub table_fits : (12 * k ≤ length jacobians) × (2 * k ≤ length links) × (10 * bodies ≤ length masses)
   table_fits = (omega (arith, h.jacobians_long), omega (arith, h.links_long), h.masses_long)

@@ -37,9 +37,7 @@ abbrev carried : List Float → Float → Carried
 carried d s = record { direction = d; s = s }
 
 -- ---- a turn from its length on
-module _ (z : List Float → Run (List Float) ℕ) (n bodies : ℕ) (jacobians : List Float) (links : List ℕ) (masses : List Float)
-    (tolerance : ℕ → Float) (v : Iterate) (c : Carried) (k : ℕ) (rows : k ≡ n) (q : Scale)
-    (found : length_of (compact_system k bodies jacobians links masses) c ≡ scale_out q) where
+module _ (z : List Float → Run (List Float) ℕ) (n bodies : ℕ) (jacobians : List Float) (links : List ℕ) (masses : List Float) (tolerance : ℕ → Float) (v : Iterate) (c : Carried) (k : ℕ) (rows : k ≡ n) (q : Scale) (found : length_of (compact_system k bodies jacobians links masses) c ≡ scale_out q) where
   abbrev s : System
   s = compact_system n bodies jacobians links masses
 
@@ -50,8 +48,7 @@ module _ (z : List Float → Run (List Float) ℕ) (n bodies : ℕ) (jacobians :
   unfolding turn
   turn_refused number x r d t = record { at = λ j. on_ended _ _ _ {a = number} (advance_refused s v c number (long ∙ rw t)) }
 
-  pub turn_along : (alpha : Float) (impulses product : List Float) → q ≡ scales.Value alpha
-      → ProductLeft (compact_system k bodies jacobians links masses) c.direction impulses product → (a : Turned) (x r d : List Float)
+  pub turn_along : (alpha : Float) (impulses product : List Float) → q ≡ scales.Value alpha → ProductLeft (compact_system k bodies jacobians links masses) c.direction impulses product → (a : Turned) (x r d : List Float)
       → TurnIs (steps_by z (along product alpha) n tolerance) (v, c) a x r d → TurnIs (steps_by z (advance_of s) n tolerance) (v, c) a x r d
   unfolding turn
   turn_along alpha impulses product t left a x r d h = record { at = λ j. rw (advance_along s v c alpha product (long ∙ rw t) (rw rows at left.multiplied)) (h.at j) }
@@ -65,8 +62,7 @@ module _ (v : Iterate) (direction product : List Float) (alpha : Float) (a : Boo
   advance_made h = called ∙ rw (not-false a h)
 
 module _ (z : List Float → Run (List Float) ℕ) (n : ℕ) (tolerance : ℕ → Float) (v : Iterate) (c : Carried) (product : List Float) (alpha : Float) (x r : List Float) where
-  pub step_refused : (k : ℕ) (d : List Float) → moved_of v c.direction product alpha ≡ ended k
-      → TurnIs (steps_by z (along product alpha) n tolerance) (v, c) (turned.Refused k) x r d
+  pub step_refused : (k : ℕ) (d : List Float) → moved_of v c.direction product alpha ≡ ended k → TurnIs (steps_by z (along product alpha) n tolerance) (v, c) (turned.Refused k) x r d
   unfolding turn
   step_refused k d t = record { at = λ j. on_ended _ _ _ {a = k} (moved_refused v c.direction product alpha k t) }
 
@@ -112,13 +108,11 @@ module _ (z : List Float → Run (List Float) ℕ) (n : ℕ) (tolerance : ℕ �
                 record { at = λ j. on_ended _ _ _ {a = k} (overflow_step f ∙ ap ended same) }
 
 -- the vectors are as long as there are rows
-pub renew_same : (p : Preconditioner) (m : Memory) (k n : ℕ) (r : List Float) (c : Carried) {o : Run Carried ℕ} → k ≡ n
-    → renew_from (z_in p k m r) r c ≡ o → renew_from (z_in p n m r) r c ≡ o
+pub renew_same : (p : Preconditioner) (m : Memory) (k n : ℕ) (r : List Float) (c : Carried) {o : Run Carried ℕ} → k ≡ n → renew_from (z_in p k m r) r c ≡ o → renew_from (z_in p n m r) r c ≡ o
 renew_same p m k n r c {o} e h = subst (λ (i : ℕ). renew_from (z_in p i m r) r c ≡ o) e h
 
 -- ---- `iterate`
-module _ (m : Recurrence Iterate Carried) (v : Iterate) (c : Carried) (limit k : ℕ) (w : Iterate) (e : Carried)
-    (h : At (turn m) (v, c) limit k (w, e)) (l : k < limit) (a : Turned) (x r d : List Float) (called : TurnIs m (w, e) a x r d) where
+module _ (m : Recurrence Iterate Carried) (v : Iterate) (c : Carried) (limit k : ℕ) (w : Iterate) (e : Carried) (h : At (turn m) (v, c) limit k (w, e)) (l : k < limit) (a : Turned) (x r d : List Float) (called : TurnIs m (w, e) a x r d) where
   pub loop_on : (z : Float) → a ≡ turned.On z → At (turn m) (v, c) limit (k + 1) (iterate x r, carried d z)
   loop_on z t = at_more h l (called.at k ∙ rw t)
 
@@ -128,7 +122,5 @@ module _ (m : Recurrence Iterate Carried) (v : Iterate) (c : Carried) (limit k :
   pub loop_refused : (n : ℕ) → a ≡ turned.Refused n → after_loop limit (turns (turn m) (v, c) limit) ≡ iterated_out (iterated.Refused n) limit x r
   loop_refused n t = on_ended _ _ _ {a = ended n} (at_stop h l (called.at k ∙ rw t)) ∙ on_ended _ _ _ refl
 
-pub loop_spent : (m : Recurrence Iterate Carried) (v : Iterate) (c : Carried) (limit k : ℕ) (x r : List Float) (e : Carried)
-    → At (turn m) (v, c) limit k (iterate x r, e) → limit ≤ k
-    → after_loop limit (turns (turn m) (v, c) limit) ≡ iterated_out iterated.Limit limit x r
+pub loop_spent : (m : Recurrence Iterate Carried) (v : Iterate) (c : Carried) (limit k : ℕ) (x r : List Float) (e : Carried) → At (turn m) (v, c) limit k (iterate x r, e) → limit ≤ k → after_loop limit (turns (turn m) (v, c) limit) ≡ iterated_out iterated.Limit limit x r
 loop_spent m v c limit k x r e h l = on_going _ _ _ (at_end h l)

@@ -34,30 +34,10 @@ pub fn iterate(
     residual: &mut [f64],
     direction: &mut [f64],
 ) -> Iterated
-    requires standing { Standing preconditioner (length tolerances.now) bodies tolerances.now masses.now jacobians.now
-        links.now record { diagonal = diagonal.now; pattern = pattern.now; order = order.now; values = values.now } }
-    requires body_impulses_len { (length body_impulses.old ≡ 6 * bodies) × (length product.old ≡ length tolerances.now)
-        × (length pending.old ≡ length tolerances.now) × (length residual.old ≡ length tolerances.now)
-        × (length direction.old ≡ length tolerances.now) }
-    ensures limit_value { after_loop limit
-        (turns
-        (turn
-        (steps_in preconditioner (length tolerances.now) bodies tolerances.now
-        masses.now jacobians.now links.now
-        record {
-          diagonal = diagonal.entry.now;
-          pattern = pattern.now;
-          order = order.now;
-          values = values.now;
-        })) (
-          record { solution = pending.old; residual = residual.old },
-          record { direction = direction.entry.now; s = residual_product },
-        )
-        limit)
-        ≡ iterated_out result limit pending.new residual.new }
-    ensures steps_free { StepsFree body_impulses.old product.old pending.old
-        residual.old direction.old body_impulses.new product.new
-        pending.new residual.new direction.new }
+    requires standing { Standing preconditioner (length tolerances.now) bodies tolerances.now masses.now jacobians.now links.now record { diagonal = diagonal.now; pattern = pattern.now; order = order.now; values = values.now } }
+    requires body_impulses_len { (length body_impulses.old ≡ 6 * bodies) × (length product.old ≡ length tolerances.now) × (length pending.old ≡ length tolerances.now) × (length residual.old ≡ length tolerances.now) × (length direction.old ≡ length tolerances.now) }
+    ensures limit_value { after_loop limit (turns (turn (steps_in preconditioner (length tolerances.now) bodies tolerances.now masses.now jacobians.now links.now record { diagonal = diagonal.entry.now; pattern = pattern.now; order = order.now; values = values.now })) (record { solution = pending.old; residual = residual.old }, record { direction = direction.entry.now; s = residual_product }) limit) ≡ iterated_out result limit pending.new residual.new }
+    ensures steps_free { StepsFree body_impulses.old product.old pending.old residual.old direction.old body_impulses.new product.new pending.new residual.new direction.new }
 {
     let mut s = residual_product;
     let mut k = 0;

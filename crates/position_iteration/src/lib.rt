@@ -1,5 +1,5 @@
 // The loop over the steps of a solve: a step, and what is carried to the next.
 pub mod iteration; // iteration.rt: the loop over the steps
-mod turn; // turn.rt: a step, and what is carried to the next
+pub mod turn; // turn.rt: a step, and what is carried to the next
 
 pub use iteration::{Iterated, iterate};

@@ -31,23 +31,9 @@ fn take_factor_step(
     residual: &mut [f64],
     direction: &mut [f64],
 ) -> Turned
-    requires ready { Ready preconditioner (length tolerances.now)
-        record { diagonal = diagonal.now; pattern = pattern.now; order = order.now; values = values.now } }
-    requires product_len { (length product.old ≡ length tolerances.now) × (length pending.old ≡ length tolerances.now)
-        × (length residual.old ≡ length tolerances.now) × (length direction.old ≡ length tolerances.now) }
-    ensures { TurnIs
-        (steps_along preconditioner (length tolerances.now) tolerances.now
-        record {
-          diagonal = diagonal.entry.now;
-          pattern = pattern.now;
-          order = order.now;
-          values = values.now;
-        }
-        product.old alpha) (
-          record { solution = pending.old; residual = residual.old },
-          record { direction = direction.entry.now; s = residual_product },
-        )
-        result pending.new residual.new direction.exit.now }
+    requires ready { Ready preconditioner (length tolerances.now) record { diagonal = diagonal.now; pattern = pattern.now; order = order.now; values = values.now } }
+    requires product_len { (length product.old ≡ length tolerances.now) × (length pending.old ≡ length tolerances.now) × (length residual.old ≡ length tolerances.now) × (length direction.old ≡ length tolerances.now) }
+    ensures { TurnIs (steps_along preconditioner (length tolerances.now) tolerances.now record { diagonal = diagonal.entry.now; pattern = pattern.now; order = order.now; values = values.now } product.old alpha) (record { solution = pending.old; residual = residual.old }, record { direction = direction.entry.now; s = residual_product }) result pending.new residual.new direction.exit.now }
 {
     if !advance(alpha, direction, product, pending, residual) {
         return Turned::Refused(16);
@@ -85,16 +71,8 @@ fn take_diagonal_step(
     residual: &mut [f64],
     direction: &mut [f64],
 ) -> Turned
-    requires { (length diagonal.now ≡ length tolerances.now) × (length product.old ≡ length tolerances.now)
-        × (length pending.old ≡ length tolerances.now) × (length residual.old ≡ length tolerances.now)
-        × (length direction.old ≡ length tolerances.now) }
-    ensures { TurnIs
-        (diagonal_steps_along (length tolerances.now) tolerances.now diagonal.now
-        product.old alpha) (
-          record { solution = pending.old; residual = residual.old },
-          record { direction = direction.entry.now; s = residual_product },
-        )
-        result pending.new residual.new direction.exit.now }
+    requires { (length diagonal.now ≡ length tolerances.now) × (length product.old ≡ length tolerances.now) × (length pending.old ≡ length tolerances.now) × (length residual.old ≡ length tolerances.now) × (length direction.old ≡ length tolerances.now) }
+    ensures { TurnIs (diagonal_steps_along (length tolerances.now) tolerances.now diagonal.now product.old alpha) (record { solution = pending.old; residual = residual.old }, record { direction = direction.entry.now; s = residual_product }) result pending.new residual.new direction.exit.now }
 {
     match advance_diagonal(alpha, direction, diagonal, product, pending, residual) {
         Scale::Value(next) => {
@@ -131,24 +109,9 @@ pub fn take_step(
     residual: &mut [f64],
     direction: &mut [f64],
 ) -> Turned
-    requires standing { Standing preconditioner (length tolerances.now) bodies tolerances.now masses.now jacobians.now
-        links.now record { diagonal = diagonal.now; pattern = pattern.now; order = order.now; values = values.now } }
-    requires body_impulses_len { (length body_impulses.old ≡ 6 * bodies) × (length product.old ≡ length tolerances.now)
-        × (length pending.old ≡ length tolerances.now) × (length residual.old ≡ length tolerances.now)
-        × (length direction.old ≡ length tolerances.now) }
-    ensures { TurnIs
-        (steps_in preconditioner (length tolerances.now) bodies tolerances.now
-        masses.now jacobians.now links.now
-        record {
-          diagonal = diagonal.entry.now;
-          pattern = pattern.now;
-          order = order.now;
-          values = values.now;
-        }) (
-          record { solution = pending.old; residual = residual.old },
-          record { direction = direction.entry.now; s = residual_product },
-        )
-        result pending.new residual.new direction.exit.now }
+    requires standing { Standing preconditioner (length tolerances.now) bodies tolerances.now masses.now jacobians.now links.now record { diagonal = diagonal.now; pattern = pattern.now; order = order.now; values = values.now } }
+    requires body_impulses_len { (length body_impulses.old ≡ 6 * bodies) × (length product.old ≡ length tolerances.now) × (length pending.old ≡ length tolerances.now) × (length residual.old ≡ length tolerances.now) × (length direction.old ≡ length tolerances.now) }
+    ensures { TurnIs (steps_in preconditioner (length tolerances.now) bodies tolerances.now masses.now jacobians.now links.now record { diagonal = diagonal.entry.now; pattern = pattern.now; order = order.now; values = values.now }) (record { solution = pending.old; residual = residual.old }, record { direction = direction.entry.now; s = residual_product }) result pending.new residual.new direction.exit.now }
 {
     match step_length(
         jacobians,

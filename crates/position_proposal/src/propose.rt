@@ -26,9 +26,7 @@ fn proposal_lent(
     centres: usize,
     new_centres: usize,
 ) -> bool
-    ensures { result
-        ≡ (proposal_lent rows proposal started &&
-        (rules_lent rows rule_words rule_tolerances rule_numbers && centres_lent bodies centres new_centres)) }
+    ensures { result ≡ (proposal_lent rows proposal started && (rules_lent rows rule_words rule_tolerances rule_numbers && centres_lent bodies centres new_centres)) }
 {
     let fits = (proposal == 4) & (started == wide(rows));
     let lent = rules_lent(rows, rule_words, rule_tolerances, rule_numbers)
@@ -68,41 +66,13 @@ pub fn propose_position(
     order: &mut [u32],
     values: &mut [f64],
 ) -> PositionPcg
-    ensures { Proposed
-        ((proposal_lent rows (length proposal.old) (length started.old) &&
-        (rules_lent rows (length rule_words.now) (length rule_tolerances.now)
-        (length rule_numbers.old) && centres_lent bodies (length centres.now)
-        (length new_centres.old)))
-        && passes3 rows bodies mode numbers.now words.entry.now masses.now
-        solution.old impulses.old
-        (work_memory jacobians.old links.old tolerances.old diagonal.old
-        residual.old pending.old direction.old product.old
-        body_impulses.old pattern.old order.old values.old))
+    ensures { Proposed ((proposal_lent rows (length proposal.old) (length started.old) && (rules_lent rows (length rule_words.now) (length rule_tolerances.now) (length rule_numbers.old) && centres_lent bodies (length centres.now) (length new_centres.old))) && passes3 rows bodies mode numbers.now words.entry.now masses.now solution.old impulses.old (work_memory jacobians.old links.old tolerances.old diagonal.old residual.old pending.old direction.old product.old body_impulses.old pattern.old order.old values.old))
         (rules_in rule_words.now rule_tolerances.now)
-        (position_of rows bodies numbers.now words.entry.now masses.now centres.now
-        (rules_in rule_words.now rule_tolerances.now) shift)
-        (mode_of mode shift) limit rows numbers.now
-        record {
-          words = proposal.old;
-          solution = solution.old;
-          impulses = impulses.old;
-          centres = new_centres.old;
-          started = started.old;
-        }
-        record {
-          words = proposal.new;
-          solution = solution.new;
-          impulses = impulses.new;
-          centres = new_centres.new;
-          started = started.new;
-        }
+        (position_of rows bodies numbers.now words.entry.now masses.now centres.now (rules_in rule_words.now rule_tolerances.now) shift) (mode_of mode shift) limit rows numbers.now
+        record { words = proposal.old; solution = solution.old; impulses = impulses.old; centres = new_centres.old; started = started.old } record { words = proposal.new; solution = solution.new; impulses = impulses.new; centres = new_centres.new; started = started.new }
         rule_numbers.old rule_numbers.new result
-        (work_memory jacobians.old links.old tolerances.old diagonal.old
-        residual.old pending.old direction.old product.old
-        body_impulses.old pattern.old order.old values.old)
-        (work_memory jacobians.new links.new tolerances.new diagonal.new
-        residual.new pending.new direction.new product.new
-        body_impulses.new pattern.new order.new values.new) }
+        (work_memory jacobians.old links.old tolerances.old diagonal.old residual.old pending.old direction.old product.old body_impulses.old pattern.old order.old values.old)
+        (work_memory jacobians.new links.new tolerances.new diagonal.new residual.new pending.new direction.new product.new body_impulses.new pattern.new order.new values.new) }
 {
     if !proposal_lent(
         rows,

@@ -17,9 +17,7 @@ none : (l : List Float) → length l ≡ 0 → l ≡ []
 none [] e = refl
 none (x ∷ l) e = absurd (omega arith)
 
-pub moving_solved : {fits : Bool} {s : Rules} {p : Problem} {mode : Mode} {limit place n : ℕ} {before : Lent}
-    {numbers solution impulses : List Float} (centres : List Float) {named namedAfter : List ℕ} {answer : PositionPcg}
-    → length centres ≡ 0
+pub moving_solved : {fits : Bool} {s : Rules} {p : Problem} {mode : Mode} {limit place n : ℕ} {before : Lent} {numbers solution impulses : List Float} (centres : List Float) {named namedAfter : List ℕ} {answer : PositionPcg} → length centres ≡ 0
     → JobSolved fits s p mode limit place n before (record { numbers = numbers; solution = solution; impulses = impulses; centres = centres }) named namedAfter answer
     → JobSolved fits s p mode limit place n before (record { numbers = numbers; solution = solution; impulses = impulses; centres = [] }) named namedAfter answer
 moving_solved centres e h = rw (none centres e) at h

@@ -36,31 +36,10 @@ fn with_vectors(
     order: &mut [u32],
     values: &mut [f64],
 ) -> PositionPcg
-    requires given_value { job_fits kind rows bodies mode (length numbers.old) (length words.now) (length masses.now)
-        (length solution.old) (length impulses.old) (length centres.now) (length new_centres.old)
-        (length rule_words.now) (length rule_tolerances.now) (length rule_numbers.old)
-        (length given.now)
-        ≡ true }
+    requires given_value { job_fits kind rows bodies mode (length numbers.old) (length words.now) (length masses.now) (length solution.old) (length impulses.old) (length centres.now) (length new_centres.old) (length rule_words.now) (length rule_tolerances.now) (length rule_numbers.old) (length given.now) ≡ true }
     requires rows_bound { (rows ≤ 512) × (bodies ≤ 256) }
     requires factor_room { FactorRoom mode rows (length pattern.old) (length order.old) (length values.old) }
-    ensures { JobSolved true (rules_in rule_words.now rule_tolerances.now)
-        (solve_for kind rows bodies numbers.entry.now words.now masses.now
-        centres.now given.now
-        (rules_in rule_words.now rule_tolerances.now) shift)
-        (mode_of mode shift) limit (place_of kind) rows
-        record {
-          numbers = numbers.entry.now;
-          solution = solution.old;
-          impulses = impulses.old;
-          centres = new_centres.old;
-        }
-        record {
-          numbers = numbers.exit.now;
-          solution = solution.new;
-          impulses = impulses.new;
-          centres = new_centres.new;
-        }
-        rule_numbers.old rule_numbers.new result }
+    ensures { JobSolved true (rules_in rule_words.now rule_tolerances.now) (solve_for kind rows bodies numbers.entry.now words.now masses.now centres.now given.now (rules_in rule_words.now rule_tolerances.now) shift) (mode_of mode shift) limit (place_of kind) rows record { numbers = numbers.entry.now; solution = solution.old; impulses = impulses.old; centres = new_centres.old } record { numbers = numbers.exit.now; solution = solution.new; impulses = impulses.new; centres = new_centres.new } rule_numbers.old rule_numbers.new result }
 {
     let mut jacobians: [f64; 6144] = [0.0; 6144];
     let mut links: [u32; 1024] = [0; 1024];
@@ -129,31 +108,10 @@ fn with_factor(
     new_centres: &mut [f64],
     rule_numbers: &mut [u32],
 ) -> PositionPcg
-    requires given_value { job_fits kind rows bodies mode (length numbers.old) (length words.now) (length masses.now)
-        (length solution.old) (length impulses.old) (length centres.now) (length new_centres.old)
-        (length rule_words.now) (length rule_tolerances.now) (length rule_numbers.old)
-        (length given.now)
-        ≡ true }
+    requires given_value { job_fits kind rows bodies mode (length numbers.old) (length words.now) (length masses.now) (length solution.old) (length impulses.old) (length centres.now) (length new_centres.old) (length rule_words.now) (length rule_tolerances.now) (length rule_numbers.old) (length given.now) ≡ true }
     requires rows_bound { (rows ≤ 512) × (bodies ≤ 256) }
     requires mode_value { mode ≡ 1 }
-    ensures { JobSolved true (rules_in rule_words.now rule_tolerances.now)
-        (solve_for kind rows bodies numbers.entry.now words.now masses.now
-        centres.now given.now
-        (rules_in rule_words.now rule_tolerances.now) shift)
-        (mode_of mode shift) limit (place_of kind) rows
-        record {
-          numbers = numbers.entry.now;
-          solution = solution.old;
-          impulses = impulses.old;
-          centres = new_centres.old;
-        }
-        record {
-          numbers = numbers.exit.now;
-          solution = solution.new;
-          impulses = impulses.new;
-          centres = new_centres.new;
-        }
-        rule_numbers.old rule_numbers.new result }
+    ensures { JobSolved true (rules_in rule_words.now rule_tolerances.now) (solve_for kind rows bodies numbers.entry.now words.now masses.now centres.now given.now (rules_in rule_words.now rule_tolerances.now) shift) (mode_of mode shift) limit (place_of kind) rows record { numbers = numbers.entry.now; solution = solution.old; impulses = impulses.old; centres = new_centres.old } record { numbers = numbers.exit.now; solution = solution.new; impulses = impulses.new; centres = new_centres.new } rule_numbers.old rule_numbers.new result }
 {
     let mut pattern: [u32; 16897] = [0; 16897];
     let mut order: [u32; 33280] = [0; 33280];
@@ -205,31 +163,10 @@ fn with_blocks(
     new_centres: &mut [f64],
     rule_numbers: &mut [u32],
 ) -> PositionPcg
-    requires given_value { job_fits kind rows bodies mode (length numbers.old) (length words.now) (length masses.now)
-        (length solution.old) (length impulses.old) (length centres.now) (length new_centres.old)
-        (length rule_words.now) (length rule_tolerances.now) (length rule_numbers.old)
-        (length given.now)
-        ≡ true }
+    requires given_value { job_fits kind rows bodies mode (length numbers.old) (length words.now) (length masses.now) (length solution.old) (length impulses.old) (length centres.now) (length new_centres.old) (length rule_words.now) (length rule_tolerances.now) (length rule_numbers.old) (length given.now) ≡ true }
     requires rows_bound { (rows ≤ 512) × (bodies ≤ 256) }
     requires mode_value { mode ≡ 2 }
-    ensures { JobSolved true (rules_in rule_words.now rule_tolerances.now)
-        (solve_for kind rows bodies numbers.entry.now words.now masses.now
-        centres.now given.now
-        (rules_in rule_words.now rule_tolerances.now) shift)
-        (mode_of mode shift) limit (place_of kind) rows
-        record {
-          numbers = numbers.entry.now;
-          solution = solution.old;
-          impulses = impulses.old;
-          centres = new_centres.old;
-        }
-        record {
-          numbers = numbers.exit.now;
-          solution = solution.new;
-          impulses = impulses.new;
-          centres = new_centres.new;
-        }
-        rule_numbers.old rule_numbers.new result }
+    ensures { JobSolved true (rules_in rule_words.now rule_tolerances.now) (solve_for kind rows bodies numbers.entry.now words.now masses.now centres.now given.now (rules_in rule_words.now rule_tolerances.now) shift) (mode_of mode shift) limit (place_of kind) rows record { numbers = numbers.entry.now; solution = solution.old; impulses = impulses.old; centres = new_centres.old } record { numbers = numbers.exit.now; solution = solution.new; impulses = impulses.new; centres = new_centres.new } rule_numbers.old rule_numbers.new result }
 {
     let mut pattern: [u32; 512] = [0; 512];
     let mut order: [u32; 0] = [0; 0];
@@ -280,31 +217,10 @@ fn with_diagonal(
     new_centres: &mut [f64],
     rule_numbers: &mut [u32],
 ) -> PositionPcg
-    requires given_value { job_fits kind rows bodies mode (length numbers.old) (length words.now) (length masses.now)
-        (length solution.old) (length impulses.old) (length centres.now) (length new_centres.old)
-        (length rule_words.now) (length rule_tolerances.now) (length rule_numbers.old)
-        (length given.now)
-        ≡ true }
+    requires given_value { job_fits kind rows bodies mode (length numbers.old) (length words.now) (length masses.now) (length solution.old) (length impulses.old) (length centres.now) (length new_centres.old) (length rule_words.now) (length rule_tolerances.now) (length rule_numbers.old) (length given.now) ≡ true }
     requires rows_bound { (rows ≤ 512) × (bodies ≤ 256) }
     requires mode_value { mode ≡ 0 }
-    ensures { JobSolved true (rules_in rule_words.now rule_tolerances.now)
-        (solve_for kind rows bodies numbers.entry.now words.now masses.now
-        centres.now given.now
-        (rules_in rule_words.now rule_tolerances.now) shift)
-        (mode_of mode shift) limit (place_of kind) rows
-        record {
-          numbers = numbers.entry.now;
-          solution = solution.old;
-          impulses = impulses.old;
-          centres = new_centres.old;
-        }
-        record {
-          numbers = numbers.exit.now;
-          solution = solution.new;
-          impulses = impulses.new;
-          centres = new_centres.new;
-        }
-        rule_numbers.old rule_numbers.new result }
+    ensures { JobSolved true (rules_in rule_words.now rule_tolerances.now) (solve_for kind rows bodies numbers.entry.now words.now masses.now centres.now given.now (rules_in rule_words.now rule_tolerances.now) shift) (mode_of mode shift) limit (place_of kind) rows record { numbers = numbers.entry.now; solution = solution.old; impulses = impulses.old; centres = new_centres.old } record { numbers = numbers.exit.now; solution = solution.new; impulses = impulses.new; centres = new_centres.new } rule_numbers.old rule_numbers.new result }
 {
     let mut pattern: [u32; 0] = [0; 0];
     let mut order: [u32; 0] = [0; 0];
@@ -353,29 +269,7 @@ pub fn solve_table(
     new_centres: &mut [f64],
     rule_numbers: &mut [u32],
 ) -> PositionPcg
-    ensures { JobSolved
-        (job_fits kind rows bodies mode (length numbers.entry.now) (length words.now)
-        (length masses.now) (length solution.old) (length impulses.old)
-        (length centres.now) (length new_centres.old) (length rule_words.now)
-        (length rule_tolerances.now) (length rule_numbers.old) (length given.now))
-        (rules_in rule_words.now rule_tolerances.now)
-        (solve_for kind rows bodies numbers.entry.now words.now masses.now
-        centres.now given.now
-        (rules_in rule_words.now rule_tolerances.now) shift)
-        (mode_of mode shift) limit (place_of kind) rows
-        record {
-          numbers = numbers.entry.now;
-          solution = solution.old;
-          impulses = impulses.old;
-          centres = new_centres.old;
-        }
-        record {
-          numbers = numbers.exit.now;
-          solution = solution.new;
-          impulses = impulses.new;
-          centres = new_centres.new;
-        }
-        rule_numbers.old rule_numbers.new result }
+    ensures { JobSolved (job_fits kind rows bodies mode (length numbers.entry.now) (length words.now) (length masses.now) (length solution.old) (length impulses.old) (length centres.now) (length new_centres.old) (length rule_words.now) (length rule_tolerances.now) (length rule_numbers.old) (length given.now)) (rules_in rule_words.now rule_tolerances.now) (solve_for kind rows bodies numbers.entry.now words.now masses.now centres.now given.now (rules_in rule_words.now rule_tolerances.now) shift) (mode_of mode shift) limit (place_of kind) rows record { numbers = numbers.entry.now; solution = solution.old; impulses = impulses.old; centres = new_centres.old } record { numbers = numbers.exit.now; solution = solution.new; impulses = impulses.new; centres = new_centres.new } rule_numbers.old rule_numbers.new result }
 {
     if !job_fits(
         kind,
@@ -477,28 +371,7 @@ pub fn solve_position(
     new_centres: &mut [f64],
     rule_numbers: &mut [u32],
 ) -> PositionPcg
-    ensures { JobSolved
-        (job_fits Position rows bodies mode (length numbers.entry.now) (length words.now)
-        (length masses.now) (length solution.old) (length impulses.old)
-        (length centres.now) (length new_centres.old) (length rule_words.now)
-        (length rule_tolerances.now) (length rule_numbers.old) 0)
-        (rules_in rule_words.now rule_tolerances.now)
-        (position_of rows bodies numbers.entry.now words.now masses.now centres.now
-        (rules_in rule_words.now rule_tolerances.now) shift)
-        (mode_of mode shift) limit 24 rows
-        record {
-          numbers = numbers.entry.now;
-          solution = solution.old;
-          impulses = impulses.old;
-          centres = new_centres.old;
-        }
-        record {
-          numbers = numbers.exit.now;
-          solution = solution.new;
-          impulses = impulses.new;
-          centres = new_centres.new;
-        }
-        rule_numbers.old rule_numbers.new result }
+    ensures { JobSolved (job_fits Position rows bodies mode (length numbers.entry.now) (length words.now) (length masses.now) (length solution.old) (length impulses.old) (length centres.now) (length new_centres.old) (length rule_words.now) (length rule_tolerances.now) (length rule_numbers.old) 0) (rules_in rule_words.now rule_tolerances.now) (position_of rows bodies numbers.entry.now words.now masses.now centres.now (rules_in rule_words.now rule_tolerances.now) shift) (mode_of mode shift) limit 24 rows record { numbers = numbers.entry.now; solution = solution.old; impulses = impulses.old; centres = new_centres.old } record { numbers = numbers.exit.now; solution = solution.new; impulses = impulses.new; centres = new_centres.new } rule_numbers.old rule_numbers.new result }
 {
     let none: [f64; 0] = [0.0; 0];
     solve_table(

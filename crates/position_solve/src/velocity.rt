@@ -27,28 +27,7 @@ pub fn solve_velocity(
     impulses: &mut [f64],
     rule_numbers: &mut [u32],
 ) -> PositionPcg
-    ensures { JobSolved
-        (job_fits Velocity rows bodies mode (length numbers.entry.now) (length words.now)
-        (length masses.now) (length solution.old) (length impulses.old) 0 0
-        (length rule_words.now) (length rule_tolerances.now)
-        (length rule_numbers.old) (length given.now))
-        (rules_in rule_words.now rule_tolerances.now)
-        (velocity_of rows bodies numbers.entry.now words.now masses.now given.now
-        (rules_in rule_words.now rule_tolerances.now) shift)
-        (mode_of mode shift) limit 25 rows
-        record {
-          numbers = numbers.entry.now;
-          solution = solution.old;
-          impulses = impulses.old;
-          centres = [];
-        }
-        record {
-          numbers = numbers.exit.now;
-          solution = solution.new;
-          impulses = impulses.new;
-          centres = [];
-        }
-        rule_numbers.old rule_numbers.new result }
+    ensures { JobSolved (job_fits Velocity rows bodies mode (length numbers.entry.now) (length words.now) (length masses.now) (length solution.old) (length impulses.old) 0 0 (length rule_words.now) (length rule_tolerances.now) (length rule_numbers.old) (length given.now)) (rules_in rule_words.now rule_tolerances.now) (velocity_of rows bodies numbers.entry.now words.now masses.now given.now (rules_in rule_words.now rule_tolerances.now) shift) (mode_of mode shift) limit 25 rows record { numbers = numbers.entry.now; solution = solution.old; impulses = impulses.old; centres = [] } record { numbers = numbers.exit.now; solution = solution.new; impulses = impulses.new; centres = [] } rule_numbers.old rule_numbers.new result }
 {
     let none: [f64; 0] = [0.0; 0];
     let mut no_centres: [f64; 0] = [0.0; 0];

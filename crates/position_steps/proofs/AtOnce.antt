@@ -43,16 +43,11 @@ opens_all rows opens limit g e = go (eqb rows 0)
     go false = rw (ne_eqb limit 0 g, e)
 
 -- ---- `row_ready_at`
-opens_same : (kind : Kind) (numbers : List Float) (words : List ℕ) (i : ℕ)
-    → by_kind kind (opens_of (scalars_of numbers (27 * i + 15)) (words_of words (8 * i)))
-    (velocity_opens_of (scalars_of numbers (27 * i + 15)) (words_of words (8 * i)))
-    ≡ opens_in kind numbers words i
+opens_same : (kind : Kind) (numbers : List Float) (words : List ℕ) (i : ℕ) → by_kind kind (opens_of (scalars_of numbers (27 * i + 15)) (words_of words (8 * i))) (velocity_opens_of (scalars_of numbers (27 * i + 15)) (words_of words (8 * i))) ≡ opens_in kind numbers words i
 opens_same kinds.Position numbers words i = refl
 opens_same kinds.Velocity numbers words i = refl
 
-module _ (kind : Kind) (rules : Rules) (numbers : List Float) (words : List ℕ) (i : ℕ) {w : RowWords} {s : RowScalars} {a b : Bool}
-    (ew : w ≡ words_of words (8 * i)) (es : s ≡ scalars_of numbers (27 * i + 15)) (ea : a ≡ words_fit_of w)
-    (eb : b ≡ by_kind kind (opens_of s w) (velocity_opens_of s w)) where
+module _ (kind : Kind) (rules : Rules) (numbers : List Float) (words : List ℕ) (i : ℕ) {w : RowWords} {s : RowScalars} {a b : Bool} (ew : w ≡ words_of words (8 * i)) (es : s ≡ scalars_of numbers (27 * i + 15)) (ea : a ≡ words_fit_of w) (eb : b ≡ by_kind kind (opens_of s w) (velocity_opens_of s w)) where
   looked : (a && b) ≡ (words_fit_of (words_of words (8 * i)) && opens_in kind numbers words i)
   looked = rw (ea, eb, ew, es, opens_same kind numbers words i) refl
 
@@ -106,8 +101,7 @@ module _ (kind : Kind) (s : Rules) (numbers : List Float) (words : List ℕ) (ro
 -- ---- and with the rest a table is let pass
 module _ (kind : Kind) (rows bodies : ℕ) (numbers : List Float) (words : List ℕ) (masses given : List Float) (s : Rules) (shift : Float) (placed : Bool) (limit : ℕ) where
   pub all_at_once : {r25 r27 r r6 r20 : Bool} {n b : ℕ} → not placed ≡ false → r25 ≡ passes25 shift → not r25 ≡ false → (limit ≡ 0 → ⊥) → r27 ≡ passes27 s → not r27 ≡ false
-      → n ≡ rows → r ≡ every (row_ready kind s numbers words) n → not r ≡ false → b ≡ bodies → r6 ≡ every
-      (λ b. mass_finite_of (mass_of masses b)) b → not r6 ≡ false → r20 ≡ given_fits kind given rows → r20 ≡ true
+      → n ≡ rows → r ≡ every (row_ready kind s numbers words) n → not r ≡ false → b ≡ bodies → r6 ≡ every (λ b. mass_finite_of (mass_of masses b)) b → not r6 ≡ false → r20 ≡ given_fits kind given rows → r20 ≡ true
       → judge (after_three (steps_for kind rows bodies numbers words masses given s shift placed) limit) ≡ going tt
   all_at_once {r25} {r27} {r} {r6} {r20} {n} {b} lp e25 l25 g e27 l27 en e l eb e6 l6 e20 h20 =
       let ready : every (row_ready kind s numbers words) rows ≡ true = ap (every (row_ready kind s numbers words)) (sym en) ∙ sym e ∙ not-false r l in

@@ -76,34 +76,24 @@ module _ (p : Problem) (mode : Mode) (limit : ℕ) where
       rest : Bool → Iterate → Run (Bool × ℕ × Iterate) ℕ
       rest b v = check (meets_of p.tolerance v.residual t.rows) (going (true, 0, v)) (next (first_of b mode (system_of t) (owner_of t) (diagonals t) v) (looping v))
 
-      go : (b : Bool)
-          → next (next (factor_here b mode (system_of t) (owner_of t) (diagonals t)) (λ _. going first)) (rest b)
-          ≡ next (going first) (following_of b mode (system_of t) (owner_of t) (diagonals t) p.tolerance limit)
+      go : (b : Bool) → next (next (factor_here b mode (system_of t) (owner_of t) (diagonals t)) (λ _. going first)) (rest b) ≡ next (going first) (following_of b mode (system_of t) (owner_of t) (diagonals t) p.tolerance limit)
       go true = next_next (factor_judged mode (system_of t) (owner_of t) (diagonals t)) _ _
       go false = ap (check (meets_of p.tolerance first.residual t.rows) (going (true, 0, first))) (next_next (factor_judged mode (system_of t) (owner_of t) (diagonals t)) _ _)
 
 -- the steps do not look at the tests before them, nor at the centres
-pub counting_tested : (options : List (ℕ × Bool)) (limits : Tolerances) (placed : Bool) (c : Centres) (p : Problem) (mode : Mode)
-    (limit : ℕ)
-    → counting (method_of true (with_tests options limits placed c p) mode) limit ≡ counting (method_of true p mode) limit
+pub counting_tested : (options : List (ℕ × Bool)) (limits : Tolerances) (placed : Bool) (c : Centres) (p : Problem) (mode : Mode) (limit : ℕ) → counting (method_of true (with_tests options limits placed c p) mode) limit ≡ counting (method_of true p mode) limit
 unfolding counting begin_of rows_judged valid_judged diagonals_judged row_judged
 counting_tested options limits placed c p mode limit = refl
 
 -- ---- what `run_steps` asks
-pub start_linked : (p : Problem) (opened : Opened) (masses : List Float) (a : Begun) (jacobians : List Float) (links : List ℕ)
-    (tolerances diagonal pending residual : List Float) (w : ℕ)
-    → StartHeld p opened masses a jacobians links tolerances diagonal pending residual → w ≡ p.table.bodies
-    → Linking a links p.table.rows w
+pub start_linked : (p : Problem) (opened : Opened) (masses : List Float) (a : Begun) (jacobians : List Float) (links : List ℕ) (tolerances diagonal pending residual : List Float) (w : ℕ) → StartHeld p opened masses a jacobians links tolerances diagonal pending residual → w ≡ p.table.bodies → Linking a links p.table.rows w
 start_linked p opened masses a jacobians links tolerances diagonal pending residual w h e = record { linked = λ q. rw e (h.started q).stands.linked }
 
-pub start_roomy : (mode : Mode) (n : ℕ) (m : Memory) (diagonal : List Float) → Roomy mode n m → length diagonal ≡ length m.diagonal
-    → Roomy mode n record { diagonal = diagonal; pattern = m.pattern; order = m.order; values = m.values }
+pub start_roomy : (mode : Mode) (n : ℕ) (m : Memory) (diagonal : List Float) → Roomy mode n m → length diagonal ≡ length m.diagonal → Roomy mode n record { diagonal = diagonal; pattern = m.pattern; order = m.order; values = m.values }
 start_roomy mode n m diagonal r e = record { diagonal_long = e ∙ r.diagonal_long; pattern_long = r.pattern_long; order_long = r.order_long; values_long = r.values_long }
 
 -- ---- `count_steps`
-module _ (kind : Kind) (rows bodies : ℕ) (numbers : List Float) (words : List ℕ) (masses given : List Float) (rules : Rules)
-    (opened : Opened) (mode : Mode) (limit : ℕ) (a : Begun) (jacobians : List Float) (links : List ℕ)
-    (tolerances diagonal pending residual : List Float) where
+module _ (kind : Kind) (rows bodies : ℕ) (numbers : List Float) (words : List ℕ) (masses given : List Float) (rules : Rules) (opened : Opened) (mode : Mode) (limit : ℕ) (a : Begun) (jacobians : List Float) (links : List ℕ) (tolerances diagonal pending residual : List Float) where
   abbrev table : Table
   table = table_of rows bodies numbers words masses
 
@@ -116,21 +106,15 @@ module _ (kind : Kind) (rows bodies : ℕ) (numbers : List Float) (words : List 
   abbrev coded : Iterate → Run (Bool × ℕ × Iterate) ℕ
   coded = code (is_velocity kind) bodies
 
-  told : Started problem masses jacobians links tolerances diagonal → length residual ≡ rows
-      → coded (record { solution = pending; residual = residual })
-      ≡ following problem mode limit (record { solution = pending; residual = residual })
+  told : Started problem masses jacobians links tolerances diagonal → length residual ≡ rows → coded (record { solution = pending; residual = residual }) ≡ following problem mode limit (record { solution = pending; residual = residual })
   unfolding row_of words_of
   told h long =
       let v : Iterate = record { solution = pending; residual = residual } in
       ap (λ (s : System). following_of (is_velocity kind) mode s (joints_in words) diagonal (tolerances_in tolerances) limit v) h.stands.system
       ∙ ap (λ (d : List Float). following_of (is_velocity kind) mode (system_of table) (owner_of table) d (tolerances_in tolerances) limit v) h.diagonal_is
-      ∙ following_same (is_velocity kind) mode (system_of table) (owner_of table) (diagonals table) (tolerances_in tolerances)
-      (ruled_by rules table).row limit v
-      (λ i l. ap (λ (x : List Float). get_or x i nan) h.tolerances_are ∙ get_d_tabulate (ruled_by rules table).row rows i nan l) long
+      ∙ following_same (is_velocity kind) mode (system_of table) (owner_of table) (diagonals table) (tolerances_in tolerances) (ruled_by rules table).row limit v (λ i l. ap (λ (x : List Float). get_or x i nan) h.tolerances_are ∙ get_d_tabulate (ruled_by rules table).row rows i nan l) long
 
-  module _ (held : StartHeld problem opened masses a jacobians links tolerances diagonal pending residual) (long : length residual ≡ rows)
-      (b : Bool) (eb : b ≡ is_velocity kind) (w : ℕ) (ew : w ≡ bodies) (o : Iterated) (x r : List Float)
-      (called : next (start_out a pending residual) (code b w) ≡ iterated_out o limit x r) where
+  module _ (held : StartHeld problem opened masses a jacobians links tolerances diagonal pending residual) (long : length residual ≡ rows) (b : Bool) (eb : b ≡ is_velocity kind) (w : ℕ) (ew : w ≡ bodies) (o : Iterated) (x r : List Float) (called : next (start_out a pending residual) (code b w) ≡ iterated_out o limit x r) where
     here : next (start_out a pending residual) coded ≡ iterated_out o limit x r
     here = ap (λ (f : Bool). next (start_out a pending residual) (code f bodies)) (sym eb) ∙ ap (λ (i : ℕ). next (start_out a pending residual) (code b i)) (sym ew) ∙ called
 
@@ -149,10 +133,7 @@ module _ (kind : Kind) (rows bodies : ℕ) (numbers : List Float) (words : List 
     -- where the answer is no refusal, step 0 was none
     stands : (q : Begun) → a ≡ q → (p : Bool × ℕ × Iterate) → iterated_out o limit x r ≡ going p → Stands table masses jacobians links
     stands begun.Done e p h = (held.started e).stands
-    stands (begun.Refused k) e p h = absurd
-        (let y : ended k ≡ going p = sym (on_ended _ _ _ refl) ∙ ap (λ (q : Begun). next (start_out q pending residual) coded) (sym e) ∙ here
-        ∙ h in
-        let z : ◌≡◌ {A = ℕ} 0 1 = cc in omega arith)
+    stands (begun.Refused k) e p h = absurd (let y : ended k ≡ going p = sym (on_ended _ _ _ refl) ∙ ap (λ (q : Begun). next (start_out q pending residual) coded) (sym e) ∙ here ∙ h in let z : ◌≡◌ {A = ℕ} 0 1 = cc in omega arith)
 
     pub count_held : (before after : StepMemory) → after ≡ cleared_steps before → CountHeld mode problem opened limit masses o jacobians links x r before after
     count_held before after m = record {
@@ -162,8 +143,7 @@ module _ (kind : Kind) (rows bodies : ℕ) (numbers : List Float) (words : List 
     }
 
 -- ---- the count of a solve: it follows what was judged of its numbers and whether its centres are finite
-module _ (kind : Kind) (rows bodies : ℕ) (numbers : List Float) (words : List ℕ) (masses centres given : List Float) (rules : Rules)
-    (shift : Float) (mode : Mode) (limit : ℕ) (placed : Bool) (opened : Opened) where
+module _ (kind : Kind) (rows bodies : ℕ) (numbers : List Float) (words : List ℕ) (masses centres given : List Float) (rules : Rules) (shift : Float) (mode : Mode) (limit : ℕ) (placed : Bool) (opened : Opened) where
   abbrev limits : Tolerances
   limits = ruled_by rules (table_of rows bodies numbers words masses)
 
@@ -173,18 +153,12 @@ module _ (kind : Kind) (rows bodies : ℕ) (numbers : List Float) (words : List 
   abbrev stepped : Kind → Problem
   stepped k = kind_of k rows bodies numbers words masses given rules
 
-  pub counted_of_lem : placed ≡ centres_finite (centres_in (placed_of kind bodies) centres)
-      → judge (after_three (steps_for kind rows bodies numbers words masses given rules shift placed) limit) ≡ opened_out opened
+  pub counted_of_lem : placed ≡ centres_finite (centres_in (placed_of kind bodies) centres) → judge (after_three (steps_for kind rows bodies numbers words masses given rules shift placed) limit) ≡ opened_out opened
       → counted_of mode (solved kind) limit ≡ next (opened_out opened) (λ _. counting (method_of true (stepped kind) mode) limit)
   unfolding centres_finite every
   counted_of_lem e h = go kind e h
     where
-      go : (k : Kind) → placed ≡ centres_finite (centres_in (placed_of k bodies) centres)
-          → judge (after_three (steps_for k rows bodies numbers words masses given rules shift placed) limit) ≡ opened_out opened
+      go : (k : Kind) → placed ≡ centres_finite (centres_in (placed_of k bodies) centres) → judge (after_three (steps_for k rows bodies numbers words masses given rules shift placed) limit) ≡ opened_out opened
           → counted_of mode (solved k) limit ≡ next (opened_out opened) (λ _. counting (method_of true (stepped k) mode) limit)
-      go kinds.Position q h = counted_after (solved kinds.Position) mode limit opened (rw q at h) ∙ next_same (opened_out opened) _ _
-          (λ _.
-          counting_tested (shift_tests shift) limits (centres_finite (centres_in bodies centres)) (centres_in bodies centres)
-          (stepped kinds.Position) mode limit)
-      go kinds.Velocity q h = counted_after (solved kinds.Velocity) mode limit opened (rw q at h) ∙ next_same (opened_out opened) _ _
-          (λ _. counting_tested (shift_tests shift) limits true no_centres (stepped kinds.Velocity) mode limit)
+      go kinds.Position q h = counted_after (solved kinds.Position) mode limit opened (rw q at h) ∙ next_same (opened_out opened) _ _ (λ _. counting_tested (shift_tests shift) limits (centres_finite (centres_in bodies centres)) (centres_in bodies centres) (stepped kinds.Position) mode limit)
+      go kinds.Velocity q h = counted_after (solved kinds.Velocity) mode limit opened (rw q at h) ∙ next_same (opened_out opened) _ _ (λ _. counting_tested (shift_tests shift) limits true no_centres (stepped kinds.Velocity) mode limit)

@@ -21,8 +21,7 @@ use Rattle.recurrence.specs.Step.{Iterate}
 use Rattle.position_iteration.specs.Standing.{Standing}
 use Rattle.position_steps.specs.Running.{stepping_by}
 
-module _ (n bodies : ℕ) (words : List ℕ) (masses jacobians : List Float) (links : List ℕ) (before after : Memory) (mode : Mode)
-    (a : Prepared) (built : FactorBuilt (compact_system n bodies jacobians links masses) (joints_in words) before after mode a) where
+module _ (n bodies : ℕ) (words : List ℕ) (masses jacobians : List Float) (links : List ℕ) (before after : Memory) (mode : Mode) (a : Prepared) (built : FactorBuilt (compact_system n bodies jacobians links masses) (joints_in words) before after mode a) where
   abbrev system : System
   system = compact_system n bodies jacobians links masses
 
@@ -34,10 +33,8 @@ module _ (n bodies : ℕ) (words : List ℕ) (masses jacobians : List Float) (li
     factor_holds = built_holds system (joints_in words) before after p (joints_are words n ew) mode a done room built
 
     -- k rows have a tolerance
-    pub factor_stands : (tolerances : List Float) (k : ℕ) → k ≡ n → length tolerances ≡ n → 10 * bodies ≤ length masses
-        → 12 * n ≤ length jacobians → 2 * n ≤ length links → Linked links n bodies
-        → length after.diagonal ≡ length before.diagonal → length after.pattern ≡ length before.pattern → length after.order
-        ≡ length before.order → length after.values ≡ length before.values
+    pub factor_stands : (tolerances : List Float) (k : ℕ) → k ≡ n → length tolerances ≡ n → 10 * bodies ≤ length masses → 12 * n ≤ length jacobians → 2 * n ≤ length links → Linked links n bodies
+        → length after.diagonal ≡ length before.diagonal → length after.pattern ≡ length before.pattern → length after.order ≡ length before.order → length after.values ≡ length before.values
         → Standing p k bodies tolerances masses jacobians links after
     factor_stands tolerances k ek et em ej el linked ed ep eo ev = subst (λ (i : ℕ). Standing p i bodies tolerances masses jacobians links after) (sym ek) (record {
       tolerances_long = et;
@@ -49,7 +46,5 @@ module _ (n bodies : ℕ) (words : List ℕ) (masses jacobians : List Float) (li
     })
 
     -- as many rows as there are tolerances
-    pub factor_runs : (tolerance : ℕ → Float) (limit : ℕ) (v : Iterate) (k : ℕ) {o : Run (Bool × ℕ × Iterate) ℕ} → k ≡ n
-        → stepping_by (z_in p k after) (compact_system k bodies jacobians links masses) tolerance limit v ≡ o
-        → stepping_by (z_in p n after) system tolerance limit v ≡ o
+    pub factor_runs : (tolerance : ℕ → Float) (limit : ℕ) (v : Iterate) (k : ℕ) {o : Run (Bool × ℕ × Iterate) ℕ} → k ≡ n → stepping_by (z_in p k after) (compact_system k bodies jacobians links masses) tolerance limit v ≡ o → stepping_by (z_in p n after) system tolerance limit v ≡ o
     factor_runs tolerance limit v k {o} e h = subst (λ (i : ℕ). stepping_by (z_in p i after) (compact_system i bodies jacobians links masses) tolerance limit v ≡ o) e h

@@ -45,12 +45,10 @@ module _ (rows : ℕ) (opens : ℕ → Bool) (limit : ℕ) where
 
 -- by kind
 module _ (kind : Kind) (numbers : List Float) (words : List ℕ) (rows limit n : ℕ) (r : Bool) (h : rows ≡ 0 → ⊥) (g : limit ≡ 0 → ⊥) (en : n ≡ rows) where
-  pub opens_position : kind ≡ kinds.Position → r ≡ every (λ i. opens_of (scalars_of numbers (27 * i + 15)) (words_of words (8 * i))) n
-      → r ≡ passes5 rows (opens_in kind numbers words) limit
+  pub opens_position : kind ≡ kinds.Position → r ≡ every (λ i. opens_of (scalars_of numbers (27 * i + 15)) (words_of words (8 * i))) n → r ≡ passes5 rows (opens_in kind numbers words) limit
   opens_position k e = rw k (opens_rows rows (opens_in kinds.Position numbers words) limit n r h g en e)
 
-  pub opens_velocity : kind ≡ kinds.Velocity → r ≡ every (λ i. velocity_opens_of (scalars_of numbers (27 * i + 15)) (words_of words (8 * i))) n
-      → r ≡ passes5 rows (opens_in kind numbers words) limit
+  pub opens_velocity : kind ≡ kinds.Velocity → r ≡ every (λ i. velocity_opens_of (scalars_of numbers (27 * i + 15)) (words_of words (8 * i))) n → r ≡ passes5 rows (opens_in kind numbers words) limit
   opens_velocity k e = rw k (opens_rows rows (opens_in kinds.Velocity numbers words) limit n r h g en e)
 
 -- ---- `given_fits`
@@ -68,20 +66,15 @@ module _ (numbers masses : List Float) (words : List ℕ) (rows bodies : ℕ) (r
   words_four n en e = rw (← en) e
 
   -- with what is told of the centres
-  pub masses_six : (placed : Bool) (n : ℕ) → n ≡ bodies → r ≡ every (λ b. mass_finite_of (mass_of masses b)) n
-      → (r && placed) ≡ (passes6 (table_of rows bodies numbers words masses) && placed)
+  pub masses_six : (placed : Bool) (n : ℕ) → n ≡ bodies → r ≡ every (λ b. mass_finite_of (mass_of masses b)) n → (r && placed) ≡ (passes6 (table_of rows bodies numbers words masses) && placed)
   unfolding passes6
   masses_six placed n en e = rw (← en, e)
 
-pub rows_28 : (rules : Rules) (numbers : List Float) (words : List ℕ) (masses : List Float) (rows bodies n : ℕ) (r : Bool) → n ≡ rows
-    → r ≡ rows_ruled rules words n → r ≡ passes28 rules (table_of rows bodies numbers words masses)
+pub rows_28 : (rules : Rules) (numbers : List Float) (words : List ℕ) (masses : List Float) (rows bodies n : ℕ) (r : Bool) → n ≡ rows → r ≡ rows_ruled rules words n → r ≡ passes28 rules (table_of rows bodies numbers words masses)
 rows_28 rules numbers words masses rows bodies n r en e = e ∙ ap (rows_ruled rules words) en ∙ lent_28 rules rows bodies numbers words masses
 
 pub rows_five : (kind : Kind) (numbers : List Float) (words : List ℕ) (rows limit : ℕ) (r : Bool) → r ≡ passes5 rows (opens_in kind numbers words) limit
-    → r ≡ passes5 rows
-    (by_kind kind (λ i. opens_of (row_of numbers words i).scalars (row_of numbers words i).words)
-    (λ i. velocity_opens_of (row_of numbers words i).scalars (row_of numbers words i).words))
-    limit
+    → r ≡ passes5 rows (by_kind kind (λ i. opens_of (row_of numbers words i).scalars (row_of numbers words i).words) (λ i. velocity_opens_of (row_of numbers words i).scalars (row_of numbers words i).words)) limit
 unfolding row_of
 rows_five kind numbers words rows limit r e = e
 
@@ -109,8 +102,7 @@ unfolding opening_of
 opening_after p limit h = judge_pass 3 true (after_three p limit) refl refl h
 
 -- the count follows what is judged
-pub counted_after : (q : Problem) (mode : Mode) (limit : ℕ) (opened : Opened) → judge (after_three q limit) ≡ opened_out opened
-    → counted_of mode q limit ≡ next (opened_out opened) (λ _. counting (method_of true q mode) limit)
+pub counted_after : (q : Problem) (mode : Mode) (limit : ℕ) (opened : Opened) → judge (after_three q limit) ≡ opened_out opened → counted_of mode q limit ≡ next (opened_out opened) (λ _. counting (method_of true q mode) limit)
 unfolding counted_of
 counted_after q mode limit opened h = ap (λ (x : Run Unit ℕ). next x (λ _. counting (method_of true q mode) limit)) (opening_after q limit h)
 

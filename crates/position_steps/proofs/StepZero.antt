@@ -36,15 +36,11 @@ use Rattle.position_steps.specs.declared.opening.Opened.{Opened}
 use Rattle.position_steps.specs.declared.opening.Opened.TheVariants as openings
 use Rattle.position_steps.proofs.Tables.{system_same, table_linked}
 
-pub unopened : (p : Problem) (opened : Opened) (masses : List Float) (k : ℕ) (jacobians : List Float) (links : List ℕ)
-    (tolerances diagonal pending residual : List Float)
-    → opened ≡ openings.Refused k → StartHeld p opened masses (begun.Refused k) jacobians links tolerances diagonal pending residual
-unopened p opened masses k jacobians links tolerances diagonal pending residual e =
-    record { answered = on_ended _ _ _ {a = k} (rw e); started = λ q. absurd (let z : ◌≡◌ {A = ℕ} 0 1 = cc in omega arith) }
+pub unopened : (p : Problem) (opened : Opened) (masses : List Float) (k : ℕ) (jacobians : List Float) (links : List ℕ) (tolerances diagonal pending residual : List Float) → opened ≡ openings.Refused k → StartHeld p opened masses (begun.Refused k) jacobians links tolerances diagonal pending residual
+unopened p opened masses k jacobians links tolerances diagonal pending residual e = record { answered = on_ended _ _ _ {a = k} (rw e); started = λ q. absurd (let z : ◌≡◌ {A = ℕ} 0 1 = cc in omega arith) }
 
 -- each row has a tolerance
-pub rows_ruled_lem : (opened : Opened) (rules : Rules) (words : List ℕ) (rows n : ℕ) → OpenedRuled opened rules words rows
-    → opened ≡ openings.Done → n ≡ rows → rows_ruled rules words n ≡ true
+pub rows_ruled_lem : (opened : Opened) (rules : Rules) (words : List ℕ) (rows n : ℕ) → OpenedRuled opened rules words rows → opened ≡ openings.Done → n ≡ rows → rows_ruled rules words n ≡ true
 rows_ruled_lem opened rules words rows n h done e = ap (rows_ruled rules words) e ∙ h.ruled done
 
 module _ (kind : Kind) (rows bodies : ℕ) (numbers : List Float) (words : List ℕ) (masses given : List Float) (rules : Rules) (opened : Opened) (done : opened ≡ openings.Done) where
@@ -58,8 +54,7 @@ module _ (kind : Kind) (rows bodies : ℕ) (numbers : List Float) (words : List 
   opens = rw done
 
   -- the tolerances, by the rules of the rows, and the residual that is started from
-  module _ (tolerances : List Float) (k : ℕ) (ek : k ≡ rows) (gathered : tolerances ≡ tabulate (tolerance_in rules words) k)
-      (starting : List Float) (m : ℕ) (em : m ≡ rows) (written : starting ≡ tabulate (start_in kind numbers given) m) where
+  module _ (tolerances : List Float) (k : ℕ) (ek : k ≡ rows) (gathered : tolerances ≡ tabulate (tolerance_in rules words) k) (starting : List Float) (m : ℕ) (em : m ≡ rows) (written : starting ≡ tabulate (start_in kind numbers given) m) where
     listed : tolerances ≡ tabulate (ruled_by rules table).row rows
     unfolding row_of words_of
     listed = gathered ∙ ap (tabulate (tolerance_in rules words)) ek
@@ -70,49 +65,31 @@ module _ (kind : Kind) (rows bodies : ℕ) (numbers : List Float) (words : List 
     starts : (i : ℕ) → i < rows → coefficients starting i ≡ problem.start i
     starts i h = start_at kind rows bodies numbers words masses given (ruled_by rules table).row rows starting (written ∙ ap (tabulate (start_in kind numbers given)) em) i h
 
-    module _ (v : Bool) (ev : v ≡ is_velocity kind) (n : ℕ) (same : n ≡ rows) (a : Begun) (diagonal residual : List Float)
-        (begins : BegunHeld (started_problem v (table_of n bodies numbers words masses) (tolerances_in tolerances) (coefficients starting)) a
-        diagonal residual)
-      where
-        held : BegunHeld problem a diagonal residual
-        held =
-            let here = subst (λ (i : ℕ). BegunHeld (started_problem v (table_of i bodies numbers words masses) (tolerances_in tolerances) (coefficients starting)) a diagonal residual) same begins in
-            let kinds = subst (λ (b : Bool). BegunHeld (started_problem b table (tolerances_in tolerances) (coefficients starting)) a diagonal residual) ev here in
-            begun_of problem a diagonal residual
-            (begun_same (is_velocity kind) table (tolerances_in tolerances) (ruled_by rules table).row (coefficients starting)
-            problem.start agree starts a diagonal residual kinds)
+    module _ (v : Bool) (ev : v ≡ is_velocity kind) (n : ℕ) (same : n ≡ rows) (a : Begun) (diagonal residual : List Float) (begins : BegunHeld (started_problem v (table_of n bodies numbers words masses) (tolerances_in tolerances) (coefficients starting)) a diagonal residual) where
+      held : BegunHeld problem a diagonal residual
+      held =
+          let here = subst (λ (i : ℕ). BegunHeld (started_problem v (table_of i bodies numbers words masses) (tolerances_in tolerances) (coefficients starting)) a diagonal residual) same begins in
+          let kinds = subst (λ (b : Bool). BegunHeld (started_problem b table (tolerances_in tolerances) (coefficients starting)) a diagonal residual) ev here in
+          begun_of problem a diagonal residual (begun_same (is_velocity kind) table (tolerances_in tolerances) (ruled_by rules table).row (coefficients starting) problem.start agree starts a diagonal residual kinds)
 
-        pub start_refused : (k : ℕ) (jacobians : List Float) (links : List ℕ) (pending : List Float) → a ≡ begun.Refused k
-            → StartHeld problem opened masses (begun.Refused k) jacobians links tolerances diagonal pending residual
+      pub start_refused : (k : ℕ) (jacobians : List Float) (links : List ℕ) (pending : List Float) → a ≡ begun.Refused k → StartHeld problem opened masses (begun.Refused k) jacobians links tolerances diagonal pending residual
+      unfolding step_zero_of
+      start_refused k jacobians links pending e = record { answered = on_going _ _ _ {s = tt} opens ∙ on_ended _ _ _ {a = k} (held.judgement ∙ rw e); started = λ q. absurd (let z : ◌≡◌ {A = ℕ} 0 1 = cc in omega arith) }
+
+      module _ (began : a ≡ begun.Done) (pending : List Float) (ep : pending ≡ zeros rows) where
+        judgement : rows_judged problem ≡ going tt
+        judgement = held.judgement ∙ rw began
+
+        begun_is : step_zero_of problem ≡ going (record { solution = pending; residual = residual })
         unfolding step_zero_of
-        start_refused k jacobians links pending e =
+        begun_is = on_going _ _ _ {s = tt} judgement ∙ rw (ep, held.residual_is began)
+
+        pub start_done : (jacobians₀ jacobians : List Float) (links₀ links : List ℕ) (m : ℕ) → length numbers ≡ 27 * rows → length words ≡ 8 * rows → length jacobians₀ ≡ 12 * rows → length links₀ ≡ 2 * rows → m ≡ rows
+            → Gathered (λ i. jacobian_of (row_of numbers words i)) m jacobians₀ links₀ jacobians links → StartHeld problem opened masses begun.Done jacobians links tolerances diagonal pending residual
+        start_done jacobians₀ jacobians links₀ links m en ew ej el em g =
+            let here : Gathered (λ i. jacobian_of (row_of numbers words i)) rows jacobians₀ links₀ jacobians links = rw em at g in
+            let system : compact_system rows bodies jacobians links masses ≡ system_of table = system_same numbers words rows en ew bodies masses jacobians₀ jacobians links₀ links (g.long_jacobians ∙ ej) (g.long_links ∙ el) here in
             record {
-              answered = on_going _ _ _ {s = tt} opens ∙ on_ended _ _ _ {a = k} (held.judgement ∙ rw e);
-              started = λ q. absurd (let z : ◌≡◌ {A = ℕ} 0 1 = cc in omega arith);
+              answered = on_going _ _ _ {s = tt} opens ∙ begun_is;
+              started = λ _. record { stands = record { system = system; linked = table_linked problem (rows_passed problem judgement) jacobians links masses system }; tolerances_are = listed; diagonal_is = held.diagonal_is began };
             }
-
-        module _ (began : a ≡ begun.Done) (pending : List Float) (ep : pending ≡ zeros rows) where
-          judgement : rows_judged problem ≡ going tt
-          judgement = held.judgement ∙ rw began
-
-          begun_is : step_zero_of problem ≡ going (record { solution = pending; residual = residual })
-          unfolding step_zero_of
-          begun_is = on_going _ _ _ {s = tt} judgement ∙ rw (ep, held.residual_is began)
-
-          pub start_done : (jacobians₀ jacobians : List Float) (links₀ links : List ℕ) (m : ℕ) → length numbers ≡ 27 * rows
-              → length words ≡ 8 * rows → length jacobians₀ ≡ 12 * rows → length links₀ ≡ 2 * rows → m ≡ rows
-              → Gathered (λ i. jacobian_of (row_of numbers words i)) m jacobians₀ links₀ jacobians links → StartHeld problem opened masses begun.Done jacobians links tolerances diagonal pending residual
-          start_done jacobians₀ jacobians links₀ links m en ew ej el em g =
-              let here : Gathered (λ i. jacobian_of (row_of numbers words i)) rows jacobians₀ links₀ jacobians links = rw em at g in
-              let system : compact_system rows bodies jacobians links masses ≡ system_of table = system_same numbers words rows en ew bodies
-              masses jacobians₀ jacobians links₀ links (g.long_jacobians ∙ ej) (g.long_links ∙ el) here in
-              record {
-                answered = on_going _ _ _ {s = tt} opens ∙ begun_is;
-                started = λ _.
-                    record {
-                      stands =
-                          record { system = system; linked = table_linked problem (rows_passed problem judgement) jacobians links masses system };
-                      tolerances_are = listed;
-                      diagonal_is = held.diagonal_is began;
-                    };
-              }

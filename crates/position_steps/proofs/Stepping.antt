@@ -50,9 +50,7 @@ module _ (z : List Float → Run (List Float) ℕ) (s : System) (tolerance : ℕ
   unfolding stepping_by
   stepping_refused k e = on_ended _ _ _ (called ∙ rw e)
 
-  pub stepping_on : (t : Float) {o : Steps} → q ≡ scales.Value t
-      → after_loop limit (turns (turn (steps_by z (advance_of s) s.rows tolerance)) (iterate x r, carried d t) limit) ≡ o
-      → stepping_by z s tolerance limit (iterate x r) ≡ o
+  pub stepping_on : (t : Float) {o : Steps} → q ≡ scales.Value t → after_loop limit (turns (turn (steps_by z (advance_of s) s.rows tolerance)) (iterate x r, carried d t) limit) ≡ o → stepping_by z s tolerance limit (iterate x r) ≡ o
   unfolding stepping_by looping_by
   stepping_on t e h = on_going _ _ _ {s = carried d t} (called ∙ rw e) ∙ h
 
@@ -60,9 +58,7 @@ pub first_same : (p : Preconditioner) (m : Memory) (k n : ℕ) (r : List Float) 
 first_same p m k n r {o} e h = subst (λ (i : ℕ). first_from (z_in p i m r) r ≡ o) e h
 
 -- ---- by another z and other tolerances, where they agree
-module _ (s : System) (z z' : List Float → Run (List Float) ℕ) (f g : ℕ → Float)
-    (agree : (r : List Float) → length r ≡ s.rows → z r ≡ z' r) (same : (i : ℕ) → i < s.rows → f i ≡ g i) (limit : ℕ) (v : Iterate)
-    (long : length v.residual ≡ s.rows) where
+module _ (s : System) (z z' : List Float → Run (List Float) ℕ) (f g : ℕ → Float) (agree : (r : List Float) → length r ≡ s.rows → z r ≡ z' r) (same : (i : ℕ) → i < s.rows → f i ≡ g i) (limit : ℕ) (v : Iterate) (long : length v.residual ≡ s.rows) where
   pub stepping_same : stepping_by z s f limit v ≡ stepping_by z' s g limit v
   unfolding stepping_by looping_by
   stepping_same =
@@ -70,10 +66,7 @@ module _ (s : System) (z z' : List Float → Run (List Float) ℕ) (f g : ℕ �
       ∙ next_same (first_from (z' v.residual) v.residual) _ _ (λ c. ap (after_loop limit) (same_turns s z z' f g agree same v c long limit))
 
 -- ---- other tolerances that agree on the rows
-pub following_same : (first : Bool) (mode : Mode) (s : System) (owner : ℕ → ℕ) (diagonal : List Float) (f g : ℕ → Float) (limit : ℕ)
-    (v : Iterate)
-    → ((i : ℕ) → i < s.rows → f i ≡ g i) → length v.residual ≡ s.rows
-    → following_of first mode s owner diagonal f limit v ≡ following_of first mode s owner diagonal g limit v
+pub following_same : (first : Bool) (mode : Mode) (s : System) (owner : ℕ → ℕ) (diagonal : List Float) (f g : ℕ → Float) (limit : ℕ) (v : Iterate) → ((i : ℕ) → i < s.rows → f i ≡ g i) → length v.residual ≡ s.rows → following_of first mode s owner diagonal f limit v ≡ following_of first mode s owner diagonal g limit v
 unfolding following_of running_of
 following_same first mode s owner diagonal f g limit v same long =
     let z = preconditioned mode s owner diagonal in
@@ -81,9 +74,7 @@ following_same first mode s owner diagonal f g limit v same long =
     let meets = meets_same s z z f g (λ _ _. refl) same v.residual in
     go first meets step
   where
-    go : (b : Bool) → meets_of f v.residual s.rows ≡ meets_of g v.residual s.rows
-        → stepping_by (preconditioned mode s owner diagonal) s f limit v ≡ stepping_by (preconditioned mode s owner diagonal) s g limit v
-        → following_of b mode s owner diagonal f limit v ≡ following_of b mode s owner diagonal g limit v
+    go : (b : Bool) → meets_of f v.residual s.rows ≡ meets_of g v.residual s.rows → stepping_by (preconditioned mode s owner diagonal) s f limit v ≡ stepping_by (preconditioned mode s owner diagonal) s g limit v → following_of b mode s owner diagonal f limit v ≡ following_of b mode s owner diagonal g limit v
     go true m h = rw (m, h)
     go false m h = rw (m, h)
 
@@ -148,10 +139,7 @@ module _ (first : Bool) (mode : Mode) (s : System) (owner : ℕ → ℕ) (diagon
         run_on m {o} miss h q = begins (go first)
           where
             step : stepping_by (preconditioned mode s owner diagonal) s tolerance limit (iterate x r) ≡ o
-            step = sym
-                (stepping_same s (z_in p s.rows m) (preconditioned mode s owner diagonal) tolerance tolerance
-                (λ y l. holds_same s owner diagonal m y l mode p h) (λ _ _. refl) limit (iterate x r) long)
-                ∙ q
+            step = sym (stepping_same s (z_in p s.rows m) (preconditioned mode s owner diagonal) tolerance tolerance (λ y l. holds_same s owner diagonal m y l mode p h) (λ _ _. refl) limit (iterate x r) long) ∙ q
 
             go : (g : Bool) → following g (iterate x r) ≡ o
             go true = on_going _ _ _ {s = tt} stands ∙ rw (tested false miss) step

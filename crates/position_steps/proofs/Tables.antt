@@ -46,28 +46,13 @@ module _ (numbers : List Float) (words : List ℕ) (n : ℕ) (en : length number
 
   row_beyond : (i : ℕ) → n ≤ i → jacobian_of (row_of numbers words i) ≡ no_row
   unfolding jacobian_of row_of words_of
-  row_beyond i h = rw (
-    no_vec numbers (27 * i) (omega arith),
-    no_vec numbers (27 * i + 3) (omega arith),
-    no_vec numbers (27 * i + 9) (omega arith),
-    no_vec numbers (27 * i + 12) (omega arith),
-    beyond words (8 * i + 2) 0 (omega arith),
-    beyond words (8 * i + 3) 0 (omega arith),
-  )
+  row_beyond i h = rw (no_vec numbers (27 * i) (omega arith), no_vec numbers (27 * i + 3) (omega arith), no_vec numbers (27 * i + 9) (omega arith), no_vec numbers (27 * i + 12) (omega arith), beyond words (8 * i + 2) 0 (omega arith), beyond words (8 * i + 3) 0 (omega arith))
 
   compact_beyond : (jacobians : List Float) (links : List ℕ) → length jacobians ≡ 12 * n → length links ≡ 2 * n → (i : ℕ) → n ≤ i → compact_of jacobians links i ≡ no_row
   unfolding compact_of
-  compact_beyond jacobians links ej el i h = rw (
-    no_spread jacobians (12 * i) (omega arith),
-    no_spread jacobians (12 * i + 1) (omega arith),
-    no_spread jacobians (12 * i + 6) (omega arith),
-    no_spread jacobians (12 * i + 7) (omega arith),
-    beyond links (2 * i) 0 (omega arith),
-    beyond links (2 * i + 1) 0 (omega arith),
-  )
+  compact_beyond jacobians links ej el i h = rw (no_spread jacobians (12 * i) (omega arith), no_spread jacobians (12 * i + 1) (omega arith), no_spread jacobians (12 * i + 6) (omega arith), no_spread jacobians (12 * i + 7) (omega arith), beyond links (2 * i) 0 (omega arith), beyond links (2 * i + 1) 0 (omega arith))
 
-  rows_same : (jacobians₀ jacobians : List Float) (links₀ links : List ℕ) → length jacobians ≡ 12 * n → length links ≡ 2 * n
-      → Gathered (λ i. jacobian_of (row_of numbers words i)) n jacobians₀ links₀ jacobians links
+  rows_same : (jacobians₀ jacobians : List Float) (links₀ links : List ℕ) → length jacobians ≡ 12 * n → length links ≡ 2 * n → Gathered (λ i. jacobian_of (row_of numbers words i)) n jacobians₀ links₀ jacobians links
       → compact_of jacobians links ≡ (λ i. jacobian_of (row_of numbers words i))
   rows_same jacobians₀ jacobians links₀ links ej el g = fun_ext (λ i. at i (dec_lt i n))
     where
@@ -96,8 +81,7 @@ module _ (p : Problem) (passed : judged (row_judged p) p.table.rows ≡ going tt
   linked i h = valid_bodies t.bodies (t.row i) (valid i h)
 
   -- the compact table's rows are those of the table
-  pub table_linked : (jacobians : List Float) (links : List ℕ) (masses : List Float)
-      → compact_system t.rows t.bodies jacobians links masses ≡ system_of t → Linked links t.rows t.bodies
+  pub table_linked : (jacobians : List Float) (links : List ℕ) (masses : List Float) → compact_system t.rows t.bodies jacobians links masses ≡ system_of t → Linked links t.rows t.bodies
   unfolding compact_of jacobian_of
   table_linked jacobians links masses e = record {
     a = λ i h. rw (ap (λ (s : System). (s.jacobian i).body_a) e) (linked i h).a;

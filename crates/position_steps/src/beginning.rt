@@ -31,21 +31,12 @@ pub fn start(
     pending: &mut [f64],
     residual: &mut [f64],
 ) -> Begun
-    requires numbers_len { (length numbers.now ≡ 27 * rows) × (length words.now ≡ 8 * rows)
-        × (10 * bodies ≤ length masses.now) × (3 * length rule_tolerances.now ≤ length rule_words.now) }
-    requires jacobians_len { (length jacobians.old ≡ 12 * rows) × (length links.old ≡ 2 * rows)
-        × (length tolerances.old ≡ rows) × (length diagonal.old ≡ rows) × (length pending.old ≡ rows)
-        × (length residual.old ≡ rows) }
-    requires given_room { GivenRoom kind (length given.now) rows
-        × OpenedRuled opened (rules_in rule_words.now rule_tolerances.now) words.now rows }
-    ensures start_held { StartHeld
-        (kind_of kind rows bodies numbers.now words.now masses.now given.now
-        (rules_in rule_words.now rule_tolerances.now))
-        opened masses.now result jacobians.new links.new tolerances.new
-        diagonal.new pending.new residual.new }
-    ensures start_free { StartFree jacobians.old links.old tolerances.old
-        diagonal.old pending.old residual.old jacobians.new
-        links.new tolerances.new diagonal.new pending.new residual.new }
+    requires numbers_len { (length numbers.now ≡ 27 * rows) × (length words.now ≡ 8 * rows) × (10 * bodies ≤ length masses.now) × (3 * length rule_tolerances.now ≤ length rule_words.now) }
+    requires jacobians_len { (length jacobians.old ≡ 12 * rows) × (length links.old ≡ 2 * rows) × (length tolerances.old ≡ rows) × (length diagonal.old ≡ rows) × (length pending.old ≡ rows) × (length residual.old ≡ rows) }
+    requires given_room { GivenRoom kind (length given.now) rows × OpenedRuled opened (rules_in rule_words.now rule_tolerances.now) words.now rows }
+    ensures start_held { StartHeld (kind_of kind rows bodies numbers.now words.now masses.now given.now (rules_in rule_words.now rule_tolerances.now)) opened masses.now result
+        jacobians.new links.new tolerances.new diagonal.new pending.new residual.new }
+    ensures start_free { StartFree jacobians.old links.old tolerances.old diagonal.old pending.old residual.old jacobians.new links.new tolerances.new diagonal.new pending.new residual.new }
 {
     match opened {
         Opened::Done => {}

@@ -45,26 +45,13 @@ pub fn count_steps(
     values: &mut [f64],
 ) -> Iterated
     requires rows_room { RowsRoom rows bodies numbers.now words.now masses.now }
-    requires work_room { WorkRoom mode rows bodies
-        (work_memory jacobians.old links.old tolerances.old diagonal.old residual.old pending.old
-        direction.old product.old body_impulses.old pattern.old order.old values.old) }
+    requires work_room { WorkRoom mode rows bodies (work_memory jacobians.old links.old tolerances.old diagonal.old residual.old pending.old direction.old product.old body_impulses.old pattern.old order.old values.old) }
     requires rule_tolerances_in_bounds { 3 * length rule_tolerances.now ≤ length rule_words.now }
-    requires given_room { GivenRoom kind (length given.now) rows
-        × OpenedRuled opened (rules_in rule_words.now rule_tolerances.now) words.now rows }
-    ensures count_held { CountHeld mode
-        (kind_of kind rows bodies numbers.now words.now masses.now given.now
-        (rules_in rule_words.now rule_tolerances.now))
-        opened limit masses.now result jacobians.new links.new pending.new
-        residual.new
-        (step_memory tolerances.old diagonal.old direction.old product.old
-        pattern.old order.old values.old)
-        (step_memory tolerances.new diagonal.new direction.new product.new
-        pattern.new order.new values.new) }
-    ensures count_free { CountFree
-        (table_memory jacobians.old links.old residual.old pending.old
-        body_impulses.old)
-        (table_memory jacobians.new links.new residual.new pending.new
-        body_impulses.new) }
+    requires given_room { GivenRoom kind (length given.now) rows × OpenedRuled opened (rules_in rule_words.now rule_tolerances.now) words.now rows }
+    ensures count_held { CountHeld mode (kind_of kind rows bodies numbers.now words.now masses.now given.now (rules_in rule_words.now rule_tolerances.now)) opened limit masses.now result jacobians.new links.new pending.new residual.new
+        (step_memory tolerances.old diagonal.old direction.old product.old pattern.old order.old values.old)
+        (step_memory tolerances.new diagonal.new direction.new product.new pattern.new order.new values.new) }
+    ensures count_free { CountFree (table_memory jacobians.old links.old residual.old pending.old body_impulses.old) (table_memory jacobians.new links.new residual.new pending.new body_impulses.new) }
 {
     let begun = start(
         opened,

@@ -64,15 +64,9 @@ fn open_in_order(
     shift: f64,
     placed: bool,
 ) -> Opened
-    requires rows_in_bounds { (27 * rows ≤ length numbers.now) × (8 * rows ≤ length words.now)
-        × (10 * bodies ≤ length masses.now) × (3 * length rule_tolerances.now ≤ length rule_words.now) }
+    requires rows_in_bounds { (27 * rows ≤ length numbers.now) × (8 * rows ≤ length words.now) × (10 * bodies ≤ length masses.now) × (3 * length rule_tolerances.now ≤ length rule_words.now) }
     requires given_room { GivenRoom kind (length given.now) rows }
-    ensures { judge
-        (after_three
-        (steps_for kind rows bodies numbers.now words.now masses.now
-        given.now (rules_in rule_words.now rule_tolerances.now) shift placed)
-        limit)
-        ≡ opened_out result }
+    ensures { judge (after_three (steps_for kind rows bodies numbers.now words.now masses.now given.now (rules_in rule_words.now rule_tolerances.now) shift placed) limit) ≡ opened_out result }
 {
     if !shift_fits(shift) {
         return Opened::Refused(25);
@@ -113,17 +107,9 @@ fn all_ready(
     shift: f64,
     placed: bool,
 ) -> bool
-    requires rows_in_bounds { (27 * rows ≤ length numbers.now) × (8 * rows ≤ length words.now)
-        × (10 * bodies ≤ length masses.now) × (3 * length rule_tolerances.now ≤ length rule_words.now) }
+    requires rows_in_bounds { (27 * rows ≤ length numbers.now) × (8 * rows ≤ length words.now) × (10 * bodies ≤ length masses.now) × (3 * length rule_tolerances.now ≤ length rule_words.now) }
     requires given_room { GivenRoom kind (length given.now) rows }
-    ensures { result ≡ true
-        → judge
-        (after_three
-        (steps_for kind rows bodies numbers.now words.now masses.now
-        given.now (rules_in rule_words.now rule_tolerances.now) shift
-        placed)
-        limit)
-        ≡ going tt }
+    ensures { result ≡ true → judge (after_three (steps_for kind rows bodies numbers.now words.now masses.now given.now (rules_in rule_words.now rule_tolerances.now) shift placed) limit) ≡ going tt }
 {
     if !placed {
         return false;
@@ -169,15 +155,9 @@ pub fn open_table(
     shift: f64,
     placed: bool,
 ) -> Opened
-    requires rows_in_bounds { (27 * rows ≤ length numbers.now) × (8 * rows ≤ length words.now)
-        × (10 * bodies ≤ length masses.now) × (3 * length rule_tolerances.now ≤ length rule_words.now) }
+    requires rows_in_bounds { (27 * rows ≤ length numbers.now) × (8 * rows ≤ length words.now) × (10 * bodies ≤ length masses.now) × (3 * length rule_tolerances.now ≤ length rule_words.now) }
     requires given_room { GivenRoom kind (length given.now) rows }
-    ensures { judge
-        (after_three
-        (steps_for kind rows bodies numbers.now words.now masses.now
-        given.now (rules_in rule_words.now rule_tolerances.now) shift placed)
-        limit)
-        ≡ opened_out result }
+    ensures { judge (after_three (steps_for kind rows bodies numbers.now words.now masses.now given.now (rules_in rule_words.now rule_tolerances.now) shift placed) limit) ≡ opened_out result }
 {
     if all_ready(
         kind,

@@ -30,12 +30,9 @@ fn row_ready_at(
     rule_tolerances: &[f64],
     i: usize,
 ) -> bool
-    requires i_in_bounds { (27 * i + 27 ≤ length numbers.now) × (8 * i + 8 ≤ length words.now)
-        × (3 * length rule_tolerances.now ≤ length rule_words.now) }
+    requires i_in_bounds { (27 * i + 27 ≤ length numbers.now) × (8 * i + 8 ≤ length words.now) × (3 * length rule_tolerances.now ≤ length rule_words.now) }
     requires plain_value { plain ≡ plain_rules (rules_in rule_words.now rule_tolerances.now) }
-    ensures { result
-        ≡ row_ready kind (rules_in rule_words.now rule_tolerances.now) numbers.now
-        words.now i }
+    ensures { result ≡ row_ready kind (rules_in rule_words.now rule_tolerances.now) numbers.now words.now i }
 {
     let w = words_at(words, 8 * i);
     let s = scalars_at(numbers, 27 * i + 15);
@@ -53,13 +50,8 @@ pub fn rows_ready(
     rule_tolerances: &[f64],
     rows: usize,
 ) -> bool
-    requires { (27 * rows ≤ length numbers.now) × (8 * rows ≤ length words.now)
-        × (3 * length rule_tolerances.now ≤ length rule_words.now) }
-    ensures { result
-        ≡ every
-        (row_ready kind (rules_in rule_words.now rule_tolerances.now) numbers.now
-        words.now)
-        rows }
+    requires { (27 * rows ≤ length numbers.now) × (8 * rows ≤ length words.now) × (3 * length rule_tolerances.now ≤ length rule_words.now) }
+    ensures { result ≡ every (row_ready kind (rules_in rule_words.now rule_tolerances.now) numbers.now words.now) rows }
 {
     let plain = rules_plain(rule_words, rule_tolerances);
     let mut i = 0;

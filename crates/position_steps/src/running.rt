@@ -33,23 +33,9 @@ fn step_on(
     residual: &mut [f64],
     direction: &mut [f64],
 ) -> Iterated
-    requires standing { Standing preconditioner (length tolerances.now) bodies tolerances.now masses.now jacobians.now
-        links.now record { diagonal = diagonal.now; pattern = pattern.now; order = order.now; values = values.now } }
-    requires body_impulses_len { (length body_impulses.old ≡ 6 * bodies) × (length product.old ≡ length tolerances.now)
-        × (length pending.old ≡ length tolerances.now) × (length residual.old ≡ length tolerances.now)
-        × (length direction.old ≡ length tolerances.now) }
-    ensures { stepping_by
-        (z_in preconditioner (length tolerances.now)
-        record {
-          diagonal = diagonal.entry.now;
-          pattern = pattern.now;
-          order = order.now;
-          values = values.now;
-        })
-        (compact_system (length tolerances.now) bodies jacobians.now links.now
-        masses.now)
-        (tolerances_in tolerances.now) limit
-        record { solution = pending.old; residual = residual.old }
+    requires standing { Standing preconditioner (length tolerances.now) bodies tolerances.now masses.now jacobians.now links.now record { diagonal = diagonal.now; pattern = pattern.now; order = order.now; values = values.now } }
+    requires body_impulses_len { (length body_impulses.old ≡ 6 * bodies) × (length product.old ≡ length tolerances.now) × (length pending.old ≡ length tolerances.now) × (length residual.old ≡ length tolerances.now) × (length direction.old ≡ length tolerances.now) }
+    ensures { stepping_by (z_in preconditioner (length tolerances.now) record { diagonal = diagonal.entry.now; pattern = pattern.now; order = order.now; values = values.now }) (compact_system (length tolerances.now) bodies jacobians.now links.now masses.now) (tolerances_in tolerances.now) limit record { solution = pending.old; residual = residual.old }
         ≡ iterated_out result limit pending.new residual.new }
 {
     match first(
@@ -108,33 +94,13 @@ pub fn run_steps(
     residual: &mut [f64],
     direction: &mut [f64],
 ) -> Iterated
-    requires words_len { (length words.now ≡ 8 * rows) × (length tolerances.now ≡ rows)
-        × (10 * bodies ≤ length masses.now) × (12 * rows ≤ length jacobians.now) × (2 * rows ≤ length links.now) }
+    requires words_len { (length words.now ≡ 8 * rows) × (length tolerances.now ≡ rows) × (10 * bodies ≤ length masses.now) × (12 * rows ≤ length jacobians.now) × (2 * rows ≤ length links.now) }
     requires linking { Linking begun links.now rows bodies }
     requires roomy { Roomy mode rows record { diagonal = diagonal.now; pattern = pattern.old; order = order.old; values = values.old } }
-    requires body_impulses_len { (length body_impulses.old ≡ 6 * bodies) × (length product.old ≡ rows)
-        × (length pending.old ≡ rows) × (length residual.old ≡ rows) × (length direction.old ≡ rows) }
-    ensures limit_value { next (start_out begun pending.old residual.old)
-        (following_of factor_first mode
-        (compact_system rows bodies jacobians.now links.now masses.now)
-        (joints_in words.now) diagonal.old (tolerances_in tolerances.now) limit)
+    requires body_impulses_len { (length body_impulses.old ≡ 6 * bodies) × (length product.old ≡ rows) × (length pending.old ≡ rows) × (length residual.old ≡ rows) × (length direction.old ≡ rows) }
+    ensures limit_value { next (start_out begun pending.old residual.old) (following_of factor_first mode (compact_system rows bodies jacobians.now links.now masses.now) (joints_in words.now) diagonal.old (tolerances_in tolerances.now) limit)
         ≡ iterated_out result limit pending.new residual.new }
-    ensures run_free { RunFree
-        record {
-          diagonal = diagonal.entry.now;
-          pattern = pattern.old;
-          order = order.old;
-          values = values.old;
-        }
-        record {
-          diagonal = diagonal.exit.now;
-          pattern = pattern.new;
-          order = order.new;
-          values = values.new;
-        }
-        body_impulses.old product.old pending.old residual.old
-        direction.old body_impulses.new product.new pending.new
-        residual.new direction.new }
+    ensures run_free { RunFree record { diagonal = diagonal.entry.now; pattern = pattern.old; order = order.old; values = values.old } record { diagonal = diagonal.exit.now; pattern = pattern.new; order = order.new; values = values.new } body_impulses.old product.old pending.old residual.old direction.old body_impulses.new product.new pending.new residual.new direction.new }
 {
     match begun {
         Begun::Done => {}

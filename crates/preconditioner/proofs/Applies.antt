@@ -24,9 +24,7 @@ use Rattle.preconditioner.specs.Held.{FactorReady, Ready}
 use Rattle.preconditioner.specs.declared.apply.Preconditioner.{Preconditioner}
 use Rattle.preconditioner.specs.declared.apply.Preconditioner.TheVariants as built
 
-pub diagonal_solved : (residual diagonal output : List Float) (n i : ℕ)
-    → Fills nan (λ k. div binary64 (get_or residual k nan) (get_or diagonal k nan)) n i output → length residual ≡ n → length residual ≤ i
-    → output ≡ diagonal_solve_of residual diagonal
+pub diagonal_solved : (residual diagonal output : List Float) (n i : ℕ) → Fills nan (λ k. div binary64 (get_or residual k nan) (get_or diagonal k nan)) n i output → length residual ≡ n → length residual ≤ i → output ≡ diagonal_solve_of residual diagonal
 unfolding diagonal_solve_of
 diagonal_solved residual diagonal output n i h e l = filled_tabulate h (omega arith) ∙ ap (tabulate (λ k. div binary64 (get_or residual k nan) (get_or diagonal k nan))) (sym e)
 
@@ -40,13 +38,11 @@ module _ (p : Preconditioner) (diagonal : List Float) (L : Sparse) (block : ℕ 
     from_zeros : y ≡ zeros (length residual)
     from_zeros = cleans ∙ ap zeros (sym long)
 
-    apply_factor : (count : ℕ) {o : Run (List Float) (List Float)} → p ≡ built.IncompleteCholesky count → solve_run L diagonal residual y ≡ o
-        → preconditioned_run p diagonal L block owner residual ≡ o
+    apply_factor : (count : ℕ) {o : Run (List Float) (List Float)} → p ≡ built.IncompleteCholesky count → solve_run L diagonal residual y ≡ o → preconditioned_run p diagonal L block owner residual ≡ o
     unfolding preconditioned_run
     apply_factor count t e = rw (t, ← from_zeros) e
 
-    pub apply_blocks : {o : Run (List Float) (List Float)} → p ≡ built.BlockJacobi → blocks_solve_run block owner residual y ≡ o
-        → preconditioned_run p diagonal L block owner residual ≡ o
+    pub apply_blocks : {o : Run (List Float) (List Float)} → p ≡ built.BlockJacobi → blocks_solve_run block owner residual y ≡ o → preconditioned_run p diagonal L block owner residual ≡ o
     unfolding preconditioned_run
     apply_blocks t e = rw (t, ← from_zeros) e
 
@@ -64,19 +60,13 @@ module _ (n count : ℕ) (m : Memory) (h : FactorReady n count m) where
   pub order_lent : length m.order ≡ n + 2 * length (rest_of (n + 1) m.pattern)
   order_lent = omega (arith, h.order_long, columns_are)
 
-pub solved_lent : (n : ℕ) (pattern : List ℕ) (values pivots residual y : List Float) {o : Run (List Float) (List Float)}
-    → solve_run (numbers (take (n + 1) pattern) (rest_of (n + 1) pattern) values) pivots residual y ≡ o
-    → solve_run (numbers (starts_in n pattern) (columns_in n pattern) values) pivots residual y ≡ o
+pub solved_lent : (n : ℕ) (pattern : List ℕ) (values pivots residual y : List Float) {o : Run (List Float) (List Float)} → solve_run (numbers (take (n + 1) pattern) (rest_of (n + 1) pattern) values) pivots residual y ≡ o → solve_run (numbers (starts_in n pattern) (columns_in n pattern) values) pivots residual y ≡ o
 solved_lent n pattern values pivots residual y h = rw (← starts_lent n n refl pattern, ← columns_lent n n refl pattern) h
 
 -- k rows are lent, as many as there are
-pub factor_applied : (p : Preconditioner) (block : ℕ → List Float) (owner : ℕ → ℕ) (pattern : List ℕ)
-    (values diagonal residual y₀ y : List Float) (k n count : ℕ) {o : Run (List Float) (List Float)}
-    → p ≡ built.IncompleteCholesky count → k ≡ n → y ≡ cleared y₀ → length residual ≡ length y₀
-    → solve_run (numbers (starts_in k pattern) (columns_in k pattern) values) diagonal residual y ≡ o → preconditioned_run p diagonal
-    (numbers (starts_in n pattern) (columns_in n pattern) values) block owner residual ≡ o
-factor_applied p block owner pattern values diagonal residual y₀ y k n count t e cleans long h = apply_factor p diagonal
-    (numbers (starts_in n pattern) (columns_in n pattern) values) block owner residual y₀ y cleans long count t (rw (← e) h)
+pub factor_applied : (p : Preconditioner) (block : ℕ → List Float) (owner : ℕ → ℕ) (pattern : List ℕ) (values diagonal residual y₀ y : List Float) (k n count : ℕ) {o : Run (List Float) (List Float)} → p ≡ built.IncompleteCholesky count → k ≡ n → y ≡ cleared y₀ → length residual ≡ length y₀
+    → solve_run (numbers (starts_in k pattern) (columns_in k pattern) values) diagonal residual y ≡ o → preconditioned_run p diagonal (numbers (starts_in n pattern) (columns_in n pattern) values) block owner residual ≡ o
+factor_applied p block owner pattern values diagonal residual y₀ y k n count t e cleans long h = apply_factor p diagonal (numbers (starts_in n pattern) (columns_in n pattern) values) block owner residual y₀ y cleans long count t (rw (← e) h)
 
 -- ---- what the solves are lent
 module _ (p : Preconditioner) (n : ℕ) (m : Memory) (h : Ready p n m) where

@@ -26,7 +26,7 @@ use Rattle.block_jacobi.specs.declared.build.Blocked.TheVariants as blocks
 use Rattle.block_jacobi.proofs.BlocksHeld.{kept_all, runs_fit}
 use Rattle.triangular.specs.Triangular.{or_sixteen}
 use Rattle.preconditioner.specs.Factor.{block_at, block_judged, factor_judged}
-use Rattle.preconditioner.specs.Apply.{block_numbers, preconditioned, preconditioned_run}
+use Rattle.preconditioner.specs.Apply.{diagonal_solve_of, block_numbers, preconditioned, preconditioned_run}
 use Rattle.preconditioner.specs.Room.{Memory, Roomy, pattern_room, order_room, values_room}
 use Rattle.preconditioner.specs.Held.{factor_in, Ready, Holds, holds_diagonal, holds_factor, holds_blocks, FactorBuilt, built_diagonal, built_factor, built_blocks, prepared_out, factor_prepared, blocks_prepared, z_in}
 use Rattle.preconditioner.specs.Shift.{shifted}
@@ -50,10 +50,7 @@ module _ (s : System) (owner : ℕ → ℕ) (l : List Float) where
   by_block k t (going b) = refl
   by_block k t (ended n) = refl
 
-  by_run : (k : ℕ) (t : List Float) (c : Bool)
-      → verdict
-      (check c (on {R = Kept} (block_of s k (run_length owner k s.rows)) (λ b. going (put_block t k b)) (λ n. ended (n, t))) (going t))
-      ≡ check c (next (block_of s k (run_length owner k s.rows)) (λ _. going tt)) (going tt)
+  by_run : (k : ℕ) (t : List Float) (c : Bool) → verdict (check c (on {R = Kept} (block_of s k (run_length owner k s.rows)) (λ b. going (put_block t k b)) (λ n. ended (n, t))) (going t)) ≡ check c (next (block_of s k (run_length owner k s.rows)) (λ _. going tt)) (going tt)
   unfolding check on
   by_run k t true = by_block k t (block_of s k (run_length owner k s.rows))
   by_run k t false = refl
@@ -74,9 +71,7 @@ module _ (s : System) (owner : ℕ → ℕ) (l : List Float) where
 
 -- ---- what is built: judged as the definition says, and there where it is not refused
 module _ (s : System) (owner : ℕ → ℕ) (before after : Memory) where
-  factor_answered : (shift : Float) (a : Built)
-      → cholesky_run s (shifted shift before.diagonal) ≡ build_out a (factor_in s.rows after) after.diagonal
-      → next (cholesky_run s (shifted shift before.diagonal)) (λ _. going tt) ≡ prepared_out (factor_prepared a)
+  factor_answered : (shift : Float) (a : Built) → cholesky_run s (shifted shift before.diagonal) ≡ build_out a (factor_in s.rows after) after.diagonal → next (cholesky_run s (shifted shift before.diagonal)) (λ _. going tt) ≡ prepared_out (factor_prepared a)
   factor_answered shift (factors.Done count) e = on_going _ _ _ e
   factor_answered shift (factors.Refused n) e = on_ended _ _ _ e
 
@@ -94,18 +89,14 @@ module _ (s : System) (owner : ℕ → ℕ) (before after : Memory) where
     unlike : {R : Type 0} (n : ℕ) → ◌≡◌ {A = Prepared} (prepared.Refused n) (prepared.Done p) → R
     unlike n e = absurd (let z : ◌≡◌ {A = ℕ} 0 1 = cc in omega arith)
 
-    factor_holds : (shift : Float) (a : Built) → factor_prepared a ≡ prepared.Done p
-        → cholesky_run s (shifted shift before.diagonal) ≡ build_out a (factor_in s.rows after) after.diagonal
-        → Holds s owner before.diagonal after (modes.IncompleteCholesky shift) p
+    factor_holds : (shift : Float) (a : Built) → factor_prepared a ≡ prepared.Done p → cholesky_run s (shifted shift before.diagonal) ≡ build_out a (factor_in s.rows after) after.diagonal → Holds s owner before.diagonal after (modes.IncompleteCholesky shift) p
     factor_holds shift (factors.Done count) e h = let z : built.IncompleteCholesky count ≡ p = cc in rw (← z) (holds_factor shift count h)
     factor_holds shift (factors.Refused n) e h = unlike n e
 
     gathered : after ≡ record { diagonal = before.diagonal; pattern = tabulate owner s.rows; order = before.order; values = after.values } → owner_in after.pattern ≡ owner
     gathered q = ap (λ (m : Memory). owner_in m.pattern) q ∙ joints
 
-    blocks_hold : (a : Blocked) → blocks_prepared a ≡ prepared.Done p → blocks_run s owner before.values ≡ blocked_out a after.values
-        → owner_in after.pattern ≡ owner → 36 * s.rows ≤ length before.values
-        → Holds s owner before.diagonal after modes.BlockJacobi p
+    blocks_hold : (a : Blocked) → blocks_prepared a ≡ prepared.Done p → blocks_run s owner before.values ≡ blocked_out a after.values → owner_in after.pattern ≡ owner → 36 * s.rows ≤ length before.values → Holds s owner before.diagonal after modes.BlockJacobi p
     unfolding block_at
     blocks_hold blocks.Done e h o room = let z : built.BlockJacobi ≡ p = cc in rw (← z) (holds_blocks o (kept_all s owner before.values room after.values h).blocks)
     blocks_hold (blocks.Refused n) e h o room = unlike n e
@@ -114,43 +105,26 @@ module _ (s : System) (owner : ℕ → ℕ) (before after : Memory) where
     unfolding values_room
     block_room r = omega (arith, r.values_long)
 
-    pub built_holds : (mode : Mode) (r : Prepared) → r ≡ prepared.Done p → Roomy mode s.rows before
-        → FactorBuilt s owner before after mode r → Holds s owner before.diagonal after mode p
+    pub built_holds : (mode : Mode) (r : Prepared) → r ≡ prepared.Done p → Roomy mode s.rows before → FactorBuilt s owner before after mode r → Holds s owner before.diagonal after mode p
     built_holds modes.Diagonal r e room (built_diagonal q) = let z : built.Diagonal ≡ p = cc in rw (← z) (holds_diagonal (ap (λ (m : Memory). m.diagonal) q))
     built_holds (modes.IncompleteCholesky _) r e room (built_factor shift a h _) = factor_holds shift a e h.answered
     built_holds modes.BlockJacobi r e room (built_blocks a h q) = blocks_hold a e h (gathered q) (block_room room)
 
     -- ---- the solves may be called with it; lent memory keeps its lengths
-    module _ (ed : length after.diagonal ≡ length before.diagonal) (ep : length after.pattern ≡ length before.pattern)
-        (eo : length after.order ≡ length before.order) (ev : length after.values ≡ length before.values) where
+    module _ (ed : length after.diagonal ≡ length before.diagonal) (ep : length after.pattern ≡ length before.pattern) (eo : length after.order ≡ length before.order) (ev : length after.values ≡ length before.values) where
       diagonal_ready : (mode : Mode) → Roomy mode s.rows before → p ≡ built.Diagonal → Ready p s.rows after
-      diagonal_ready mode room e =
-          record {
-            long = ed ∙ room.diagonal_long;
-            factor = λ count q. absurd (let z : ◌≡◌ {A = ℕ} 0 1 = cc in omega arith);
-            blocks = λ q. absurd (let z : ◌≡◌ {A = ℕ} 0 1 = cc in omega arith);
-          }
+      diagonal_ready mode room e = record { long = ed ∙ room.diagonal_long; factor = λ count q. absurd (let z : ◌≡◌ {A = ℕ} 0 1 = cc in omega arith); blocks = λ q. absurd (let z : ◌≡◌ {A = ℕ} 0 1 = cc in omega arith) }
 
-      factor_ready : (shift : Float) (a : Built) → factor_prepared a ≡ prepared.Done p
-          → Roomy (modes.IncompleteCholesky shift) s.rows before
-          → ((count : ℕ) → a ≡ factors.Done count
-          → Indexed (starts_in s.rows after.pattern) (columns_in s.rows after.pattern) after.order s.rows count)
-          → Ready p s.rows after
+      factor_ready : (shift : Float) (a : Built) → factor_prepared a ≡ prepared.Done p → Roomy (modes.IncompleteCholesky shift) s.rows before → ((count : ℕ) → a ≡ factors.Done count → Indexed (starts_in s.rows after.pattern) (columns_in s.rows after.pattern) after.order s.rows count) → Ready p s.rows after
       unfolding pattern_room order_room values_room
       factor_ready shift (factors.Done c) e room h = record {
         long = ed ∙ room.diagonal_long;
-        factor = λ count q.
-            record {
-              indexed = let z : c ≡ count = cc in rw (← z) (h c refl);
-              pattern_long = omega (arith, ep, ev, room.pattern_long, room.values_long);
-              order_long = omega (arith, eo, ev, room.order_long, room.values_long);
-            };
+        factor = λ count q. record { indexed = let z : c ≡ count = cc in rw (← z) (h c refl); pattern_long = omega (arith, ep, ev, room.pattern_long, room.values_long); order_long = omega (arith, eo, ev, room.order_long, room.values_long) };
         blocks = λ q. absurd (let z : ◌≡◌ {A = ℕ} 0 1 = cc in omega arith);
       }
       factor_ready shift (factors.Refused n) e room h = unlike n e
 
-      blocks_ready : (a : Blocked) → blocks_prepared a ≡ prepared.Done p → Roomy modes.BlockJacobi s.rows before
-          → blocks_run s owner before.values ≡ blocked_out a after.values → owner_in after.pattern ≡ owner → Ready p s.rows after
+      blocks_ready : (a : Blocked) → blocks_prepared a ≡ prepared.Done p → Roomy modes.BlockJacobi s.rows before → blocks_run s owner before.values ≡ blocked_out a after.values → owner_in after.pattern ≡ owner → Ready p s.rows after
       unfolding pattern_room values_room
       blocks_ready blocks.Done e room h o = record {
         long = ed ∙ room.diagonal_long;
@@ -167,10 +141,7 @@ module _ (s : System) (owner : ℕ → ℕ) (before after : Memory) where
 -- ---- the blocks' solves read a block only where a run begins
 module _ (block block' : ℕ → List Float) (owner : ℕ → ℕ) (residual y : List Float) (agree : (i : ℕ) → i < length residual → begins owner i ≡ true → block i ≡ block' i) where
   same_block : (i len : ℕ) (t : List Float) → i < length residual → (c : Bool) → begins owner i ≡ c
-      → check c
-      (on {R = Run (List Float) (List Float)} (block_solve_run (block i) (stretch residual i len) (stretch t i len))
-      (λ z. going (put_stretch t i len z)) (λ z. ended (put_stretch t i len z)))
-      (going t)
+      → check c (on {R = Run (List Float) (List Float)} (block_solve_run (block i) (stretch residual i len) (stretch t i len)) (λ z. going (put_stretch t i len z)) (λ z. ended (put_stretch t i len z))) (going t)
       ≡ check c (on (block_solve_run (block' i) (stretch residual i len) (stretch t i len)) (λ z. going (put_stretch t i len z)) (λ z. ended (put_stretch t i len z))) (going t)
   unfolding check
   same_block i len t h true e = rw (agree i h e)
@@ -188,8 +159,7 @@ module _ (block block' : ℕ → List Float) (owner : ℕ → ℕ) (residual y :
   same_turns : (k : ℕ) → k ≤ length residual → turns (solve_turn block owner residual) y k ≡ turns (solve_turn block' owner residual) y k
   unfolding turns
   same_turns zero h = refl
-  same_turns (suc k) h = ap (λ (r : Run (List Float) (List Float)). on r (solve_turn block owner residual k) ended)
-      (same_turns k (omega arith)) ∙ same_next k (omega arith) (turns (solve_turn block' owner residual) y k)
+  same_turns (suc k) h = ap (λ (r : Run (List Float) (List Float)). on r (solve_turn block owner residual k) ended) (same_turns k (omega arith)) ∙ same_next k (omega arith) (turns (solve_turn block' owner residual) y k)
 
   pub same_solves : blocks_solve_run block owner residual y ≡ blocks_solve_run block' owner residual y
   unfolding blocks_solve_run

@@ -62,8 +62,7 @@ module _ (mode : Mode) (n : ℕ) where
   unfolding pattern_room order_room values_room
   diagonal_rooms e = rw e (refl, refl, refl)
 
-  pub factor_rooms : {shift : Float} → mode ≡ modes.IncompleteCholesky shift
-      → (n + 1 + pair_room n ≡ pattern_room mode n) × (n + 2 * pair_room n ≡ order_room mode n) × (pair_room n ≡ values_room mode n)
+  pub factor_rooms : {shift : Float} → mode ≡ modes.IncompleteCholesky shift → (n + 1 + pair_room n ≡ pattern_room mode n) × (n + 2 * pair_room n ≡ order_room mode n) × (pair_room n ≡ values_room mode n)
   unfolding pattern_room order_room values_room
   factor_rooms e = rw e (refl, refl, refl)
 
@@ -72,9 +71,7 @@ module _ (mode : Mode) (n : ℕ) where
   block_rooms e = rw e (refl, refl, refl)
 
 -- the lengths do not depend on the shift
-pub rooms_shift : (word : ℕ) (a b : Float) (n : ℕ)
-    → (pattern_room (mode_of word a) n ≡ pattern_room (mode_of word b) n) × (order_room (mode_of word a) n ≡ order_room (mode_of word b) n)
-    × (values_room (mode_of word a) n ≡ values_room (mode_of word b) n)
+pub rooms_shift : (word : ℕ) (a b : Float) (n : ℕ) → (pattern_room (mode_of word a) n ≡ pattern_room (mode_of word b) n) × (order_room (mode_of word a) n ≡ order_room (mode_of word b) n) × (values_room (mode_of word a) n ≡ values_room (mode_of word b) n)
 unfolding mode_of pattern_room order_room values_room
 rooms_shift zero a b n = (refl, refl, refl)
 rooms_shift (suc zero) a b n = (refl, refl, refl)
@@ -82,9 +79,7 @@ rooms_shift (suc (suc word)) a b n = (refl, refl, refl)
 
 -- ---- what a mode's build is lent
 module _ (mode : Mode) (n : ℕ) (m : Memory) (room : Roomy mode n m) where
-  pub factor_lent : {shift : Float} → mode ≡ modes.IncompleteCholesky shift
-      → (length m.diagonal ≡ n) × (length m.pattern ≡ n + 1 + pair_room n) × (length m.order ≡ n + 2 * pair_room n)
-      × (length m.values ≡ pair_room n)
+  pub factor_lent : {shift : Float} → mode ≡ modes.IncompleteCholesky shift → (length m.diagonal ≡ n) × (length m.pattern ≡ n + 1 + pair_room n) × (length m.order ≡ n + 2 * pair_room n) × (length m.values ≡ pair_room n)
   factor_lent e = let r = factor_rooms mode n e in (room.diagonal_long, room.pattern_long ∙ sym r.0, room.order_long ∙ sym r.1, room.values_long ∙ sym r.2)
 
   pub blocks_lent : mode ≡ modes.BlockJacobi → (length m.pattern ≡ n) × (length m.values ≡ 36 * n)
@@ -95,11 +90,9 @@ module _ (s : System) (owner : ℕ → ℕ) (mode : Mode) (before : Memory) wher
   pub mode_diagonal : mode ≡ modes.Diagonal → FactorBuilt s owner before before mode (prepared.Done built.Diagonal)
   mode_diagonal e = rw e (built_diagonal refl)
 
-  pub mode_factor : (after : Memory) (a : Built) (r : Prepared) (shift : Float) {diagonal : List Float}
-      → mode ≡ modes.IncompleteCholesky shift → diagonal ≡ shifted shift before.diagonal
+  pub mode_factor : (after : Memory) (a : Built) (r : Prepared) (shift : Float) {diagonal : List Float} → mode ≡ modes.IncompleteCholesky shift → diagonal ≡ shifted shift before.diagonal
       → FactorHeld s diagonal a (starts_in s.rows after.pattern) (columns_in s.rows after.pattern) before.order after.order before.values after.values after.diagonal
-      → FactorPast s.rows (pair_count (pattern_of s) s.rows) before.pattern after.pattern before.order after.order
-      before.values after.values → r ≡ factor_prepared a → FactorBuilt s owner before after mode r
+      → FactorPast s.rows (pair_count (pattern_of s) s.rows) before.pattern after.pattern before.order after.order before.values after.values → r ≡ factor_prepared a → FactorBuilt s owner before after mode r
   mode_factor after a r shift e d h f t = rw (e, t) (built_factor shift a (rw (← d) h) f)
 
 -- the joints of the rows are gathered, and the blocks built of as many rows as there are joints
@@ -114,18 +107,14 @@ joints_are words n ew = fun_ext (λ i. at i (dec_lt i n))
     at i (no h) = beyond (tabulate (joints_in words) n) i (rw (length_tabulate (joints_in words) n) (omega arith)) ∙ sym (beyond words (8 * i + 6) (omega arith))
 
 -- k joints are gathered, and the blocks are built of as many rows
-pub mode_blocks : (words : List ℕ) (bodies : ℕ) (jacobians : List Float) (links : List ℕ) (masses : List Float) (k n m : ℕ) (mode : Mode)
-    (before : Memory) (joints : List ℕ) (values : List Float) (a : Blocked) (r : Prepared)
-    → length words ≡ 8 * n → k ≡ n → m ≡ n
-    → joints ≡ tabulate (joints_in words) k → mode ≡ modes.BlockJacobi → blocks_run (compact_system m bodies jacobians links masses)
-    (owner_in joints) before.values ≡ blocked_out a values → r ≡ blocks_prepared a
+pub mode_blocks : (words : List ℕ) (bodies : ℕ) (jacobians : List Float) (links : List ℕ) (masses : List Float) (k n m : ℕ) (mode : Mode) (before : Memory) (joints : List ℕ) (values : List Float) (a : Blocked) (r : Prepared) → length words ≡ 8 * n → k ≡ n → m ≡ n
+    → joints ≡ tabulate (joints_in words) k → mode ≡ modes.BlockJacobi → blocks_run (compact_system m bodies jacobians links masses) (owner_in joints) before.values ≡ blocked_out a values → r ≡ blocks_prepared a
     → FactorBuilt (compact_system n bodies jacobians links masses) (joints_in words) before record { diagonal = before.diagonal; pattern = joints; order = before.order; values = values } mode r
 mode_blocks words bodies jacobians links masses k n m mode before joints values a r ew ek em ej e h t =
     let listed : joints ≡ tabulate (joints_in words) n = ej ∙ ap (tabulate (joints_in words)) ek in
     let owner : owner_in joints ≡ joints_in words = ap owner_in listed ∙ joints_are words n ew in
     let made : blocks_run (compact_system n bodies jacobians links masses) (joints_in words) before.values ≡ blocked_out a values =
-    ap (λ (f : ℕ → ℕ). blocks_run (compact_system n bodies jacobians links masses) f before.values) (sym owner) ∙ ap
-    (λ (i : ℕ). blocks_run (compact_system i bodies jacobians links masses) (owner_in joints) before.values) (sym em) ∙ h in
+    ap (λ (f : ℕ → ℕ). blocks_run (compact_system n bodies jacobians links masses) f before.values) (sym owner) ∙ ap (λ (i : ℕ). blocks_run (compact_system i bodies jacobians links masses) (owner_in joints) before.values) (sym em) ∙ h in
     rw (e, t) (built_blocks a made (ap (λ (l : List ℕ). the (record { diagonal = before.diagonal; pattern = l; order = before.order; values = values })) listed))
   where
     the : Memory → Memory

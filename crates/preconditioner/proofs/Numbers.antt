@@ -54,8 +54,7 @@ module _ (P : ℕ → Type 0) (p10 : P 10) (p11 : P 11) (p12 : P 12) (p13 : P 13
       among_judged P _ _ (λ i. among_check P _ _ _ (among_next P _ _ (block_numbers_lem s i _) (λ _ _. among_going P tt)) (among_going P tt))
 
 -- "16. A number in the recurrence is not finite."
-pub z_numbers : (P : ℕ → Type 0) → P 16 → (mode : Mode) (s : System) (owner : ℕ → ℕ) (diagonal residual : List Float)
-    → Goes (factor_judged mode s owner diagonal) → Among P (preconditioned mode s owner diagonal residual)
+pub z_numbers : (P : ℕ → Type 0) → P 16 → (mode : Mode) (s : System) (owner : ℕ → ℕ) (diagonal residual : List Float) → Goes (factor_judged mode s owner diagonal) → Among P (preconditioned mode s owner diagonal residual)
 unfolding factor_judged preconditioned
 z_numbers P p modes.Diagonal s owner diagonal residual g = among_going P _
 z_numbers P p (modes.IncompleteCholesky shift) s owner diagonal residual g =

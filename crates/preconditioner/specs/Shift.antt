@@ -1,10 +1,13 @@
 -- Document 02, f: "Let the factor take a shift from 0 to 1: each pivot starts from diagonal × (1 + shift), both rounded."
-use Rattle.std.specs.Prelude.{Bool, ◌&&◌, List, get_or, length, Float}
+use Rattle.std.specs.Prelude.{ℕ, Bool, ◌&&◌, List, get_or, length, Float}
 use Rattle.std.specs.Float.{nan, binary64}
-use Rattle.std.specs.Float.Ieee.{add, mul, le}
-use Rattle.binary64.specs.One.{one}
+use Rattle.std.specs.Float.Ieee.{add, mul, le, of_bits}
 use Rattle.loops.specs.Cleared.{plus_zero}
 use Rattle.loops.specs.Tabulate.{tabulate}
+
+-- 1.0
+abbrev pub one : Float
+one = of_bits binary64 0x3ff0_0000_0000_0000
 
 unfoldable pub shifted_by : Float → Float → Float
 shifted_by shift d = mul binary64 d (add binary64 one shift)

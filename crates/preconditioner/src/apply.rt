@@ -1,5 +1,5 @@
 // z from the residual: apply_velocity_preconditioner and apply_block_jacobi_preconditioner of pcg.rs.
-ghost use Rattle.std.specs.Prelude.{◌≡◌, ◌+◌, length};
+ghost use Rattle.std.specs.Prelude.{◌≡◌, ◌+◌, ◌*◌, ◌≤◌, length};
 ghost use Rattle.sparse.specs.Kept.{numbers};
 ghost use Rattle.pairs.specs.Pattern.{starts_in, columns_in};
 ghost use Rattle.triangular.specs.Triangular.{solve_run, or_sixteen};
@@ -41,13 +41,9 @@ fn solve_factor(
     residual: &[f64],
     output: &mut [f64],
 ) -> Solved
-    requires factor_ready { FactorReady (length output.old) count
-        record { diagonal = pivots.now; pattern = pattern.now; order = order.now; values = values.now } }
+    requires factor_ready { FactorReady (length output.old) count record { diagonal = pivots.now; pattern = pattern.now; order = order.now; values = values.now } }
     requires pivots_len { (length pivots.now ≡ length output.old) × (length residual.now ≡ length output.old) }
-    ensures { solve_run
-        (numbers (starts_in (length output.old) pattern.now)
-        (columns_in (length output.old) pattern.now) values.now)
-        pivots.now residual.now output.old
+    ensures { solve_run (numbers (starts_in (length output.old) pattern.now) (columns_in (length output.old) pattern.now) values.now) pivots.now residual.now output.old
         ≡ solve_out result output.new }
 {
     let ends = output.len() + 1;
@@ -73,19 +69,11 @@ pub fn apply_preconditioner(
     residual: &[f64],
     output: &mut [f64],
 ) -> Solved
-    requires ready { Ready preconditioner (length residual.now)
-        record { diagonal = diagonal.now; pattern = pattern.now; order = order.now; values = values.now } }
+    requires ready { Ready preconditioner (length residual.now) record { diagonal = diagonal.now; pattern = pattern.now; order = order.now; values = values.now } }
     requires residual_len { length residual.now ≡ length output.old }
-    ensures residual_value { preconditioned_run preconditioner diagonal.now
-        (numbers (starts_in (length residual.now) pattern.now)
-        (columns_in (length residual.now) pattern.now) values.now)
-        (block_in values.now) (owner_in pattern.now) residual.now
+    ensures residual_value { preconditioned_run preconditioner diagonal.now (numbers (starts_in (length residual.now) pattern.now) (columns_in (length residual.now) pattern.now) values.now) (block_in values.now) (owner_in pattern.now) residual.now
         ≡ solve_out result output.new }
-    ensures residual_value_2 { or_sixteen
-        (preconditioned_run preconditioner diagonal.now
-        (numbers (starts_in (length residual.now) pattern.now)
-        (columns_in (length residual.now) pattern.now) values.now)
-        (block_in values.now) (owner_in pattern.now) residual.now)
+    ensures residual_value_2 { or_sixteen (preconditioned_run preconditioner diagonal.now (numbers (starts_in (length residual.now) pattern.now) (columns_in (length residual.now) pattern.now) values.now) (block_in values.now) (owner_in pattern.now) residual.now)
         ≡ solved_out result output.new }
 {
     match preconditioner {

@@ -61,25 +61,12 @@ pub fn build_preconditioner(
     order: &mut [u32],
     values: &mut [f64],
 ) -> Prepared
-    requires words_len { (length words.now ≡ 8 * rows) × (12 * rows ≤ length jacobians.now)
-        × (2 * rows ≤ length links.now) × (10 * bodies ≤ length masses.now) }
+    requires words_len { (length words.now ≡ 8 * rows) × (12 * rows ≤ length jacobians.now) × (2 * rows ≤ length links.now) × (10 * bodies ≤ length masses.now) }
     requires linked { Linked links.now rows bodies }
     requires roomy { Roomy mode rows record { diagonal = diagonal.now; pattern = pattern.old; order = order.old; values = values.old } }
-    ensures { FactorBuilt
-        (compact_system rows bodies jacobians.now links.now masses.now)
-        (joints_in words.now)
-        record {
-          diagonal = diagonal.entry.now;
-          pattern = pattern.old;
-          order = order.old;
-          values = values.old;
-        }
-        record {
-          diagonal = diagonal.exit.now;
-          pattern = pattern.new;
-          order = order.new;
-          values = values.new;
-        }
+    ensures { FactorBuilt (compact_system rows bodies jacobians.now links.now masses.now) (joints_in words.now)
+        record { diagonal = diagonal.entry.now; pattern = pattern.old; order = order.old; values = values.old }
+        record { diagonal = diagonal.exit.now; pattern = pattern.new; order = order.new; values = values.new }
         mode result }
 {
     match mode {

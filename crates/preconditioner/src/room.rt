@@ -1,5 +1,5 @@
 // How long the lent memory of a factor is, by mode, for `rows` rows.
-ghost use Rattle.std.specs.Prelude.{◌≡◌};
+ghost use Rattle.std.specs.Prelude.{◌≡◌, ◌≤◌};
 ghost use Rattle.preconditioner.specs.Room.{pattern_room, order_room, values_room};
 
 use crate::mode::Mode;

@@ -6,10 +6,11 @@ use mathlib.Core.List.{List, [], ◌∷◌}
 use mathlib.Core.Logic.{◌⊎◌, inl, inr, ◌↔◌}
 use native.Mathlib.Omega.{arith}
 use lib.Dec.{eqb, leb}
-use lib.ListN.{length, set}
+use lib.ListN.{length, set, get_or}
 use lib.Ieee.{Float}
 use borrow.Author.Tests.{not-false, eqb-true, eqb-false, eq-eqb, ne_eqb}
 use Rattle.loops.specs.Run.{Run, going, ended, on, check}
+use Rattle.loops.specs.Every.{every}
 use Rattle.loops.specs.Judge.{judge, test, AllPass}
 use Rattle.loops.proofs.Both.{both}
 use Rattle.loops.proofs.Every.{every_iff, every_false}
@@ -62,8 +63,7 @@ module _ (numbers : List Float) (words : List ℕ) (solution : List Float) where
   told_30 true false c = (λ e. absurd (omega arith), λ e. absurd (false≢true e.1))
   told_30 false b c = (λ e. absurd (omega arith), λ e. absurd (false≢true e.0))
 
-  told_kept : (r : Run Unit ℕ) → ¬ ((committing_by r numbers words solution).number ≡ 0)
-      → ((committing_by r numbers words solution).numbers ≡ numbers) × ((committing_by r numbers words solution).words ≡ words)
+  told_kept : (r : Run Unit ℕ) → ¬ ((committing_by r numbers words solution).number ≡ 0) → ((committing_by r numbers words solution).numbers ≡ numbers) × ((committing_by r numbers words solution).words ≡ words)
   unfolding committing_by
   told_kept (going _) h = absurd (h refl)
   told_kept (ended k) h = (refl, refl)
@@ -128,15 +128,7 @@ module _ (numbers : List Float) (rows : ℕ) (words : List ℕ) (solution starte
       )
 
       made : Committed numbers rows words solution started (committing numbers rows words solution started)
-      made =
-          record {
-            answered = refl;
-            done = told_0 numbers words solution lent clear same;
-            unfit = told_3 numbers words solution lent clear same;
-            twice = twice;
-            moved = moved;
-            kept = told_kept numbers words solution (judge (commit_tests numbers rows words solution started));
-          }
+      made = record { answered = refl; done = told_0 numbers words solution lent clear same; unfit = told_3 numbers words solution lent clear same; twice = twice; moved = moved; kept = told_kept numbers words solution (judge (commit_tests numbers rows words solution started)) }
 
   -- ---- the ways of `commit_proposal`; r is what the tests answered
   module _ {r : ℕ} (judged : judge (commit_tests numbers rows words solution started) ≡ numbered r) where
@@ -144,8 +136,7 @@ module _ (numbers : List Float) (rows : ℕ) (words : List ℕ) (solution starte
     unfolding committing_by numbered
     committed_refused z = committed_of_lem (record { number = r; numbers = numbers; words = words }) (by r judged z)
       where
-        by : (k : ℕ) → judge (commit_tests numbers rows words solution started) ≡ numbered k → (k ≡ 0 → ⊥)
-            → committing numbers rows words solution started ≡ record { number = k; numbers = numbers; words = words }
+        by : (k : ℕ) → judge (commit_tests numbers rows words solution started) ≡ numbered k → (k ≡ 0 → ⊥) → committing numbers rows words solution started ≡ record { number = k; numbers = numbers; words = words }
         by zero e z = absurd (z refl)
         by (suc k) e z = ap (λ (x : Run Unit ℕ). committing_by x numbers words solution) e
 
@@ -162,9 +153,7 @@ module _ (numbers : List Float) (rows : ℕ) (words : List ℕ) (solution starte
           let e = eqb-true rows (rows_in words) (both (eqb rows (rows_in words)) (same_multipliers numbers started (length started)) pass.1.1.0).0 in
           (w, omega arith)
 
-      pub committed_done : {numbersAfter : List Float} {wordsAfter : List ℕ}
-          → numbersAfter ≡ gained_after 24 (count_in words) numbers solution → wordsAfter ≡ set words 3 1
-          → Committed numbers rows words solution started (record { number = 0; numbers = numbersAfter; words = wordsAfter })
+      pub committed_done : {numbersAfter : List Float} {wordsAfter : List ℕ} → numbersAfter ≡ gained_after 24 (count_in words) numbers solution → wordsAfter ≡ set words 3 1 → Committed numbers rows words solution started (record { number = 0; numbers = numbersAfter; words = wordsAfter })
       unfolding committing_by
       committed_done en ew = committed_of_lem _ (ap (λ (x : Run Unit ℕ). committing_by x numbers words solution) passed ∙ rw (en, ew))
 

@@ -28,8 +28,7 @@ flag_byte true = refl
 flag_byte false = refl
 
 module _ (answer : PositionPcg) (rows : ℕ) (words : List ℕ) where
-  pub words_noted : (r : PositionPcgResult) → answer ≡ answers.Accepted r → length words ≡ 4
-      → set (set (set (set words 0 rows) 1 (bool_byte r.converged)) 2 r.iterations) 3 0 ≡ words_by answer rows words
+  pub words_noted : (r : PositionPcgResult) → answer ≡ answers.Accepted r → length words ≡ 4 → set (set (set (set words 0 rows) 1 (bool_byte r.converged)) 2 r.iterations) 3 0 ≡ words_by answer rows words
   unfolding words_by
   words_noted r e l = rw (e, flag_byte r.converged) (four_set words rows (cond r.converged 1 0) r.iterations 0 l)
 

@@ -1,7 +1,7 @@
 // The commit of a proposal, document 02, l: "a commit writes the new multipliers and marks the proposal"; "29, the proposal bears the mark; 30, a multiplier or the row count is not what the proposal started from, bits compared; 29 first, and neither writes".
 ghost use Rattle.std.specs.Prelude.{◌≡◌, ◌&&◌, ◌*◌, ◌≤◌, eqb, length};
 ghost use Rattle.loops.specs.Judge.{judge};
-ghost use Rattle.proposals.specs.Commit.{commit_lent, same_multipliers, commit_tests, numbered, Committed};
+ghost use Rattle.proposals.specs.Commit.{rows_in, commit_lent, same_multipliers, commit_tests, numbered, Committed};
 
 use binary64::to_bits;
 use loops::wide;
@@ -36,9 +36,7 @@ fn same_multipliers(numbers: &[f64], started: &[f64]) -> bool
 // Refusal 30, of the row count and of the multipliers.
 fn starts_from(rows: u32, proposed: u32, numbers: &[f64], started: &[f64]) -> bool
     requires { (length numbers.now ≡ 27 * rows) × (length started.now ≡ proposed) }
-    ensures { result
-        ≡ (eqb rows proposed && same_multipliers numbers.now started.now
-        (length started.now)) }
+    ensures { result ≡ (eqb rows proposed && same_multipliers numbers.now started.now (length started.now)) }
 {
     if rows != proposed {
         return false;
@@ -54,10 +52,7 @@ fn judge_commit(
     solution: &[f64],
     started: &[f64],
 ) -> u32
-    ensures { judge
-        (commit_tests numbers.now rows proposal.now solution.now
-        started.now)
-        ≡ numbered result }
+    ensures { judge (commit_tests numbers.now rows proposal.now solution.now started.now) ≡ numbered result }
 {
     if !commit_lent(rows, numbers.len(), proposal, solution.len(), started.len()) {
         return 3;
@@ -79,8 +74,7 @@ pub fn commit_proposal(
     solution: &[f64],
     started: &[f64],
 ) -> u32
-    ensures { Committed numbers.old rows proposal.old solution.now
-        started.now record { number = result; numbers = numbers.new; words = proposal.new } }
+    ensures { Committed numbers.old rows proposal.old solution.now started.now record { number = result; numbers = numbers.new; words = proposal.new } }
 {
     let number = judge_commit(numbers, rows, proposal, solution, started);
     if number != 0 {

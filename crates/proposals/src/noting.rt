@@ -28,8 +28,7 @@ pub fn note_accepted(
 )
     requires { NotingRoom answer (length numbers.now) (length proposal.old) (length started.old) }
     ensures proposal_after { proposal.new ≡ words_by answer rows proposal.old }
-    ensures started_after { started.new
-        ≡ started_by answer numbers.now (length started.old) started.old }
+    ensures started_after { started.new ≡ started_by answer numbers.now (length started.old) started.old }
 {
     match answer {
         PositionPcg::Accepted(result) => {

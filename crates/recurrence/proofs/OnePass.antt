@@ -1,7 +1,7 @@
 -- Mode 0's pass over the rows makes what the definitions make one after the other: the step's solution and residual, its z, and s. Assumes nothing.
 use Prim.Native.Nat.{ℕ, zero, suc, ◌+◌, ◌<◌, ◌≤◌}
 use mathlib.Core.Path.{◌≡◌, refl, sym, ap, ◌∙◌}
-use mathlib.Core.Bool.{Bool, true, false, ◌&&◌}
+use mathlib.Core.Bool.{Bool, true, false, not, ◌&&◌}
 use mathlib.Core.List.{List}
 use native.Mathlib.Numerals.{add-one}
 use native.Mathlib.Omega.{arith}
@@ -35,7 +35,7 @@ use Rattle.recurrence.proofs.Turns.{advance_bad, advance_is}
 pub in_each : {i n x r p y d : ℕ} → i < n → x ≡ n → r ≡ n → p ≡ n → y ≡ n → d ≡ n → (i < x) × (i < r) × (i < p) × (i < y) × (i < d)
 in_each l ex er ep ey ed = (omega arith, omega arith, omega arith, omega arith, omega arith)
 
-pub one_row_lem : (a : Float) (y d : List Float) (i : ℕ) (x r p : List Float) (all b : Bool) (s : Float) → b ≡ finite (add binary64 (get_or x i nan) (mul binary64 a (get_or y i nan)))
+pub one_row : (a : Float) (y d : List Float) (i : ℕ) (x r p : List Float) (all b : Bool) (s : Float) → b ≡ finite (add binary64 (get_or x i nan) (mul binary64 a (get_or y i nan)))
     → row_of a y d i (record { solution = x; residual = r; product = p; all = all; sum = s })
     ≡ record {
       solution = set x i (add binary64 (get_or x i nan) (mul binary64 a (get_or y i nan)));
@@ -45,25 +45,17 @@ pub one_row_lem : (a : Float) (y d : List Float) (i : ℕ) (x r p : List Float) 
       sum = add binary64 s (mul binary64 (sub binary64 (get_or r i nan) (mul binary64 a (get_or p i nan))) (div binary64 (sub binary64 (get_or r i nan) (mul binary64 a (get_or p i nan))) (get_or d i nan)));
     }
 unfolding row_of
-one_row_lem a y d i x r p all b s eb = rw eb
+one_row a y d i x r p all b s eb = rw eb
 
 -- ---- two rows, the second read before the first is written
-pub two_rows : (a : Float) (y d : List Float) (i : ℕ) (x r p : List Float) (all b c : Bool) (s : Float)
-    → b ≡ finite (add binary64 (get_or x i nan) (mul binary64 a (get_or y i nan)))
-    → c ≡ finite (add binary64 (get_or x (i + 1) nan) (mul binary64 a (get_or y (i + 1) nan)))
+pub two_rows : (a : Float) (y d : List Float) (i : ℕ) (x r p : List Float) (all b c : Bool) (s : Float) → b ≡ finite (add binary64 (get_or x i nan) (mul binary64 a (get_or y i nan))) → c ≡ finite (add binary64 (get_or x (i + 1) nan) (mul binary64 a (get_or y (i + 1) nan)))
     → row_of a y d (i + 1) (row_of a y d i (record { solution = x; residual = r; product = p; all = all; sum = s }))
     ≡ record {
       solution = set (set x i (add binary64 (get_or x i nan) (mul binary64 a (get_or y i nan)))) (i + 1) (add binary64 (get_or x (i + 1) nan) (mul binary64 a (get_or y (i + 1) nan)));
       residual = set (set r i (sub binary64 (get_or r i nan) (mul binary64 a (get_or p i nan)))) (i + 1) (sub binary64 (get_or r (i + 1) nan) (mul binary64 a (get_or p (i + 1) nan)));
-      product = set (set p i (div binary64 (sub binary64 (get_or r i nan) (mul binary64 a (get_or p i nan))) (get_or d i nan))) (i + 1)
-          (div binary64 (sub binary64 (get_or r (i + 1) nan) (mul binary64 a (get_or p (i + 1) nan))) (get_or d (i + 1) nan));
+      product = set (set p i (div binary64 (sub binary64 (get_or r i nan) (mul binary64 a (get_or p i nan))) (get_or d i nan))) (i + 1) (div binary64 (sub binary64 (get_or r (i + 1) nan) (mul binary64 a (get_or p (i + 1) nan))) (get_or d (i + 1) nan));
       all = (all && b) && c;
-      sum = add binary64
-          (add binary64 s
-          (mul binary64 (sub binary64 (get_or r i nan) (mul binary64 a (get_or p i nan)))
-          (div binary64 (sub binary64 (get_or r i nan) (mul binary64 a (get_or p i nan))) (get_or d i nan))))
-          (mul binary64 (sub binary64 (get_or r (i + 1) nan) (mul binary64 a (get_or p (i + 1) nan)))
-          (div binary64 (sub binary64 (get_or r (i + 1) nan) (mul binary64 a (get_or p (i + 1) nan))) (get_or d (i + 1) nan)));
+      sum = add binary64 (add binary64 s (mul binary64 (sub binary64 (get_or r i nan) (mul binary64 a (get_or p i nan))) (div binary64 (sub binary64 (get_or r i nan) (mul binary64 a (get_or p i nan))) (get_or d i nan)))) (mul binary64 (sub binary64 (get_or r (i + 1) nan) (mul binary64 a (get_or p (i + 1) nan))) (div binary64 (sub binary64 (get_or r (i + 1) nan) (mul binary64 a (get_or p (i + 1) nan))) (get_or d (i + 1) nan)));
     }
 unfolding row_of
 two_rows a y d i x r p all b c s eb ec = rw (other x _, other r _, other p _, eb, ec)

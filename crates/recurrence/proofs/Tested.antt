@@ -1,6 +1,6 @@
 -- A loop that changes a list in place and tells whether all that it wrote is finite. Assumes nothing.
 use Prim.Native.Nat.{ℕ, ◌+◌, ◌<◌, ◌≤◌}
-use mathlib.Core.Path.{◌≡◌, sym, ap, ◌∙◌}
+use mathlib.Core.Path.{◌≡◌, refl, sym, ap, ◌∙◌}
 use mathlib.Core.Bool.{Bool, true, ◌&&◌}
 use mathlib.Core.List.{List}
 use native.Mathlib.Omega.{arith}
@@ -22,8 +22,7 @@ module _ {h : ℕ → Float → Float} {l₀ : List Float} where
   pub tested_none : Tested h l₀ 0 l₀ true
   tested_none = record { changed = changes_none; told = so_far_none }
 
-  pub tested_more : {i : ℕ} {l l' : List Float} {all b : Bool} → Tested h l₀ i l all → i < length l₀ → l' ≡ set l i (h i (get_or l i nan))
-      → b ≡ finite (h i (get_or l i nan)) → Tested h l₀ (i + 1) l' (all && b)
+  pub tested_more : {i : ℕ} {l l' : List Float} {all b : Bool} → Tested h l₀ i l all → i < length l₀ → l' ≡ set l i (h i (get_or l i nan)) → b ≡ finite (h i (get_or l i nan)) → Tested h l₀ (i + 1) l' (all && b)
   tested_more {i} t p e f = record { changed = changes_more t.changed p e; told = so_far_more t.told p (f ∙ ap (λ (v : Float). finite (h i v)) (t.changed.rest i (omega arith))) }
 
   -- once all is written

@@ -20,7 +20,7 @@ use Rattle.triangular.specs.Answers.{solve_out, solved_out}
 use Rattle.triangular.specs.declared.substitution.Solved.{Solved}
 use Rattle.triangular.specs.declared.substitution.Solved.TheVariants as solves
 use Rattle.recurrence.specs.Vectors.{dot_product_of, plus_scaled, less_scaled}
-use Rattle.recurrence.specs.Step.{Carried, alpha_of, product_fit, first_from, beta_of, turned_of, renew_from}
+use Rattle.recurrence.specs.Step.{Iterate, Carried, alpha_of, product_fit, first_from, beta_of, turned_of, renew_from}
 use Rattle.recurrence.specs.Parts.{length_of, moved_of, next_from}
 use Rattle.recurrence.specs.Answers.{scale_out, carried_out, standing, ProductLeft, AdvanceLeft, DiagonalLeft, CarriedLeft}
 use Rattle.recurrence.specs.declared.ratio.Scale.{Scale}
@@ -35,18 +35,14 @@ module _ (x₀ r₀ direction product : List Float) (a : Float) (x : List Float)
   unfolding moved_of
   advance_bad h = rw (← ex) (test_fail _ _ _ et h)
 
-  pub advance_is : (r : List Float) → r ≡ less_scaled r₀ a product → not t ≡ false
-      → moved_of record { solution = x₀; residual = r₀ } direction product a ≡ going record { solution = x; residual = r }
+  pub advance_is : (r : List Float) → r ≡ less_scaled r₀ a product → not t ≡ false → moved_of record { solution = x₀; residual = r₀ } direction product a ≡ going record { solution = x; residual = r }
   unfolding moved_of
   advance_is r er h = rw (← ex, ← er) (test_pass _ _ _ et h refl)
 
-pub advance_left : {solution₀ solution residual₀ residual : List Float} → length solution ≡ length solution₀
-    → length residual ≡ length residual₀ → AdvanceLeft solution₀ solution residual₀ residual
+pub advance_left : {solution₀ solution residual₀ residual : List Float} → length solution ≡ length solution₀ → length residual ≡ length residual₀ → AdvanceLeft solution₀ solution residual₀ residual
 advance_left x r = record { solution_left = free x; residual_left = free r }
 
-pub diagonal_left : {product₀ product solution₀ solution residual₀ residual : List Float} → length product ≡ length product₀
-    → length solution ≡ length solution₀ → length residual ≡ length residual₀
-    → DiagonalLeft product₀ product solution₀ solution residual₀ residual
+pub diagonal_left : {product₀ product solution₀ solution residual₀ residual : List Float} → length product ≡ length product₀ → length solution ≡ length solution₀ → length residual ≡ length residual₀ → DiagonalLeft product₀ product solution₀ solution residual₀ residual
 diagonal_left p x r = record { product_left = free p; step_left = advance_left x r }
 
 -- ---- `step_length`
@@ -64,9 +60,7 @@ unfolding test check
 tested s d true h = on_going _ _ _ refl
 tested s d false h = on_ended _ _ _ refl ∙ sym (alpha_sixteen s d (h refl))
 
-pub length_is : (system : System) (direction : List Float) (s d : Float) (responses product : List Float) {o : Run Float ℕ}
-    → Multiplied system direction d responses product → system.rows ≡ length direction → alpha_of s d ≡ o
-    → length_of system record { direction = direction; s = s } ≡ o
+pub length_is : (system : System) (direction : List Float) (s d : Float) (responses product : List Float) {o : Run Float ℕ} → Multiplied system direction d responses product → system.rows ≡ length direction → alpha_of s d ≡ o → length_of system record { direction = direction; s = s } ≡ o
 unfolding length_of
 length_is system direction s d responses product m rows h = rw (← m.multiplied, ← answered) (tested s d (all_finite_of product) (λ f. rw answered (dot_not_finite direction product long f)) ∙ h)
   where
@@ -77,8 +71,7 @@ length_is system direction s d responses product m rows h = rw (← m.multiplied
     long = ap length m.multiplied ∙ product_rows system (coefficients direction) ∙ rows
 
 -- what the operator works in stands after a refusal too
-pub product_left : (system : System) (direction : List Float) (d : Float) (responses product : List Float)
-    → Multiplied system direction d responses product → ProductLeft system direction responses product
+pub product_left : (system : System) (direction : List Float) (d : Float) (responses product : List Float) → Multiplied system direction d responses product → ProductLeft system direction responses product
 product_left system direction d responses product m = record { responded = m.responded; multiplied = m.multiplied }
 
 -- ---- `first_direction`
@@ -134,8 +127,7 @@ module _ (run : Run (List Float) (List Float)) (residual : List Float) (z : List
   renew_on c s t es h = ap (λ y. renew_from y residual c) (z_done t) ∙ renewed residual z c s es h
 
 -- z as it stands, refused or not
-pub carried_left : (run : Run (List Float) (List Float)) (z direction₀ direction : List Float) (a : Solved) → run ≡ solve_out a z
-    → length direction ≡ length direction₀ → CarriedLeft run z direction₀ direction
+pub carried_left : (run : Run (List Float) (List Float)) (z direction₀ direction : List Float) (a : Solved) → run ≡ solve_out a z → length direction ≡ length direction₀ → CarriedLeft run z direction₀ direction
 unfolding standing on
 carried_left run z direction₀ direction a e l = record { preconditioned = rw e (by a); direction_left = free l }
   where

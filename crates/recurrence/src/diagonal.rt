@@ -26,10 +26,8 @@ fn update_row(
     i: usize,
     before: Passed,
 ) -> Passed
-    requires { (i < length solution.old) × (i < length residual.old) × (i < length product.old)
-        × (i < length direction.now) × (i < length diagonal.now) }
-    ensures { row_of alpha direction.now diagonal.now i
-        (pass_out before solution.old residual.old product.old)
+    requires { (i < length solution.old) × (i < length residual.old) × (i < length product.old) × (i < length direction.now) × (i < length diagonal.now) }
+    ensures { row_of alpha direction.now diagonal.now i (pass_out before solution.old residual.old product.old)
         ≡ pass_out result solution.new residual.new product.new }
 {
     let x = solution[i] + alpha * direction[i];
@@ -55,11 +53,8 @@ fn update_two(
     i: usize,
     before: Passed,
 ) -> Passed
-    requires { (i + 1 < length solution.old) × (i + 1 < length residual.old) × (i + 1 < length product.old)
-        × (i + 1 < length direction.now) × (i + 1 < length diagonal.now) }
-    ensures { row_of alpha direction.now diagonal.now (i + 1)
-        (row_of alpha direction.now diagonal.now i
-        (pass_out before solution.old residual.old product.old))
+    requires { (i + 1 < length solution.old) × (i + 1 < length residual.old) × (i + 1 < length product.old) × (i + 1 < length direction.now) × (i + 1 < length diagonal.now) }
+    ensures { row_of alpha direction.now diagonal.now (i + 1) (row_of alpha direction.now diagonal.now i (pass_out before solution.old residual.old product.old))
         ≡ pass_out result solution.new residual.new product.new }
 {
     let j = i + 1;
@@ -100,15 +95,10 @@ pub fn advance_diagonal(
     solution: &mut [f64],
     residual: &mut [f64],
 ) -> Scale
-    requires { (length residual.old ≡ length solution.old) × (length product.old ≡ length solution.old)
-        × (length direction.now ≡ length solution.old) × (length diagonal.now ≡ length solution.old) }
-    ensures diagonal_value { next
-        (moved_of record { solution = solution.entry.now; residual = residual.old }
-        direction.now product.old alpha)
-        (with_diagonal diagonal.now)
+    requires { (length residual.old ≡ length solution.old) × (length product.old ≡ length solution.old) × (length direction.now ≡ length solution.old) × (length diagonal.now ≡ length solution.old) }
+    ensures diagonal_value { next (moved_of record { solution = solution.entry.now; residual = residual.old } direction.now product.old alpha) (with_diagonal diagonal.now)
         ≡ diagonal_out result solution.exit.now residual.new product.new }
-    ensures diagonal_left { DiagonalLeft product.old product.new solution.old
-        solution.new residual.old residual.new }
+    ensures diagonal_left { DiagonalLeft product.old product.new solution.old solution.new residual.old residual.new }
 {
     let n = solution.len();
     let mut passed = Passed {

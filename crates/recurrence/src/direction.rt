@@ -1,10 +1,11 @@
 // z and s made from a residual, and the direction from them. The answer is s.
-ghost use Rattle.std.specs.Prelude.{◌≡◌, length};
+ghost use Rattle.std.specs.Prelude.{◌≡◌, ◌+◌, ◌*◌, ◌≤◌, length};
 ghost use Rattle.loops.specs.Run.{going, next};
 ghost use Rattle.preconditioner.specs.Held.{Ready, z_run, z_in};
-ghost use Rattle.recurrence.specs.Step.{first_from, beta_of, turned_of, renew_from};
+ghost use Rattle.recurrence.specs.Step.{product_fit, first_from, beta_of, turned_of, renew_from};
 ghost use Rattle.recurrence.specs.Parts.{next_from};
-ghost use Rattle.recurrence.specs.Answers.{carried_out, CarriedLeft};
+ghost use Rattle.recurrence.specs.Vectors.{dot_product_of};
+ghost use Rattle.recurrence.specs.Answers.{scale_out, carried_out, CarriedLeft};
 
 use crate::ratio::{Scale, beta, fit_product};
 use crate::vector::{dot_product, update_direction};
@@ -27,9 +28,7 @@ fn turn_direction(
     direction: &mut [f64],
 ) -> Scale
     requires { length preconditioned.now ≡ length direction.old }
-    ensures { next (beta_of next_residual_product residual_product)
-        (turned_of preconditioned.now direction.old next_residual_product)
-        ≡ carried_out result direction.new }
+    ensures { next (beta_of next_residual_product residual_product) (turned_of preconditioned.now direction.old next_residual_product) ≡ carried_out result direction.new }
 {
     match beta(next_residual_product, residual_product) {
         Scale::Value(scale) => {
@@ -50,9 +49,7 @@ pub fn next_direction(
     direction: &mut [f64],
 ) -> Scale
     requires { length preconditioned.now ≡ length direction.old }
-    ensures { next_from preconditioned.now
-        record { direction = direction.entry.now; s = residual_product } next_residual_product
-        ≡ carried_out result direction.exit.now }
+    ensures { next_from preconditioned.now record { direction = direction.entry.now; s = residual_product } next_residual_product ≡ carried_out result direction.exit.now }
 {
     match fit_product(next_residual_product) {
         Scale::Value(s) => turn_direction(residual_product, s, preconditioned, direction),
@@ -71,29 +68,11 @@ pub fn first(
     preconditioned: &mut [f64],
     direction: &mut [f64],
 ) -> Scale
-    requires ready { Ready preconditioner (length residual.now)
-        record { diagonal = diagonal.now; pattern = pattern.now; order = order.now; values = values.now } }
+    requires ready { Ready preconditioner (length residual.now) record { diagonal = diagonal.now; pattern = pattern.now; order = order.now; values = values.now } }
     requires preconditioned_len { (length preconditioned.old ≡ length residual.now) × (length direction.old ≡ length residual.now) }
-    ensures residual_value { first_from
-        (z_in preconditioner (length residual.now)
-        record {
-          diagonal = diagonal.entry.now;
-          pattern = pattern.now;
-          order = order.now;
-          values = values.now;
-        }
-        residual.now)
-        residual.now
+    ensures residual_value { first_from (z_in preconditioner (length residual.now) record { diagonal = diagonal.entry.now; pattern = pattern.now; order = order.now; values = values.now } residual.now) residual.now
         ≡ carried_out result direction.new }
-    ensures carried_left { CarriedLeft
-        (z_run preconditioner (length residual.now)
-        record {
-          diagonal = diagonal.entry.now;
-          pattern = pattern.now;
-          order = order.now;
-          values = values.now;
-        }
-        residual.now)
+    ensures carried_left { CarriedLeft (z_run preconditioner (length residual.now) record { diagonal = diagonal.entry.now; pattern = pattern.now; order = order.now; values = values.now } residual.now)
         preconditioned.new direction.old direction.new }
 {
     let Solved::Done = apply_preconditioner(
@@ -122,29 +101,11 @@ pub fn renew(
     preconditioned: &mut [f64],
     direction: &mut [f64],
 ) -> Scale
-    requires ready { Ready preconditioner (length residual.now)
-        record { diagonal = diagonal.now; pattern = pattern.now; order = order.now; values = values.now } }
+    requires ready { Ready preconditioner (length residual.now) record { diagonal = diagonal.now; pattern = pattern.now; order = order.now; values = values.now } }
     requires preconditioned_len { (length preconditioned.old ≡ length residual.now) × (length direction.old ≡ length residual.now) }
-    ensures residual_product_value { renew_from
-        (z_in preconditioner (length residual.now)
-        record {
-          diagonal = diagonal.entry.now;
-          pattern = pattern.now;
-          order = order.now;
-          values = values.now;
-        }
-        residual.now)
-        residual.now record { direction = direction.entry.now; s = residual_product }
+    ensures residual_product_value { renew_from (z_in preconditioner (length residual.now) record { diagonal = diagonal.entry.now; pattern = pattern.now; order = order.now; values = values.now } residual.now) residual.now record { direction = direction.entry.now; s = residual_product }
         ≡ carried_out result direction.exit.now }
-    ensures carried_left { CarriedLeft
-        (z_run preconditioner (length residual.now)
-        record {
-          diagonal = diagonal.entry.now;
-          pattern = pattern.now;
-          order = order.now;
-          values = values.now;
-        }
-        residual.now)
+    ensures carried_left { CarriedLeft (z_run preconditioner (length residual.now) record { diagonal = diagonal.entry.now; pattern = pattern.now; order = order.now; values = values.now } residual.now)
         preconditioned.new direction.old direction.new }
 {
     let Solved::Done = apply_preconditioner(

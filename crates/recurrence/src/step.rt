@@ -14,8 +14,7 @@ pub fn advance(
     residual: &mut [f64],
 ) -> bool
     requires { (length direction.now ≡ length solution.old) × (length product.now ≡ length residual.old) }
-    ensures alpha_value { moved_of record { solution = solution.entry.now; residual = residual.old }
-        direction.now product.now alpha
+    ensures alpha_value { moved_of record { solution = solution.entry.now; residual = residual.old } direction.now product.now alpha
         ≡ advanced_out result solution.exit.now residual.new }
     ensures advance_left { AdvanceLeft solution.old solution.new residual.old residual.new }
 {

@@ -1,5 +1,5 @@
 // The vector operations of the recurrence. None stops on the way: a number that went not finite stays so (mass_operator, proofs/Dots.antt).
-ghost use Rattle.std.specs.Prelude.{◌≡◌, length};
+ghost use Rattle.std.specs.Prelude.{◌≡◌, ◌≤◌, length};
 ghost use Rattle.mass_operator.specs.Applied.{all_finite_of};
 ghost use Rattle.recurrence.specs.Vectors.{dot_product_of, plus_scaled, less_scaled};
 

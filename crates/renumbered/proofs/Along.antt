@@ -26,8 +26,7 @@ unfolding moved_along
 along_long width q l = length_tabulate _ (length l)
 
 -- number r of body b
-pub along_at : (width : ℕ) (q : ℕ → ℕ) (l : List Float) (b r : ℕ) {k j : ℕ} → k < length l → k / width ≡ b → k % width ≡ r
-    → j ≡ width * q b + r → get_or (moved_along width q l) k nan ≡ get_or l j nan
+pub along_at : (width : ℕ) (q : ℕ → ℕ) (l : List Float) (b r : ℕ) {k j : ℕ} → k < length l → k / width ≡ b → k % width ≡ r → j ≡ width * q b + r → get_or (moved_along width q l) k nan ≡ get_or l j nan
 unfolding moved_along
 along_at width q l b r {k} {j} h d m e = get_d_tabulate (λ k. get_or l (width * q (k / width) + k % width) nan) (length l) k nan h ∙ rw (d, m, e)
 
@@ -39,14 +38,7 @@ module _ (q : ℕ → ℕ) (n : ℕ) (l : List Float) where
 
     pub impulse_along : impulse_of (moved_impulses q l) b ≡ impulse_of l (q b)
     unfolding impulse_of vec_of
-    impulse_along = rw (
-      of_impulse 0 (6 * b) (6 * q b) (omega arith) (omega arith) (omega arith),
-      of_impulse 1 (6 * b + 1) (6 * q b + 1) (omega arith) refl refl,
-      of_impulse 2 (6 * b + 2) (6 * q b + 2) (omega arith) refl refl,
-      of_impulse 3 (6 * b + 3) (6 * q b + 3) (omega arith) refl refl,
-      of_impulse 4 (6 * b + 3 + 1) (6 * q b + 3 + 1) (omega arith) (omega arith) (omega arith),
-      of_impulse 5 (6 * b + 3 + 2) (6 * q b + 3 + 2) (omega arith) (omega arith) (omega arith),
-    )
+    impulse_along = rw (of_impulse 0 (6 * b) (6 * q b) (omega arith) (omega arith) (omega arith), of_impulse 1 (6 * b + 1) (6 * q b + 1) (omega arith) refl refl, of_impulse 2 (6 * b + 2) (6 * q b + 2) (omega arith) refl refl, of_impulse 3 (6 * b + 3) (6 * q b + 3) (omega arith) refl refl, of_impulse 4 (6 * b + 3 + 1) (6 * q b + 3 + 1) (omega arith) (omega arith) (omega arith), of_impulse 5 (6 * b + 3 + 2) (6 * q b + 3 + 2) (omega arith) (omega arith) (omega arith))
 
   module _ (e : length l ≡ 3 * n) (b : ℕ) (h : b < n) where
     of_centre : (r k j : ℕ) → r < 3 → k ≡ 3 * b + r → j ≡ 3 * q b + r → get_or (moved_centres q l) k nan ≡ get_or l j nan
@@ -54,11 +46,7 @@ module _ (q : ℕ → ℕ) (n : ℕ) (l : List Float) where
 
     pub centre_along : vec_of (moved_centres q l) (3 * b) ≡ vec_of l (3 * q b)
     unfolding vec_of
-    centre_along = rw (
-      of_centre 0 (3 * b) (3 * q b) (omega arith) (omega arith) (omega arith),
-      of_centre 1 (3 * b + 1) (3 * q b + 1) (omega arith) refl refl,
-      of_centre 2 (3 * b + 2) (3 * q b + 2) (omega arith) refl refl,
-    )
+    centre_along = rw (of_centre 0 (3 * b) (3 * q b) (omega arith) (omega arith) (omega arith), of_centre 1 (3 * b + 1) (3 * q b + 1) (omega arith) refl refl, of_centre 2 (3 * b + 2) (3 * q b + 2) (omega arith) refl refl)
 
   module _ (e : length l ≡ 10 * n) (b : ℕ) (h : b < n) where
     of_mass : (r k j : ℕ) → r < 10 → k ≡ 10 * b + r → j ≡ 10 * q b + r → get_or (moved_masses q l) k nan ≡ get_or l j nan
@@ -66,18 +54,7 @@ module _ (q : ℕ → ℕ) (n : ℕ) (l : List Float) where
 
     pub mass_along : mass_of (moved_masses q l) b ≡ mass_of l (q b)
     unfolding mass_of vec_of
-    mass_along = rw (
-      of_mass 0 (10 * b) (10 * q b) (omega arith) (omega arith) (omega arith),
-      of_mass 1 (10 * b + 1) (10 * q b + 1) (omega arith) refl refl,
-      of_mass 2 (10 * b + 1 + 1) (10 * q b + 1 + 1) (omega arith) (omega arith) (omega arith),
-      of_mass 3 (10 * b + 1 + 2) (10 * q b + 1 + 2) (omega arith) (omega arith) (omega arith),
-      of_mass 4 (10 * b + 4) (10 * q b + 4) (omega arith) refl refl,
-      of_mass 5 (10 * b + 4 + 1) (10 * q b + 4 + 1) (omega arith) (omega arith) (omega arith),
-      of_mass 6 (10 * b + 4 + 2) (10 * q b + 4 + 2) (omega arith) (omega arith) (omega arith),
-      of_mass 7 (10 * b + 7) (10 * q b + 7) (omega arith) refl refl,
-      of_mass 8 (10 * b + 7 + 1) (10 * q b + 7 + 1) (omega arith) (omega arith) (omega arith),
-      of_mass 9 (10 * b + 7 + 2) (10 * q b + 7 + 2) (omega arith) (omega arith) (omega arith),
-    )
+    mass_along = rw (of_mass 0 (10 * b) (10 * q b) (omega arith) (omega arith) (omega arith), of_mass 1 (10 * b + 1) (10 * q b + 1) (omega arith) refl refl, of_mass 2 (10 * b + 1 + 1) (10 * q b + 1 + 1) (omega arith) (omega arith) (omega arith), of_mass 3 (10 * b + 1 + 2) (10 * q b + 1 + 2) (omega arith) (omega arith) (omega arith), of_mass 4 (10 * b + 4) (10 * q b + 4) (omega arith) refl refl, of_mass 5 (10 * b + 4 + 1) (10 * q b + 4 + 1) (omega arith) (omega arith) (omega arith), of_mass 6 (10 * b + 4 + 2) (10 * q b + 4 + 2) (omega arith) (omega arith) (omega arith), of_mass 7 (10 * b + 7) (10 * q b + 7) (omega arith) refl refl, of_mass 8 (10 * b + 7 + 1) (10 * q b + 7 + 1) (omega arith) (omega arith) (omega arith), of_mass 9 (10 * b + 7 + 2) (10 * q b + 7 + 2) (omega arith) (omega arith) (omega arith))
 
 -- ---- six doubles a body: where number k goes
 abbrev sixfold : (ℕ → ℕ) → ℕ → ℕ

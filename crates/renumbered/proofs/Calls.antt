@@ -31,9 +31,7 @@ module _ (q : ℕ → ℕ) (place n : ℕ) (before before' : Lent) where
     pub accepted : (r : PositionPcgResult) → answer ≡ answers.Accepted r → before'.numbers ≡ before.numbers → LentAlike q after after'
     pub refused : (k : ℕ) → answer ≡ answers.Refused k → (after ≡ before) × (after' ≡ before')
 
-  delivered_alike : (a : Answer)
-      → let o = outcome_at place n before a in
-      let o' = outcome_at place n before' (delivering (moved q) a) in OutcomesAlike o.answer o'.answer o.lent o'.lent
+  delivered_alike : (a : Answer) → let o = outcome_at place n before a in let o' = outcome_at place n before' (delivering (moved q) a) in OutcomesAlike o.answer o'.answer o.lent o'.lent
   unfolding proposal_of committed_of moved on
   delivered_alike (going ((flag, count, v), f)) = record {
     answered = refl;
@@ -47,19 +45,15 @@ module _ (q : ℕ → ℕ) (place n : ℕ) (before before' : Lent) where
   }
 
   -- by the equations of two contracts
-  pub outcomes_alike : (a b : Answer) {answer answer' : PositionPcg} {after after' : Lent} → b ≡ delivering (moved q) a
-      → outcome_at place n before a ≡ record { answer = answer; lent = after }
-      → outcome_at place n before' b ≡ record { answer = answer'; lent = after' } → OutcomesAlike answer answer' after after'
+  pub outcomes_alike : (a b : Answer) {answer answer' : PositionPcg} {after after' : Lent} → b ≡ delivering (moved q) a → outcome_at place n before a ≡ record { answer = answer; lent = after } → outcome_at place n before' b ≡ record { answer = answer'; lent = after' } → OutcomesAlike answer answer' after after'
   outcomes_alike a b {answer} {answer'} {after} {after'} e x y =
       go (outcome_at place n before a) (outcome_at place n before' (delivering (moved q) a)) x (sym (ap (outcome_at place n before') e) ∙ y) (delivered_alike a)
     where
-      go : (o o' : Outcome) → o ≡ record { answer = answer; lent = after } → o' ≡ record { answer = answer'; lent = after' }
-          → OutcomesAlike o.answer o'.answer o.lent o'.lent → OutcomesAlike answer answer' after after'
+      go : (o o' : Outcome) → o ≡ record { answer = answer; lent = after } → o' ≡ record { answer = answer'; lent = after' } → OutcomesAlike o.answer o'.answer o.lent o'.lent → OutcomesAlike answer answer' after after'
       go o o' u v d = rw (u, v) at d
 
 -- ---- the rule of each row, where there is an answer
-named_alike : (rule rule' : ℕ → ℕ) (n : ℕ) (named named' : List ℕ) (answer : PositionPcg) (r : PositionPcgResult)
-    → answer ≡ answers.Accepted r → ((i : ℕ) → i < n → rule' i ≡ rule i) → named_by answer rule' n named' ≡ named_by answer rule n named
+named_alike : (rule rule' : ℕ → ℕ) (n : ℕ) (named named' : List ℕ) (answer : PositionPcg) (r : PositionPcgResult) → answer ≡ answers.Accepted r → ((i : ℕ) → i < n → rule' i ≡ rule i) → named_by answer rule' n named' ≡ named_by answer rule n named
 named_alike rule rule' n named named' (answers.Accepted x) r e h = tabulate_same rule' rule n h
 named_alike rule rule' n named named' (answers.Refused k) r e h = absurd (let z : ◌≡◌ {A = ℕ} 0 1 = cc in omega arith)
 
@@ -69,51 +63,31 @@ named_kept rule n named (answers.Refused m) k e = refl
 
 module _ (p q : ℕ → ℕ) (j : LentJob) (r : Renumbering j.bodies p q) (inside : InRange (table_in j)) where
   -- an answer is given only where 3 passes
-  fitted : (fits : Bool) (shift : Float) (mode : Mode) (limit place n : ℕ) (before : Lent) (answer : PositionPcg) (after : Lent)
-      (x : PositionPcgResult)
-      → outcome_at place n before (solve (method_of fits (solve_in j shift) mode) limit) ≡ record { answer = answer; lent = after }
-      → answer ≡ answers.Accepted x → fits ≡ true
+  fitted : (fits : Bool) (shift : Float) (mode : Mode) (limit place n : ℕ) (before : Lent) (answer : PositionPcg) (after : Lent) (x : PositionPcgResult) → outcome_at place n before (solve (method_of fits (solve_in j shift) mode) limit) ≡ record { answer = answer; lent = after } → answer ≡ answers.Accepted x → fits ≡ true
   unfolding proposal_of
   fitted true shift mode limit place n before answer after x e f = refl
   fitted false shift mode limit place n before answer after x e f =
-      let g : (outcome_at place n before (ended 3)).answer ≡ answers.Accepted x = ap (λ (a : Answer). (outcome_at place n before a).answer)
-      (sym (solve_three (solve_in j shift) mode limit)) ∙ ap (λ (o : Outcome). o.answer) e ∙ f in
+      let g : (outcome_at place n before (ended 3)).answer ≡ answers.Accepted x = ap (λ (a : Answer). (outcome_at place n before a).answer) (sym (solve_three (solve_in j shift) mode limit)) ∙ ap (λ (o : Outcome). o.answer) e ∙ f in
       absurd (let z : ◌≡◌ {A = ℕ} 0 1 = cc in omega arith)
 
-  module _ (fits : Bool) (long : Long fits j) (shift : Float) (mode : Mode) (limit place : ℕ) (before after before' after' : Lent)
-      (named namedAfter named' namedAfter' : List ℕ) (answer answer' : PositionPcg) where
-    solved_alike : outcome_at place j.rows before (solve (method_of fits (solve_in j shift) mode) limit)
-        ≡ record { answer = answer; lent = after }
-        → outcome_at place j.rows before' (solve (method_of fits (solve_in (renumbered_job p q j) shift) mode) limit)
-        ≡ record { answer = answer'; lent = after' }
-        → namedAfter ≡ named_by answer (solve_in j shift).rule j.rows named → namedAfter' ≡ named_by answer'
-        (solve_in (renumbered_job p q j) shift).rule j.rows named' → SolvedAlike q before after before' after' named namedAfter named'
-        namedAfter' answer answer'
+  module _ (fits : Bool) (long : Long fits j) (shift : Float) (mode : Mode) (limit place : ℕ) (before after before' after' : Lent) (named namedAfter named' namedAfter' : List ℕ) (answer answer' : PositionPcg) where
+    solved_alike : outcome_at place j.rows before (solve (method_of fits (solve_in j shift) mode) limit) ≡ record { answer = answer; lent = after } → outcome_at place j.rows before' (solve (method_of fits (solve_in (renumbered_job p q j) shift) mode) limit) ≡ record { answer = answer'; lent = after' }
+        → namedAfter ≡ named_by answer (solve_in j shift).rule j.rows named → namedAfter' ≡ named_by answer' (solve_in (renumbered_job p q j) shift).rule j.rows named' → SolvedAlike q before after before' after' named namedAfter named' namedAfter' answer answer'
     solved_alike x y m m' =
         let job = renumbers_job p q j r inside fits long in
-        let d = outcomes_alike q place j.rows before before' (solve (method_of fits (solve_in j shift) mode) limit)
-        (solve (method_of fits (solve_in (renumbered_job p q j) shift) mode) limit) (job.solves shift mode limit) x y in
+        let d = outcomes_alike q place j.rows before before' (solve (method_of fits (solve_in j shift) mode) limit) (solve (method_of fits (solve_in (renumbered_job p q j) shift) mode) limit) (job.solves shift mode limit) x y in
         record {
           answered = d.answered;
-          accepted = λ a e h. (
-            d.accepted a e h,
-            m' ∙ named_alike (solve_in j shift).rule (solve_in (renumbered_job p q j) shift).rule j.rows named named' answer' a
-                (d.answered ∙ e) (job.measures (fitted fits shift mode limit place j.rows before answer after a x e) []).rules ∙ ap
-                (λ (z : PositionPcg). named_by z (solve_in j shift).rule j.rows named) d.answered ∙ sym m,
-          );
+          accepted = λ a e h. (d.accepted a e h, m' ∙ named_alike (solve_in j shift).rule (solve_in (renumbered_job p q j) shift).rule j.rows named named' answer' a (d.answered ∙ e) (job.measures (fitted fits shift mode limit place j.rows before answer after a x e) []).rules ∙ ap (λ (z : PositionPcg). named_by z (solve_in j shift).rule j.rows named) d.answered ∙ sym m);
           refused = λ k e. let (u, v) = d.refused k e in (u, v, m ∙ named_kept _ j.rows named answer k e, m' ∙ named_kept _ j.rows named' answer' k (d.answered ∙ e));
         }
 
     -- by the contract of a solve with memory of its own, of either kind
-    pub jobs_alike : JobSolved fits j.rules (solve_in j shift) mode limit place j.rows before after named namedAfter answer
-        → JobSolved fits j.rules (solve_in (renumbered_job p q j) shift) mode limit place j.rows before' after' named' namedAfter'
-        answer'
+    pub jobs_alike : JobSolved fits j.rules (solve_in j shift) mode limit place j.rows before after named namedAfter answer → JobSolved fits j.rules (solve_in (renumbered_job p q j) shift) mode limit place j.rows before' after' named' namedAfter' answer'
         → SolvedAlike q before after before' after' named namedAfter named' namedAfter' answer answer'
     jobs_alike x y = solved_alike x.answered y.answered x.named y.named
 
     -- and by that of a solve whose work memory is lent
-    pub solves_alike : (work workAfter work' workAfter' : WorkMemory)
-        → SolveRuled fits j.rules (solve_in j shift) mode limit place j.rows before after named namedAfter answer work workAfter
-        → SolveRuled fits j.rules (solve_in (renumbered_job p q j) shift) mode limit place j.rows before' after' named' namedAfter'
-        answer' work' workAfter' → SolvedAlike q before after before' after' named namedAfter named' namedAfter' answer answer'
+    pub solves_alike : (work workAfter work' workAfter' : WorkMemory) → SolveRuled fits j.rules (solve_in j shift) mode limit place j.rows before after named namedAfter answer work workAfter
+        → SolveRuled fits j.rules (solve_in (renumbered_job p q j) shift) mode limit place j.rows before' after' named' namedAfter' answer' work' workAfter' → SolvedAlike q before after before' after' named namedAfter named' namedAfter' answer answer'
     solves_alike work workAfter work' workAfter' x y = solved_alike x.held.answered y.held.answered x.named y.named

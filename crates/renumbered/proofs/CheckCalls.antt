@@ -22,9 +22,7 @@ use Rattle.renumbered.specs.Calls.{VerdictsAlike, MarginsAlike}
 use Rattle.renumbered.proofs.Lists.{check_three, renumbers_job}
 
 -- ---- the rule of each row, where there is a verdict
-named_alike : (c d : Closing) (named named' : List ℕ) (answer : CheckAnswer) → ((n : ℕ) → answer ≡ Refused n → ⊥)
-    → d.table.rows ≡ c.table.rows → ((i : ℕ) → i < c.table.rows → d.rule i ≡ c.rule i)
-    → named_by answer d named' ≡ named_by answer c named
+named_alike : (c d : Closing) (named named' : List ℕ) (answer : CheckAnswer) → ((n : ℕ) → answer ≡ Refused n → ⊥) → d.table.rows ≡ c.table.rows → ((i : ℕ) → i < c.table.rows → d.rule i ≡ c.rule i) → named_by answer d named' ≡ named_by answer c named
 named_alike c d named named' (Closed g) v e h = rw e (tabulate_same d.rule c.rule c.table.rows h)
 named_alike c d named named' (Open g) v e h = rw e (tabulate_same d.rule c.rule c.table.rows h)
 named_alike c d named named' (Refused n) v e h = absurd (v n refl)
@@ -48,8 +46,7 @@ module _ (p q : ℕ → ℕ) (j : LentJob) (r : Renumbering j.bodies p q) (insid
   new = check_in (renumbered_job p q j) listed
 
   module _ (named namedAfter named' namedAfter' : List ℕ) (answer answer' : CheckAnswer) where
-    verdicts_alike : answer ≡ check_of fits old → answer' ≡ check_of fits new → namedAfter ≡ named_by answer old named
-        → namedAfter' ≡ named_by answer' new named' → VerdictsAlike named namedAfter named' namedAfter' answer answer'
+    verdicts_alike : answer ≡ check_of fits old → answer' ≡ check_of fits new → namedAfter ≡ named_by answer old named → namedAfter' ≡ named_by answer' new named' → VerdictsAlike named namedAfter named' namedAfter' answer answer'
     verdicts_alike x y m m' =
         let job = renumbers_job p q j r inside fits long in
         let same : answer' ≡ answer = y ∙ job.checks listed ∙ sym x in
@@ -60,22 +57,16 @@ module _ (p q : ℕ → ℕ) (j : LentJob) (r : Renumbering j.bodies p q) (insid
         }
 
     -- by the contract of a check whose work memory is lent, of either kind
-    pub checks_alike : (before after before' after' : CheckMemory) → Checked fits j.rules old answer named namedAfter before after
-        → Checked fits j.rules new answer' named' namedAfter' before' after'
-        → VerdictsAlike named namedAfter named' namedAfter' answer answer'
+    pub checks_alike : (before after before' after' : CheckMemory) → Checked fits j.rules old answer named namedAfter before after → Checked fits j.rules new answer' named' namedAfter' before' after' → VerdictsAlike named namedAfter named' namedAfter' answer answer'
     checks_alike before after before' after' x y = verdicts_alike x.answered y.answered x.named y.named
 
     -- and by that of a check with memory of its own
-    pub alone_alike : AloneHeld fits j.rules old answer named namedAfter → AloneHeld fits j.rules new answer' named' namedAfter'
-        → VerdictsAlike named namedAfter named' namedAfter' answer answer'
+    pub alone_alike : AloneHeld fits j.rules old answer named namedAfter → AloneHeld fits j.rules new answer' named' namedAfter' → VerdictsAlike named namedAfter named' namedAfter' answer answer'
     alone_alike x y = verdicts_alike x.answered y.answered x.named y.named
 
   -- ---- the margins of a closed check
   module _ (answer answer' : CheckAnswer) (rows rowsAfter rows' rowsAfter' : List ℕ) (margins marginsAfter margins' marginsAfter' : List Float) where
-    told_alike : answer ≡ check_of fits old → answer' ≡ check_of fits new → CheckMeaning fits old answer
-        → MarginsTold fits old answer rows margins rowsAfter marginsAfter
-        → MarginsTold fits new answer' rows' margins' rowsAfter' marginsAfter'
-        → MarginsAlike answer rowsAfter rowsAfter' marginsAfter marginsAfter'
+    told_alike : answer ≡ check_of fits old → answer' ≡ check_of fits new → CheckMeaning fits old answer → MarginsTold fits old answer rows margins rowsAfter marginsAfter → MarginsTold fits new answer' rows' margins' rowsAfter' marginsAfter' → MarginsAlike answer rowsAfter rowsAfter' marginsAfter marginsAfter'
     told_alike x y means t t' = record { listed = listing }
       where
         listing : (g : Maxima) → answer ≡ Closed g → (rowsAfter' ≡ rowsAfter) × (marginsAfter' ≡ marginsAfter)
@@ -88,19 +79,10 @@ module _ (p q : ℕ → ℕ) (j : LentJob) (r : Renumbering j.bodies p q) (insid
             (a' ∙ c ∙ sym a, b' ∙ d ∙ sym b)
 
     module _ (named namedAfter named' namedAfter' : List ℕ) where
-      pub margins_alike : (before after before' after' : CheckMemory)
-          → MarginsHeld fits j.rules old answer named namedAfter before after rows margins rowsAfter marginsAfter
-          → MarginsHeld fits j.rules new answer' named' namedAfter' before' after' rows' margins' rowsAfter' marginsAfter'
+      pub margins_alike : (before after before' after' : CheckMemory) → MarginsHeld fits j.rules old answer named namedAfter before after rows margins rowsAfter marginsAfter → MarginsHeld fits j.rules new answer' named' namedAfter' before' after' rows' margins' rowsAfter' marginsAfter'
           → VerdictsAlike named namedAfter named' namedAfter' answer answer' × MarginsAlike answer rowsAfter rowsAfter' marginsAfter marginsAfter'
-      margins_alike before after before' after' x y = (
-        checks_alike named namedAfter named' namedAfter' answer answer' before after before' after' x.checked y.checked,
-        told_alike x.checked.answered y.checked.answered x.checked.means x.told y.told,
-      )
+      margins_alike before after before' after' x y = (checks_alike named namedAfter named' namedAfter' answer answer' before after before' after' x.checked y.checked, told_alike x.checked.answered y.checked.answered x.checked.means x.told y.told)
 
-      pub margins_alone_alike : MarginsAlone fits j.rules old answer named namedAfter rows margins rowsAfter marginsAfter
-          → MarginsAlone fits j.rules new answer' named' namedAfter' rows' margins' rowsAfter' marginsAfter'
+      pub margins_alone_alike : MarginsAlone fits j.rules old answer named namedAfter rows margins rowsAfter marginsAfter → MarginsAlone fits j.rules new answer' named' namedAfter' rows' margins' rowsAfter' marginsAfter'
           → VerdictsAlike named namedAfter named' namedAfter' answer answer' × MarginsAlike answer rowsAfter rowsAfter' marginsAfter marginsAfter'
-      margins_alone_alike x y = (
-        alone_alike named namedAfter named' namedAfter' answer answer' x.checked y.checked,
-        told_alike x.checked.answered y.checked.answered x.checked.means x.told y.told,
-      )
+      margins_alone_alike x y = (alone_alike named namedAfter named' namedAfter' answer answer' x.checked y.checked, told_alike x.checked.answered y.checked.answered x.checked.means x.told y.told)

@@ -35,26 +35,11 @@ module _ (p q : ℕ → ℕ) (s : System) (r : Renumbering s.bodies p q) (w : In
   exact_value : (x : ℕ → Float) (i : ℕ) → i < s.rows → value_z (renumbered_system p q s) x i ≡ value_z s x i
   unfolding value_z row_value_z renumbered_jacobian
   exact_value x i k =
-      rw (
-        mass_back p q s r w (s.jacobian i).body_a (w.a_below i k),
-        mass_back p q s r w (s.jacobian i).body_b (w.b_below i k),
-        exact_impulse x (s.jacobian i).body_a s.rows (w.a_below i k) (omega arith),
-        exact_impulse x (s.jacobian i).body_b s.rows (w.b_below i k) (omega arith),
-      )
+      rw (mass_back p q s r w (s.jacobian i).body_a (w.a_below i k), mass_back p q s r w (s.jacobian i).body_b (w.b_below i k), exact_impulse x (s.jacobian i).body_a s.rows (w.a_below i k) (omega arith), exact_impulse x (s.jacobian i).body_b s.rows (w.b_below i k) (omega arith))
 
 -- what a check is given, with its bodies under new numbers
 abbrev pub renumbered_closing : (ℕ → ℕ) → (ℕ → ℕ) → Closing → Closing
-renumbered_closing p q c =
-    record {
-      table = renumber p q c.table;
-      error = c.error;
-      listed = c.listed;
-      tolerance = c.tolerance;
-      rule = c.rule;
-      tolerance_tests = c.tolerance_tests;
-      lent = c.lent;
-      placed = c.placed;
-    }
+renumbered_closing p q c = record { table = renumber p q c.table; error = c.error; listed = c.listed; tolerance = c.tolerance; rule = c.rule; tolerance_tests = c.tolerance_tests; lent = c.lent; placed = c.placed }
 
 module _ (p q : ℕ → ℕ) (c : Closing) (r : Renumbering c.table.bodies p q) (inside : InRange c.table) where
   inner : Inside (system_of c.table)

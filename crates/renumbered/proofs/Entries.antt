@@ -36,8 +36,7 @@ use Rattle.renumbered.proofs.Calls.{jobs_alike}
 use Rattle.renumbered.proofs.CheckCalls.{alone_alike, margins_alone_alike}
 
 -- ---- 3 of a solve
-beside_long : (kind : Kind) (rows bodies centres newCentres residual : ℕ) → beside_lent kind rows bodies centres newCentres residual ≡ true
-    → kind ≡ kinds.Position → centres ≡ 3 * bodies
+beside_long : (kind : Kind) (rows bodies centres newCentres residual : ℕ) → beside_lent kind rows bodies centres newCentres residual ≡ true → kind ≡ kinds.Position → centres ≡ 3 * bodies
 unfolding centres_lent
 beside_long kinds.Position rows bodies centres newCentres residual h e =
     let (_, c) = both true (eqb centres (3 * bodies) && eqb newCentres (3 * bodies)) h in
@@ -45,9 +44,7 @@ beside_long kinds.Position rows bodies centres newCentres residual h e =
 beside_long kinds.Velocity rows bodies centres newCentres residual h e = absurd (let z : ◌≡◌ {A = ℕ} 0 1 = cc in omega arith)
 
 module _ (j : LentJob) (mode solution impulses newCentres named : ℕ) where
-  solve_parts : solve_fits j mode solution impulses newCentres named ≡ true
-      → (beside_lent j.kind j.rows j.bodies (length j.centres) newCentres (length j.residual) ≡ true)
-      × (table_fits j.rows j.bodies (length j.numbers) (length j.words) (length j.masses) solution impulses ≡ true)
+  solve_parts : solve_fits j mode solution impulses newCentres named ≡ true → (beside_lent j.kind j.rows j.bodies (length j.centres) newCentres (length j.residual) ≡ true) × (table_fits j.rows j.bodies (length j.numbers) (length j.words) (length j.masses) solution impulses ≡ true)
   unfolding job_fits
   solve_parts h =
       let rules = rules_lent j.rows (length j.rules.words) (length j.rules.tolerances) named in
@@ -69,8 +66,7 @@ module _ (j : LentJob) (mode solution impulses newCentres named : ℕ) where
 
 -- ---- 3 of a check
 module _ (j : LentJob) (listed : List Float) (named : List ℕ) where
-  beside_of_lem : (kind : Kind) (beside : ℕ) → beside ≡ beside_of kind j.rows j.bodies
-      → beside ≡ length (by_kind kind j.centres j.residual) → kind ≡ kinds.Position → length j.centres ≡ 3 * j.bodies
+  beside_of_lem : (kind : Kind) (beside : ℕ) → beside ≡ beside_of kind j.rows j.bodies → beside ≡ length (by_kind kind j.centres j.residual) → kind ≡ kinds.Position → length j.centres ≡ 3 * j.bodies
   beside_of_lem kinds.Position beside h f e = sym f ∙ h
   beside_of_lem kinds.Velocity beside h f e = absurd (let z : ◌≡◌ {A = ℕ} 0 1 = cc in omega arith)
 
@@ -102,50 +98,35 @@ both_long b fits j l = record {
 -- ---- the calls. ' is that of the renumbered job; what takes the answer is as long in both
 module _ (p q : ℕ → ℕ) (j : LentJob) (r : Renumbering j.bodies p q) (inside : InRange (table_in j)) where
   -- `solve_position`, `solve_small_position`, `solve_velocity`, in every mode
-  pub solve_entries : (mode solution impulses newCentres names : ℕ) (shift : Float) (way : Mode) (limit place : ℕ)
-      (before after before' after' : Lent) (named namedAfter named' namedAfter' : List ℕ) (answer answer' : PositionPcg)
+  pub solve_entries : (mode solution impulses newCentres names : ℕ) (shift : Float) (way : Mode) (limit place : ℕ) (before after before' after' : Lent) (named namedAfter named' namedAfter' : List ℕ) (answer answer' : PositionPcg)
       → JobSolved (solve_fits j mode solution impulses newCentres names) j.rules (solve_in j shift) way limit place j.rows before after named namedAfter answer
-      → JobSolved (solve_fits (renumbered_job p q j) mode solution impulses newCentres names) j.rules (solve_in (renumbered_job p q j) shift)
-      way limit place j.rows before' after' named' namedAfter' answer'
+      → JobSolved (solve_fits (renumbered_job p q j) mode solution impulses newCentres names) j.rules (solve_in (renumbered_job p q j) shift) way limit place j.rows before' after' named' namedAfter' answer'
       → SolvedAlike q before after before' after' named namedAfter named' namedAfter' answer answer'
   solve_entries mode solution impulses newCentres names shift way limit place before after before' after' named namedAfter named' namedAfter' answer answer' x y =
-      jobs_alike p q j r inside (solve_fits j mode solution impulses newCentres names) (solve_long j mode solution impulses newCentres names)
-      shift way limit place before after before' after' named namedAfter named' namedAfter' answer answer' x
-      (subst
-      (λ (fits : Bool).
-      JobSolved fits j.rules (solve_in (renumbered_job p q j) shift) way limit place j.rows before' after' named' namedAfter'
-      answer')
-      (solve_fits_kept j mode solution impulses newCentres names p q) y)
+      jobs_alike p q j r inside (solve_fits j mode solution impulses newCentres names) (solve_long j mode solution impulses newCentres names) shift way limit place before after before' after' named namedAfter named' namedAfter' answer answer' x
+      (subst (λ (fits : Bool). JobSolved fits j.rules (solve_in (renumbered_job p q j) shift) way limit place j.rows before' after' named' namedAfter' answer') (solve_fits_kept j mode solution impulses newCentres names p q) y)
 
   module _ (listed : List Float) (named named' : List ℕ) (long : length named' ≡ length named) (namedAfter namedAfter' : List ℕ) (answer answer' : CheckAnswer) where
     fits_kept : check_fits (renumbered_job p q j) listed named' ≡ check_fits j listed named
     fits_kept = rw long (check_fits_kept j listed named p q)
 
     -- the checks of check_alone, of either kind
-    pub check_entries : AloneHeld (check_fits j listed named) j.rules (check_in j listed) answer named namedAfter
-        → AloneHeld (check_fits (renumbered_job p q j) listed named') j.rules (check_in (renumbered_job p q j) listed) answer' named'
-        namedAfter'
-        → VerdictsAlike named namedAfter named' namedAfter' answer answer'
+    pub check_entries : AloneHeld (check_fits j listed named) j.rules (check_in j listed) answer named namedAfter → AloneHeld (check_fits (renumbered_job p q j) listed named') j.rules (check_in (renumbered_job p q j) listed) answer' named' namedAfter' → VerdictsAlike named namedAfter named' namedAfter' answer answer'
     check_entries x y =
         alone_alike p q j r inside (check_fits j listed named) (check_long j listed named) listed named namedAfter named' namedAfter' answer answer' x
         (subst (λ (fits : Bool). AloneHeld fits j.rules (check_in (renumbered_job p q j) listed) answer' named' namedAfter') fits_kept y)
 
     -- and the one that lists its margins
-    pub margins_entries : (rows rowsAfter rows' rowsAfter' : List ℕ) (margins marginsAfter margins' marginsAfter' : List Float)
-        → length rows' ≡ length rows → length margins' ≡ length margins
+    pub margins_entries : (rows rowsAfter rows' rowsAfter' : List ℕ) (margins marginsAfter margins' marginsAfter' : List Float) → length rows' ≡ length rows → length margins' ≡ length margins
         → MarginsAlone (margins_lent j.rows (length rows) (length margins) && check_fits j listed named) j.rules (check_in j listed) answer named namedAfter rows margins rowsAfter marginsAfter
-        → MarginsAlone (margins_lent j.rows (length rows') (length margins') && check_fits (renumbered_job p q j) listed named') j.rules
-        (check_in (renumbered_job p q j) listed) answer' named' namedAfter' rows' margins' rowsAfter' marginsAfter'
+        → MarginsAlone (margins_lent j.rows (length rows') (length margins') && check_fits (renumbered_job p q j) listed named') j.rules (check_in (renumbered_job p q j) listed) answer' named' namedAfter' rows' margins' rowsAfter' marginsAfter'
         → VerdictsAlike named namedAfter named' namedAfter' answer answer' × MarginsAlike answer rowsAfter rowsAfter' marginsAfter marginsAfter'
     margins_entries rows rowsAfter rows' rowsAfter' margins marginsAfter margins' marginsAfter' e f x y =
-        margins_alone_alike p q j r inside (lent && check_fits j listed named)
-        (both_long lent (check_fits j listed named) j (check_long j listed named)) listed answer answer' rows rowsAfter rows' rowsAfter'
-        margins marginsAfter margins' marginsAfter' named namedAfter named' namedAfter' x
+        margins_alone_alike p q j r inside (lent && check_fits j listed named) (both_long lent (check_fits j listed named) j (check_long j listed named)) listed answer answer' rows rowsAfter rows' rowsAfter' margins marginsAfter margins' marginsAfter' named namedAfter named' namedAfter' x
         (subst (λ (fits : Bool). MarginsAlone fits j.rules (check_in (renumbered_job p q j) listed) answer' named' namedAfter' rows' margins' rowsAfter' marginsAfter') kept y)
       where
         lent : Bool
         lent = margins_lent j.rows (length rows) (length margins)
 
-        kept : (margins_lent j.rows (length rows') (length margins') && check_fits (renumbered_job p q j) listed named') ≡
-            (margins_lent j.rows (length rows) (length margins) && check_fits j listed named)
+        kept : (margins_lent j.rows (length rows') (length margins') && check_fits (renumbered_job p q j) listed named') ≡ (margins_lent j.rows (length rows) (length margins) && check_fits j listed named)
         kept = rw (e, f, fits_kept)

@@ -35,26 +35,17 @@ module _ (p q : ℕ → ℕ) (s : System) (r : Renumbering s.bodies p q) (w : In
   unfolding arm_of renumbered_jacobian
   arm_moved i b k l = rw (same_a p q s r w i b k l, same_b p q s r w i b k l)
 
-  pair_same : (i j : ℕ) → i < s.rows → j < s.rows
-      → pair_of (λ b. s.mass (q b)) (renumbered_jacobian p (s.jacobian j)) (renumbered_jacobian p (s.jacobian i))
-      ≡ pair_of s.mass (s.jacobian j) (s.jacobian i)
+  pair_same : (i j : ℕ) → i < s.rows → j < s.rows → pair_of (λ b. s.mass (q b)) (renumbered_jacobian p (s.jacobian j)) (renumbered_jacobian p (s.jacobian i)) ≡ pair_of s.mass (s.jacobian j) (s.jacobian i)
   unfolding pair_of renumbered_jacobian
   pair_same i j k l =
-      rw (
-        arm_moved i (s.jacobian j).body_a k (w.a_below j l),
-        arm_moved i (s.jacobian j).body_b k (w.b_below j l),
-        mass_back p q s r w (s.jacobian j).body_a (w.a_below j l),
-        mass_back p q s r w (s.jacobian j).body_b (w.b_below j l),
-      )
+      rw (arm_moved i (s.jacobian j).body_a k (w.a_below j l), arm_moved i (s.jacobian j).body_b k (w.b_below j l), mass_back p q s r w (s.jacobian j).body_a (w.a_below j l), mass_back p q s r w (s.jacobian j).body_b (w.b_below j l))
 
   pairs_same : pairs_of (renumbered_system p q s) ≡ pairs_of s
   unfolding pairs_of
   pairs_same = fun_ext (λ i. fun_ext (λ j. go i j (ltb i s.rows) refl (ltb j i) refl))
     where
       go : (i j : ℕ) (a : Bool) → ltb i s.rows ≡ a → (b : Bool) → ltb j i ≡ b
-          → cond (ltb i s.rows && ltb j i)
-          (pair_of (λ b. s.mass (q b)) (renumbered_jacobian p (s.jacobian j)) (renumbered_jacobian p (s.jacobian i))) none ≡ cond
-          (ltb i s.rows && ltb j i) (pair_of s.mass (s.jacobian j) (s.jacobian i)) none
+          → cond (ltb i s.rows && ltb j i) (pair_of (λ b. s.mass (q b)) (renumbered_jacobian p (s.jacobian j)) (renumbered_jacobian p (s.jacobian i))) none ≡ cond (ltb i s.rows && ltb j i) (pair_of s.mass (s.jacobian j) (s.jacobian i)) none
       go i j true e true f = rw (e, f) (pair_same i j (ltb-true i s.rows e) (omega (arith, ltb-true i s.rows e, ltb-true j i f)))
       go i j true e false f = rw (e, f)
       go i j false e b f = rw e
@@ -64,16 +55,10 @@ module _ (p q : ℕ → ℕ) (s : System) (r : Renumbering s.bodies p q) (w : In
   cholesky_same diagonal = rw (pair_count_same (pattern_of (renumbered_system p q s)) (pattern_of s) s.rows (λ i j k l. pattern_same i j k (omega arith)), pairs_same)
 
   -- ---- mode 2
-  column_same : (start row column : ℕ) (l : List Float) → start + row < s.rows → start + column < s.rows
-      → block_column_turn (renumbered_system p q s) start row column l ≡ block_column_turn s start row column l
+  column_same : (start row column : ℕ) (l : List Float) → start + row < s.rows → start + column < s.rows → block_column_turn (renumbered_system p q s) start row column l ≡ block_column_turn s start row column l
   unfolding block_column_turn cell_run one_pair block_value renumbered_jacobian
   column_same start row column l k o =
-      rw (
-        same_aa p q s r w (start + row) (start + column) k o,
-        same_bb p q s r w (start + row) (start + column) k o,
-        mass_back p q s r w (s.jacobian (start + row)).body_a (w.a_below (start + row) k),
-        mass_back p q s r w (s.jacobian (start + row)).body_b (w.b_below (start + row) k),
-      )
+      rw (same_aa p q s r w (start + row) (start + column) k o, same_bb p q s r w (start + row) (start + column) k o, mass_back p q s r w (s.jacobian (start + row)).body_a (w.a_below (start + row) k), mass_back p q s r w (s.jacobian (start + row)).body_b (w.b_below (start + row) k))
 
   row_same : (start row : ℕ) (l : List Float) → start + row < s.rows → block_row_turn (renumbered_system p q s) start row l ≡ block_row_turn s start row l
   unfolding block_row_turn
@@ -95,8 +80,7 @@ module _ (p q : ℕ → ℕ) (s : System) (r : Renumbering s.bodies p q) (w : In
     factor_same (modes.IncompleteCholesky shift) diagonal = rw (cholesky_same (shifted shift diagonal))
     factor_same modes.BlockJacobi diagonal = judged_same _ _ s.rows (λ i k. rw (block_at_same i))
 
-    pub z_same : (mode : Mode) (diagonal residual : List Float)
-        → preconditioned mode (renumbered_system p q s) owner diagonal residual ≡ preconditioned mode s owner diagonal residual
+    pub z_same : (mode : Mode) (diagonal residual : List Float) → preconditioned mode (renumbered_system p q s) owner diagonal residual ≡ preconditioned mode s owner diagonal residual
     unfolding preconditioned
     z_same modes.Diagonal diagonal residual = refl
     z_same (modes.IncompleteCholesky shift) diagonal residual = rw (cholesky_same (shifted shift diagonal))

@@ -22,8 +22,7 @@ use Rattle.position_delivery.specs.declared.answer.PositionPcg.TheVariants as an
 use Rattle.position_delivery.specs.declared.answer.PositionPcgResult.{PositionPcgResult}
 
 -- what is delivered of any step
-finish_long : (t : Table) (accumulated : ℕ → Float) (c : Centres) (k : ℕ) (v : Iterate) (f : Delivered)
-    → finish_of t accumulated c k v ≡ going f → (length f.impulses ≡ 6 * t.bodies) × (length f.centres ≡ 3 * c.bodies)
+finish_long : (t : Table) (accumulated : ℕ → Float) (c : Centres) (k : ℕ) (v : Iterate) (f : Delivered) → finish_of t accumulated c k v ≡ going f → (length f.impulses ≡ 6 * t.bodies) × (length f.centres ≡ 3 * c.bodies)
 unfolding finish_of impulses_of
 finish_long t accumulated c zero v f e =
     let d = sym (going_inj e) in
@@ -36,9 +35,7 @@ finish_long t accumulated c (suc k) v f e =
     (ap (λ (x : Delivered). length x.impulses) d ∙ flat_length _ t.bodies, ap (λ (x : Delivered). length x.centres) d ∙ flat_centres_long _)
 
 -- by what an accepted answer means
-pub accepted_long : (fits : Bool) (s : Problem) (mode : Mode) (limit place n : ℕ) (before after : Lent) (answer : PositionPcg)
-    (r : PositionPcgResult)
-    → MeaningAt (method_of fits s mode) limit place n before answer after → answer ≡ answers.Accepted r
+pub accepted_long : (fits : Bool) (s : Problem) (mode : Mode) (limit place n : ℕ) (before after : Lent) (answer : PositionPcg) (r : PositionPcgResult) → MeaningAt (method_of fits s mode) limit place n before answer after → answer ≡ answers.Accepted r
     → (length after.impulses ≡ 6 * s.table.bodies) × (length after.centres ≡ 3 * s.centres.bodies)
 accepted_long fits s mode limit place n before after answer r m e =
     let a = subst (λ (x : PositionPcg). MeaningAt (method_of fits s mode) limit place n before x after) e m in

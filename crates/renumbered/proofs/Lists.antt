@@ -70,13 +70,9 @@ module _ (p q : ℕ → ℕ) (j : LentJob) (r : Renumbering j.bodies p q) (insid
   inside_new i h = (r.new_below ((table_in j).row i).words.body_a (inside.a_below i h), r.new_below ((table_in j).row i).words.body_b (inside.b_below i h))
 
   -- the centres are finite where they were
-  pub placed_same : (kind : Kind) → (kind ≡ kinds.Position → length j.centres ≡ 3 * j.bodies)
-      → by_kind kind (centres_finite (centres_in j.bodies (moved_centres q j.centres))) true
-      ≡ by_kind kind (centres_finite (centres_in j.bodies j.centres)) true
+  pub placed_same : (kind : Kind) → (kind ≡ kinds.Position → length j.centres ≡ 3 * j.bodies) → by_kind kind (centres_finite (centres_in j.bodies (moved_centres q j.centres))) true ≡ by_kind kind (centres_finite (centres_in j.bodies j.centres)) true
   unfolding centres_finite
-  placed_same kinds.Position long = every_same _ _ j.bodies
-      (λ b h. ap is_finite_of (centre_along q j.bodies j.centres (long refl) b h)) ∙ every_old j.bodies p q r
-      (λ b. is_finite_of (vec_of j.centres (3 * b)))
+  placed_same kinds.Position long = every_same _ _ j.bodies (λ b h. ap is_finite_of (centre_along q j.bodies j.centres (long refl) b h)) ∙ every_old j.bodies p q r (λ b. is_finite_of (vec_of j.centres (3 * b)))
   placed_same kinds.Velocity long = refl
 
   module _ (words_long : length j.words ≡ 8 * j.rows) (masses_long : length j.masses ≡ 10 * j.bodies) where
@@ -114,15 +110,10 @@ module _ (p q : ℕ → ℕ) (j : LentJob) (r : Renumbering j.bodies p q) (insid
         solve (method_of true (solve_for kind k.rows k.bodies k.numbers k.words k.masses k.centres k.residual k.rules shift) mode) limit
         ≡ delivering (moved q) (solve (method_of true (solve_for kind j.rows j.bodies j.numbers j.words j.masses j.centres j.residual j.rules shift) mode) limit)
     solve_fitted kinds.Position long shift mode limit =
-        (looks_below new held agree).solves (ruled_by j.rules new) (ruled_by j.rules held)
-        (ruled_tests new held alike j.rules same_rule) (ruled_alike new held alike j.rules same_rule)
-        (λ b. vec_of j.centres (3 * q b)) (λ b. vec_of (moved_centres q j.centres) (3 * b))
-        (centre_along q j.bodies j.centres (long refl)) true shift mode limit
+        (looks_below new held agree).solves (ruled_by j.rules new) (ruled_by j.rules held) (ruled_tests new held alike j.rules same_rule) (ruled_alike new held alike j.rules same_rule) (λ b. vec_of j.centres (3 * q b)) (λ b. vec_of (moved_centres q j.centres) (3 * b)) (centre_along q j.bodies j.centres (long refl)) true shift mode limit
         ∙ (renumbers p q (table_in j) r inside).positions j.rules shift (λ b. vec_of j.centres (3 * b)) true mode limit
     solve_fitted kinds.Velocity long shift mode limit =
-        (looks_below new held agree).moving (ruled_by j.rules new) (ruled_by j.rules held)
-        (ruled_tests new held alike j.rules same_rule) (ruled_alike new held alike j.rules same_rule) (coefficients j.residual)
-        (coefficients j.residual) (λ i h. refl) true shift mode limit
+        (looks_below new held agree).moving (ruled_by j.rules new) (ruled_by j.rules held) (ruled_tests new held alike j.rules same_rule) (ruled_alike new held alike j.rules same_rule) (coefficients j.residual) (coefficients j.residual) (λ i h. refl) true shift mode limit
         ∙ (renumbers p q (table_in j) r inside).velocities j.rules shift (coefficients j.residual) true mode limit
 
     -- ---- checks of either kind
@@ -132,10 +123,8 @@ module _ (p q : ℕ → ℕ) (j : LentJob) (r : Renumbering j.bodies p q) (insid
       closing kind t b = closing_for kind t (coefficients listed) j.rules (coefficients j.residual) (by_kind kind b true)
 
       closing_agree : (kind : Kind) (b : Bool) → ClosingsAgree (closing kind new b) (closing kind held b)
-      closing_agree kinds.Position b = closings_agree new held alike j.rules same_rule (coefficients listed) (coefficients listed)
-          (λ i h. refl) (λ i h. ap (λ (x : ConstraintRow). x.scalars.error) (agree.row i h)) b
-      closing_agree kinds.Velocity b = speeds_agree new held alike j.rules same_rule (coefficients listed) (coefficients listed)
-          (λ i h. refl) (coefficients j.residual) (coefficients j.residual) (λ i h. refl)
+      closing_agree kinds.Position b = closings_agree new held alike j.rules same_rule (coefficients listed) (coefficients listed) (λ i h. refl) (λ i h. ap (λ (x : ConstraintRow). x.scalars.error) (agree.row i h)) b
+      closing_agree kinds.Velocity b = speeds_agree new held alike j.rules same_rule (coefficients listed) (coefficients listed) (λ i h. refl) (coefficients j.residual) (coefficients j.residual) (λ i h. refl)
 
       dimension_kept : (i : ℕ) → i < j.rows → dimension_word held i ≡ dimension_word (table_in j) i
       unfolding renumbered_row bodies_by
@@ -145,8 +134,7 @@ module _ (p q : ℕ → ℕ) (j : LentJob) (r : Renumbering j.bodies p q) (insid
       unfolding renumbered_row bodies_by
       check_fitted kind b =
           let old = (renumbers p q (table_in j) r inside).closings kind j.rules (coefficients listed) (coefficients j.residual) (by_kind kind b true) in
-          let reaches : (i : ℕ) → i < j.rows → reach (closing kind held b) i ≡ reach (closing kind (table_in j) b) i = λ i h. reach_below
-          (closing kind new b) (closing kind held b) (closing_agree kind b) inside_new i h ∙ old.reaches i h in
+          let reaches : (i : ℕ) → i < j.rows → reach (closing kind held b) i ≡ reach (closing kind (table_in j) b) i = λ i h. reach_below (closing kind new b) (closing kind held b) (closing_agree kind b) inside_new i h ∙ old.reaches i h in
           record {
             checks = λ fits. check_below (closing kind new b) (closing kind held b) (closing_agree kind b) fits ∙ old.checks fits;
             rules = λ i h. same_rule i h;
@@ -164,9 +152,7 @@ module _ (p q : ℕ → ℕ) (j : LentJob) (r : Renumbering j.bodies p q) (insid
   checks true long listed = (measures true long refl listed).checks true
   checks false long listed = check_three (check_in (renumbered_job p q j) listed) ∙ sym (check_three (check_in j listed))
 
-  solves : (fits : Bool) → Long fits j → (shift : Float) (mode : Mode) (limit : ℕ)
-      → solve (method_of fits (solve_in (renumbered_job p q j) shift) mode) limit
-      ≡ delivering (moved q) (solve (method_of fits (solve_in j shift) mode) limit)
+  solves : (fits : Bool) → Long fits j → (shift : Float) (mode : Mode) (limit : ℕ) → solve (method_of fits (solve_in (renumbered_job p q j) shift) mode) limit ≡ delivering (moved q) (solve (method_of fits (solve_in j shift) mode) limit)
   unfolding on
   solves true long shift mode limit = solve_fitted (long.words_long refl) (long.masses_long refl) j.kind (long.centres_long refl) shift mode limit
   solves false long shift mode limit = solve_three (solve_in (renumbered_job p q j) shift) mode limit ∙ ap (delivering (moved q)) (sym (solve_three (solve_in j shift) mode limit))

@@ -12,9 +12,7 @@ use Rattle.margins_list.proofs.Told.{margins_same}
 use Rattle.margins_list.proofs.Ranked.{margins_are}
 use Rattle.margins_list.proofs.Ranks.{margins_hold}
 
-module _ (c d : Closing) (n : d.table.rows ≡ c.table.rows)
-    (dimensions : (i : ℕ) → i < c.table.rows → dimension_word d.table i ≡ dimension_word c.table i)
-    (reaches : (i : ℕ) → i < c.table.rows → reach d i ≡ reach c i) where
+module _ (c d : Closing) (n : d.table.rows ≡ c.table.rows) (dimensions : (i : ℕ) → i < c.table.rows → dimension_word d.table i ≡ dimension_word c.table i) (reaches : (i : ℕ) → i < c.table.rows → reach d i ≡ reach c i) where
   -- one list is that of both
   margins_moved : {rows : List ℕ} {numbers : List Float} → MarginsOf d rows numbers → MarginsOf c rows numbers
   margins_moved {rows} {numbers} m = margins_same dimensions reaches (subst (λ k. Margins (dimension_word d.table) (reach d) k rows numbers) n m)

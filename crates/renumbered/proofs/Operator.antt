@@ -16,15 +16,7 @@ use Rattle.renumbered.proofs.Permuted.{one_to_one}
 
 -- what the operator and the factors read of a row, with the new numbers
 unfoldable pub renumbered_jacobian : (ℕ → ℕ) → RowJacobian → RowJacobian
-renumbered_jacobian p j =
-    record {
-      linear_a = j.linear_a;
-      angular_a = j.angular_a;
-      linear_b = j.linear_b;
-      angular_b = j.angular_b;
-      body_a = p j.body_a;
-      body_b = p j.body_b;
-    }
+renumbered_jacobian p j = record { linear_a = j.linear_a; angular_a = j.angular_a; linear_b = j.linear_b; angular_b = j.angular_b; body_a = p j.body_a; body_b = p j.body_b }
 
 abbrev pub renumbered_system : (ℕ → ℕ) → (ℕ → ℕ) → System → System
 renumbered_system p q s = record { rows = s.rows; bodies = s.bodies; jacobian = λ i. renumbered_jacobian p (s.jacobian i); mass = λ b. s.mass (q b) }

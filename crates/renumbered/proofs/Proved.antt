@@ -35,21 +35,16 @@ module _ (p q : ℕ → ℕ) (t : Table) where
   unfolding passes28 renumbered_row bodies_by
   ruled_same s = refl
 
-  closing_renumbered : (kind : Kind) (s : Rules) (listed residual : ℕ → Float) (placed : Bool)
-      → closing_for kind (renumber p q t) listed s residual placed ≡ renumbered_closing p q (closing_for kind t listed s residual placed)
+  closing_renumbered : (kind : Kind) (s : Rules) (listed residual : ℕ → Float) (placed : Bool) → closing_for kind (renumber p q t) listed s residual placed ≡ renumbered_closing p q (closing_for kind t listed s residual placed)
   unfolding passes28 renumbered_row bodies_by
   closing_renumbered kind s listed residual placed = refl
 
-  velocity_renumbered : (s : Rules) (shift : Float) (residual : ℕ → Float)
-      → moving_problem (renumber p q t) (ruled_by s (renumber p q t)) shift residual
-      ≡ renumbered_problem p q (moving_problem t (ruled_by s t) shift residual)
+  velocity_renumbered : (s : Rules) (shift : Float) (residual : ℕ → Float) → moving_problem (renumber p q t) (ruled_by s (renumber p q t)) shift residual ≡ renumbered_problem p q (moving_problem t (ruled_by s t) shift residual)
   unfolding passes28 renumbered_row bodies_by velocity_opens_of vec_of
   velocity_renumbered s shift residual = refl
 
   -- of positions beside their centres
-  position_renumbered : (s : Rules) (shift : Float) (placed : Bool) (c : Centres)
-      → placed_problem (renumber p q t) (ruled_by s (renumber p q t)) shift placed (renumbered_centres q c)
-      ≡ renumbered_problem p q (placed_problem t (ruled_by s t) shift placed c)
+  position_renumbered : (s : Rules) (shift : Float) (placed : Bool) (c : Centres) → placed_problem (renumber p q t) (ruled_by s (renumber p q t)) shift placed (renumbered_centres q c) ≡ renumbered_problem p q (placed_problem t (ruled_by s t) shift placed c)
   unfolding passes28 renumbered_row bodies_by opens_of
   position_renumbered s shift placed c = refl
 
@@ -71,16 +66,14 @@ module _ (p q : ℕ → ℕ) (t : Table) (r : Renumbering t.bodies p q) (inside 
   centres_same centre = every_old t.bodies p q r (λ b. is_finite_of (centre b))
 
   positions : (s : Rules) (shift : Float) (centre : ℕ → Vec3) (fits : Bool) (mode : Mode) (limit : ℕ)
-      → solve (method_of fits (shifted_problem (renumber p q t) (ruled_by s (renumber p q t)) shift (λ b. centre (q b))) mode) limit ≡
-      delivering (moved q) (solve (method_of fits (shifted_problem t (ruled_by s t) shift centre) mode) limit)
+      → solve (method_of fits (shifted_problem (renumber p q t) (ruled_by s (renumber p q t)) shift (λ b. centre (q b))) mode) limit ≡ delivering (moved q) (solve (method_of fits (shifted_problem t (ruled_by s t) shift centre) mode) limit)
   positions s shift centre fits mode limit =
       ap (λ (b : Bool). solve (method_of fits (placed_problem (renumber p q t) (ruled_by s (renumber p q t)) shift b (renumbered_centres q (placed_by centre))) mode) limit) (centres_same centre)
       ∙ ap (λ (x : Problem). solve (method_of fits x mode) limit) (position_renumbered p q t s shift (centres_finite (placed_by centre)) (placed_by centre))
       ∙ solve_moved p q (shifted_problem t (ruled_by s t) shift centre) r inside (omega arith) r fits mode limit
 
   velocities : (s : Rules) (shift : Float) (residual : ℕ → Float) (fits : Bool) (mode : Mode) (limit : ℕ)
-      → solve (method_of fits (moving_problem (renumber p q t) (ruled_by s (renumber p q t)) shift residual) mode) limit ≡ delivering (moved q)
-      (solve (method_of fits (moving_problem t (ruled_by s t) shift residual) mode) limit)
+      → solve (method_of fits (moving_problem (renumber p q t) (ruled_by s (renumber p q t)) shift residual) mode) limit ≡ delivering (moved q) (solve (method_of fits (moving_problem t (ruled_by s t) shift residual) mode) limit)
   velocities s shift residual fits mode limit =
       ap (λ (x : Problem). solve (method_of fits x mode) limit) (velocity_renumbered p q t s shift residual)
       ∙ solve_moved p q (moving_problem t (ruled_by s t) shift residual) r inside (omega arith) (no_bodies p q) fits mode limit
@@ -91,8 +84,7 @@ module _ (p q : ℕ → ℕ) (t : Table) (r : Renumbering t.bodies p q) (inside 
     positions = positions;
     velocities = velocities;
     closings = λ kind s listed residual placed. rw (closing_renumbered p q t kind s listed residual placed) (checked_alike p q (closing_for kind t listed s residual placed) r inside);
-    gaps = λ kind s listed residual placed i h. let c = closing_for kind t listed s residual placed in rw
-        (closing_renumbered p q t kind s listed residual placed) (gap_same p q c r inside i h, radius_same p q c r inside i h);
+    gaps = λ kind s listed residual placed i h. let c = closing_for kind t listed s residual placed in rw (closing_renumbered p q t kind s listed residual placed) (gap_same p q c r inside i h, radius_same p q c r inside i h);
   }
 
 pub read_back : (n : ℕ) (p q : ℕ → ℕ) → Renumbering n p q → ReadBack n p q

@@ -63,8 +63,7 @@ tested f true false c d = refl
 tested f false b c d = refl
 
 -- the centres of a problem are those of bodies of its table, or none
-module _ (p q : ℕ → ℕ) (s : Problem) (r : Renumbering s.table.bodies p q) (inside : InRange s.table)
-    (few : s.centres.bodies ≤ s.table.bodies) (placed : Renumbering s.centres.bodies p q) where
+module _ (p q : ℕ → ℕ) (s : Problem) (r : Renumbering s.table.bodies p q) (inside : InRange s.table) (few : s.centres.bodies ≤ s.table.bodies) (placed : Renumbering s.centres.bodies p q) where
   opening_same : (fits : Bool) (limit : ℕ) → opening_of fits (renumbered_problem p q s) limit ≡ opening_of fits s limit
   unfolding opening_of
   opening_same fits limit = rw (fours p q s.table, sixes p q s.table r)
@@ -90,16 +89,11 @@ module _ (p q : ℕ → ℕ) (s : Problem) (r : Renumbering s.table.bodies p q) 
   inner : Inside (system_of s.table)
   inner = inside_table s.table inside
 
-  factor_here_same : (here : Bool) (mode : Mode)
-      → factor_here here mode (system_of (renumber p q s.table)) (owner_of (renumber p q s.table)) (diagonals (renumber p q s.table))
-      ≡ factor_here here mode (system_of s.table) (owner_of s.table) (diagonals s.table)
+  factor_here_same : (here : Bool) (mode : Mode) → factor_here here mode (system_of (renumber p q s.table)) (owner_of (renumber p q s.table)) (diagonals (renumber p q s.table)) ≡ factor_here here mode (system_of s.table) (owner_of s.table) (diagonals s.table)
   unfolding factor_here jacobian_of renumbered_row bodies_by renumbered_jacobian
   factor_here_same here mode = rw (diagonals_same p q s.table r inside, factor_same p q (system_of s.table) r inner (owner_of s.table) mode (diagonals s.table))
 
-  z_moved : (mode : Mode) (residual : List Float)
-      → preconditioned mode (system_of (renumber p q s.table)) (owner_of (renumber p q s.table)) (diagonals (renumber p q s.table))
-      residual
-      ≡ preconditioned mode (system_of s.table) (owner_of s.table) (diagonals s.table) residual
+  z_moved : (mode : Mode) (residual : List Float) → preconditioned mode (system_of (renumber p q s.table)) (owner_of (renumber p q s.table)) (diagonals (renumber p q s.table)) residual ≡ preconditioned mode (system_of s.table) (owner_of s.table) (diagonals s.table) residual
   unfolding jacobian_of renumbered_row bodies_by renumbered_jacobian
   z_moved mode residual = rw (diagonals_same p q s.table r inside) (z_same p q (system_of s.table) r inner (owner_of s.table) mode (diagonals s.table) residual)
 
@@ -146,20 +140,13 @@ module _ (p q : ℕ → ℕ) (s : Problem) (r : Renumbering s.table.bodies p q) 
     unfolding maxima_in renumbered_row bodies_by
     maxima_same = refl
 
-    finish_moved : (k : ℕ)
-        → finish_of (renumber p q s.table) s.accumulated (renumbered_centres q s.centres) k v
-        ≡ next (finish_of s.table s.accumulated s.centres k v) (λ d. going (moved q d))
+    finish_moved : (k : ℕ) → finish_of (renumber p q s.table) s.accumulated (renumbered_centres q s.centres) k v ≡ next (finish_of s.table s.accumulated s.centres k v) (λ d. going (moved q d))
     unfolding finish_of moved on
-    finish_moved zero = rw (
-      maxima_same,
-      ← zeros_along s.table.bodies p q r,
-      ← centres_along p q s.centres (renumbered_centres q s.centres) placed refl (λ b h. ap s.centres.at (placed.back b h)),
-    )
+    finish_moved zero = rw (maxima_same, ← zeros_along s.table.bodies p q r, ← centres_along p q s.centres (renumbered_centres q s.centres) placed refl (λ b h. ap s.centres.at (placed.back b h)))
     finish_moved (suc k) =
         let gains = gains_of s.accumulated s.table.rows v.solution in
         rw (impulses_moved, maxima_same, finite_along s.table.bodies p q r impulses impulses_long, centres_finite_lem, centres_along p q old new placed refl centre_moved)
-        (tested (moved q) (all_finite_of impulses) (all_finite_of gains) (centres_finite old)
-        (record { accumulated = gains; impulses = impulses; centres = flat_centres old; maxima = maxima_in s.table v }))
+        (tested (moved q) (all_finite_of impulses) (all_finite_of gains) (centres_finite old) (record { accumulated = gains; impulses = impulses; centres = flat_centres old; maxima = maxima_in s.table v }))
 
   alike : (fits : Bool) (mode : Mode) → Alike (method_of fits s mode) (method_of fits (renumbered_problem p q s) mode) (λ v. Unit) (moved q)
   unfolding first_of advance_of

@@ -16,13 +16,7 @@ use Rattle.renumbered.proofs.Permuted.{one_to_one, every_permuted}
 below_same : (n : ℕ) (p q : ℕ → ℕ) → Renumbering n p q → (w : RowWords) → w.body_a < n → w.body_b < n → bodies_below_of n (bodies_by p w) ≡ bodies_below_of n w
 unfolding bodies_below_of bodies_by
 below_same n p q r w a b =
-    rw (
-      one_to_one n p q r w.body_a w.body_b a b,
-      lt-ltb (p w.body_a) n (r.new_below w.body_a a),
-      lt-ltb (p w.body_b) n (r.new_below w.body_b b),
-      lt-ltb w.body_a n a,
-      lt-ltb w.body_b n b,
-    )
+    rw (one_to_one n p q r w.body_a w.body_b a b, lt-ltb (p w.body_a) n (r.new_below w.body_a a), lt-ltb (p w.body_b) n (r.new_below w.body_b b), lt-ltb w.body_a n a, lt-ltb w.body_b n b)
 
 module _ (p q : ℕ → ℕ) (t : Table) where
   pub fours : passes4 (renumber p q t) ≡ passes4 t

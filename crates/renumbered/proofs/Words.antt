@@ -29,16 +29,7 @@ module _ (p : ℕ → ℕ) (l : List ℕ) where
 
     words_renumbered : words_of (renumbered_words p l) (8 * i) ≡ bodies_by p (words_of l (8 * i))
     unfolding words_of bodies_by
-    words_renumbered = rw (
-      word_at 0 (8 * i) (omega arith) (omega arith),
-      word_at 1 (8 * i + 1) (omega arith) refl,
-      word_at 2 (8 * i + 2) (omega arith) refl,
-      word_at 3 (8 * i + 3) (omega arith) refl,
-      word_at 4 (8 * i + 4) (omega arith) refl,
-      word_at 5 (8 * i + 5) (omega arith) refl,
-      word_at 6 (8 * i + 6) (omega arith) refl,
-      word_at 7 (8 * i + 7) (omega arith) refl,
-    )
+    words_renumbered = rw (word_at 0 (8 * i) (omega arith) (omega arith), word_at 1 (8 * i + 1) (omega arith) refl, word_at 2 (8 * i + 2) (omega arith) refl, word_at 3 (8 * i + 3) (omega arith) refl, word_at 4 (8 * i + 4) (omega arith) refl, word_at 5 (8 * i + 5) (omega arith) refl, word_at 6 (8 * i + 6) (omega arith) refl, word_at 7 (8 * i + 7) (omega arith) refl)
 
     pub row_renumbered : (numbers : List Float) → row_of numbers (renumbered_words p l) i ≡ renumbered_row p (row_of numbers l i)
     unfolding row_of renumbered_row

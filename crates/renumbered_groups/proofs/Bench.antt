@@ -44,11 +44,8 @@ long_here : (fits : Bool) (j : LentJob) → Long fits j → fits ≡ true → Lo
 long_here fits j l e = subst (λ (f : Bool). Long f j) e l
 
 module _ (p q : ℕ → ℕ) (b : Bench) (r : Renumbering b.bodies p q) (before after other after' : Lending) (inside : InRange (bench_table b before.table.numbers)) where
-  module _ (long : Long true (job_of b before.table.numbers)) (count count' : ℕ) (x : BenchSolved b before after count)
-      (y : BenchSolved (renumbered_bench p q b) (same_numbers before other) after' count') where
-    renamed : Renamed p b.bodies b.rows (links_of (bench_table b before.table.numbers))
-        (links_of (bench_table (renumbered_bench p q b) before.table.numbers)) (joins_of (bench_table b before.table.numbers))
-        (joins_of (bench_table (renumbered_bench p q b) before.table.numbers))
+  module _ (long : Long true (job_of b before.table.numbers)) (count count' : ℕ) (x : BenchSolved b before after count) (y : BenchSolved (renumbered_bench p q b) (same_numbers before other) after' count') where
+    renamed : Renamed p b.bodies b.rows (links_of (bench_table b before.table.numbers)) (links_of (bench_table (renumbered_bench p q b) before.table.numbers)) (joins_of (bench_table b before.table.numbers)) (joins_of (bench_table (renumbered_bench p q b) before.table.numbers))
     renamed = bench_renamed p q b before.table.numbers r inside long
 
     counts : count' ≡ count
@@ -58,18 +55,14 @@ module _ (p q : ℕ → ℕ) (b : Bench) (r : Renumbering b.bodies p q) (before 
     groups = same_groups p q b.bodies b.rows _ _ _ _ r renamed after.groups after'.groups count count' x.grouped y.grouped
 
     -- a body in no group
-    apart_alike : (body : ℕ) → body < b.bodies
-        → Apart (links_of (bench_table b before.table.numbers)) (joins_of (bench_table b before.table.numbers)) b.rows body
-        → BodyAlike p b after after' body
+    apart_alike : (body : ℕ) → body < b.bodies → Apart (links_of (bench_table b before.table.numbers)) (joins_of (bench_table b before.table.numbers)) b.rows body → BodyAlike p b after after' body
     apart_alike body h a =
         let old = x.apart body h a in
         let new = y.apart (p body) (r.new_below body h) (apart_moved p q b.bodies b.rows _ _ _ _ r renamed body h a) in
         record {
           impulses = λ c l. new.impulses c l ∙ sym (old.impulses c l);
           centre = λ c n l. let (_, k) = placed_new p q b.kind b.bodies body r n in
-              new.centre c k l ∙ along_at 3 q b.centres (p body) c {k = 3 * p body + c} {j = 3 * body + c}
-              (centre_room b.kind b.bodies (length b.centres) (p body) c (long.centres_long refl) k l) (omega arith)
-              (omega arith) (omega (arith, r.back body h)) ∙ sym (old.centre c n l);
+              new.centre c k l ∙ along_at 3 q b.centres (p body) c {k = 3 * p body + c} {j = 3 * body + c} (centre_room b.kind b.bodies (length b.centres) (p body) c (long.centres_long refl) k l) (omega arith) (omega arith) (omega (arith, r.back body h)) ∙ sym (old.centre c n l);
         }
 
     -- a group: its rows are the same, and its bodies the same under their new numbers
@@ -80,13 +73,7 @@ module _ (p q : ℕ → ℕ) (b : Bench) (r : Renumbering b.bodies p q) (before 
     bench_alike = record {
       groups = groups;
       each = λ g h. group_alike p q b r g (rows_of after.groups g b.rows) (record { at = (in_order after.groups g b.rows).below }) before after other after' inside long _ _ (x.each g h)
-          (subst
-          (λ (rows : List ℕ).
-          GroupSolved
-          (Member (links_of (bench_table (renumbered_bench p q b) before.table.numbers))
-          (joins_of (bench_table (renumbered_bench p q b) before.table.numbers)) b.rows after'.groups g)
-          (renumbered_bench p q b) g rows (same_numbers before other) after')
-          (rows_same g) (y.each g (omega (arith, counts))))
+          (subst (λ (rows : List ℕ). GroupSolved (Member (links_of (bench_table (renumbered_bench p q b) before.table.numbers)) (joins_of (bench_table (renumbered_bench p q b) before.table.numbers)) b.rows after'.groups g) (renumbered_bench p q b) g rows (same_numbers before other) after') (rows_same g) (y.each g (omega (arith, counts))))
           (λ body l m. member_moved p q b.bodies b.rows _ _ _ _ r renamed after.groups after'.groups count count' x.grouped y.grouped g body l m);
       apart = apart_alike;
     }
@@ -97,24 +84,17 @@ module _ (p q : ℕ → ℕ) (b : Bench) (r : Renumbering b.bodies p q) (before 
     unfolding AllPass
     fitted answer count x e = ((judge_going (whole_tests fits (bench_problem b before.table.numbers))).0 (x.answered ∙ ap grouping_out e)).0
 
-    answered : (answer answer' : Grouping) → GroupsSolved fits b before after answer
-        → GroupsSolved fits (renumbered_bench p q b) (same_numbers before other) after' answer' → answer' ≡ answer
-    answered answer answer' x y = go answer answer' x y
-        (sym y.answered ∙ whole_same p q b before.table.numbers r inside fits
-        (long_here fits (job_of b before.table.numbers) long) ∙ x.answered)
+    answered : (answer answer' : Grouping) → GroupsSolved fits b before after answer → GroupsSolved fits (renumbered_bench p q b) (same_numbers before other) after' answer' → answer' ≡ answer
+    answered answer answer' x y = go answer answer' x y (sym y.answered ∙ whole_same p q b before.table.numbers r inside fits (long_here fits (job_of b before.table.numbers) long) ∙ x.answered)
       where
-        go : (a a' : Grouping) → GroupsSolved fits b before after a
-            → GroupsSolved fits (renumbered_bench p q b) (same_numbers before other) after' a' → grouping_out a' ≡ grouping_out a → a' ≡ a
+        go : (a a' : Grouping) → GroupsSolved fits b before after a → GroupsSolved fits (renumbered_bench p q b) (same_numbers before other) after' a' → grouping_out a' ≡ grouping_out a → a' ≡ a
         go (Groups c) (Groups c') x y e = ap Groups (counts (long_here fits (job_of b before.table.numbers) long (fitted (Groups c) c x refl)) c c' (x.solved c refl) (y.solved c' refl))
         go (Groups c) (Refused n') x y e = absurd (apart _ e refl)
         go (Refused n) (Groups c') x y e = absurd (apart _ (sym e) refl)
         go (Refused n) (Refused n') x y e = ap Refused (ended_inj e)
 
-    pub groups_alike : (answer answer' : Grouping) (x : GroupsSolved fits b before after answer)
-        → GroupsSolved fits (renumbered_bench p q b) (same_numbers before other) after' answer'
-        → GroupsAlike p fits b before after after' answer answer' x
+    pub groups_alike : (answer answer' : Grouping) (x : GroupsSolved fits b before after answer) → GroupsSolved fits (renumbered_bench p q b) (same_numbers before other) after' answer' → GroupsAlike p fits b before after after' answer answer' x
     groups_alike answer answer' x y = record {
       answered = answered answer answer' x y;
-      solved = λ count e. bench_alike (long_here fits (job_of b before.table.numbers) long (fitted answer count x e)) count count
-          (x.solved count e) (y.solved count (answered answer answer' x y ∙ e));
+      solved = λ count e. bench_alike (long_here fits (job_of b before.table.numbers) long (fitted answer count x e)) count count (x.solved count e) (y.solved count (answered answer answer' x y ∙ e));
     }

@@ -24,32 +24,13 @@ first_long fits lent j l = record {
   centres_long = λ h e. l.centres_long (both fits lent h).0 e;
 }
 
-module _ (p q : ℕ → ℕ) (b : Bench) (r : Renumbering b.bodies p q) (before after other after' : Lending)
-    (inside : InRange (bench_table b before.table.numbers)) (same : SameLengths before (same_numbers before other)) where
+module _ (p q : ℕ → ℕ) (b : Bench) (r : Renumbering b.bodies p q) (before after other after' : Lending) (inside : InRange (bench_table b before.table.numbers)) (same : SameLengths before (same_numbers before other)) where
   fits_kept : groups_fit (renumbered_bench p q b) (same_numbers before other) ≡ groups_fit b before
-  fits_kept = rw (
-    same.solution,
-    same.impulses,
-    same.centres,
-    same.rules,
-    same.groups,
-    same.answers,
-    same.maxima,
-    solve_fits_kept (job_of b before.table.numbers) b.mode (length before.table.solution) (length before.table.impulses)
-        (length before.table.centres) (length before.rules) p q,
-  )
+  fits_kept = rw (same.solution, same.impulses, same.centres, same.rules, same.groups, same.answers, same.maxima, solve_fits_kept (job_of b before.table.numbers) b.mode (length before.table.solution) (length before.table.impulses) (length before.table.centres) (length before.rules) p q)
 
-  pub groups_entries : (answer answer' : Grouping) (x : GroupsSolved (groups_fit b before) b before after answer)
-      → GroupsSolved (groups_fit (renumbered_bench p q b) (same_numbers before other)) (renumbered_bench p q b) (same_numbers before other)
-      after' answer'
-      → GroupsAlike p (groups_fit b before) b before after after' answer answer' x
+  pub groups_entries : (answer answer' : Grouping) (x : GroupsSolved (groups_fit b before) b before after answer) → GroupsSolved (groups_fit (renumbered_bench p q b) (same_numbers before other)) (renumbered_bench p q b) (same_numbers before other) after' answer' → GroupsAlike p (groups_fit b before) b before after after' answer answer' x
   groups_entries answer answer' x y =
-      let fits = solve_fits (job_of b before.table.numbers) b.mode (length before.table.solution)
-      (length before.table.impulses) (length before.table.centres) (length before.rules) in
+      let fits = solve_fits (job_of b before.table.numbers) b.mode (length before.table.solution) (length before.table.impulses) (length before.table.centres) (length before.rules) in
       let lent = groups_lent b.rows (length before.groups) (length before.answers) (length before.maxima) in
-      groups_alike p q b r before after other after' inside (groups_fit b before)
-      (first_long fits lent (job_of b before.table.numbers)
-      (solve_long (job_of b before.table.numbers) b.mode (length before.table.solution) (length before.table.impulses)
-      (length before.table.centres) (length before.rules)))
-      answer answer' x
+      groups_alike p q b r before after other after' inside (groups_fit b before) (first_long fits lent (job_of b before.table.numbers) (solve_long (job_of b before.table.numbers) b.mode (length before.table.solution) (length before.table.impulses) (length before.table.centres) (length before.rules))) answer answer' x
       (subst (λ (f : Bool). GroupsSolved f (renumbered_bench p q b) (same_numbers before other) after' answer') fits_kept y)

@@ -43,8 +43,7 @@ placed_new p q kinds.Velocity bodies body r h = absurd (omega arith)
 
 module _ (p q : ℕ → ℕ) (b : Bench) (r : Renumbering b.bodies p q) (g : ℕ) (rows : List ℕ) (below : Below rows b.rows) (before after other after' : Lending)
     (inside : InRange (bench_table b before.table.numbers)) (long : Long true (job_of b before.table.numbers)) (mine mine' : ℕ → Type 0)
-    (x : GroupSolved mine b g rows before after) (y : GroupSolved mine' (renumbered_bench p q b) g rows (same_numbers before other) after')
-    (move : (body : ℕ) → body < b.bodies → mine body → mine' (p body)) where
+    (x : GroupSolved mine b g rows before after) (y : GroupSolved mine' (renumbered_bench p q b) g rows (same_numbers before other) after') (move : (body : ℕ) → body < b.bodies → mine body → mine' (p body)) where
   -- what is lent to both solves alone, and what they leave
   abbrev lent : Lent
   lent = lent_to rows before.table before.table.impulses before.table.centres
@@ -58,13 +57,9 @@ module _ (p q : ℕ → ℕ) (b : Bench) (r : Renumbering b.bodies p q) (g : ℕ
   abbrev left' : Lent
   left' = lent_to rows after'.table y.impulses y.centres
 
-  alike : SolvedAlike q lent left lent' left' (pick_rows 0 1 rows before.rules) (pick_rows 0 1 rows after.rules)
-      (pick_rows 0 1 rows other.rules) (pick_rows 0 1 rows after'.rules) x.answer y.answer
+  alike : SolvedAlike q lent left lent' left' (pick_rows 0 1 rows before.rules) (pick_rows 0 1 rows after.rules) (pick_rows 0 1 rows other.rules) (pick_rows 0 1 rows after'.rules) x.answer y.answer
   alike =
-      jobs_alike p q (group_job b before.table.numbers rows) r (group_inside b before.table.numbers rows below inside) true
-      (group_long b before.table.numbers rows below long) b.shift (mode_of b.mode b.shift) b.limit (place_of b.kind)
-      lent left lent' left' (pick_rows 0 1 rows before.rules) (pick_rows 0 1 rows after.rules) (pick_rows 0 1 rows other.rules)
-      (pick_rows 0 1 rows after'.rules) x.answer y.answer x.solved
+      jobs_alike p q (group_job b before.table.numbers rows) r (group_inside b before.table.numbers rows below inside) true (group_long b before.table.numbers rows below long) b.shift (mode_of b.mode b.shift) b.limit (place_of b.kind) lent left lent' left' (pick_rows 0 1 rows before.rules) (pick_rows 0 1 rows after.rules) (pick_rows 0 1 rows other.rules) (pick_rows 0 1 rows after'.rules) x.answer y.answer x.solved
       (subst (λ (words : List ℕ). JobSolved true b.rules (solve_for b.kind (length rows) b.bodies (pick_rows nan 27 rows before.table.numbers) words (moved_masses q b.masses) (moved_centres q b.centres) (pick_rows nan 1 rows b.given) b.rules b.shift) (mode_of b.mode b.shift) b.limit (place_of b.kind) (length rows) lent' left' (pick_rows 0 1 rows other.rules) (pick_rows 0 1 rows after'.rules) y.answer)
       (pick_renumbered p rows b.words b.rows below (long.words_long refl)) y.solved)
 
@@ -80,20 +75,17 @@ module _ (p q : ℕ → ℕ) (b : Bench) (r : Renumbering b.bodies p q) (g : ℕ
 
     lengths : (length x.impulses ≡ 6 * b.bodies) × (length x.centres ≡ 3 * placed_of b.kind b.bodies)
     lengths =
-        let (i, c) = accepted_long true (group_problem b before.table.numbers rows) (mode_of b.mode b.shift) b.limit
-        (place_of b.kind) (length rows) lent left x.answer a x.solved.means e in
+        let (i, c) = accepted_long true (group_problem b before.table.numbers rows) (mode_of b.mode b.shift) b.limit (place_of b.kind) (length rows) lent left x.answer a x.solved.means e in
         (i, c ∙ ap (λ n. 3 * n) (placed_bodies b.kind (centres_in b.bodies b.centres)))
 
     body_alike : (body : ℕ) → body < b.bodies → mine body → BodyAlike p b after after' body
     body_alike body h m = record {
       impulses = λ c l.
           y.impulses_put (p body) c (r.new_below body h) l (move body h m) ∙ ap (λ (z : List Float). get_or z (6 * p body + c) nan) same.impulses
-          ∙ along_at 6 q x.impulses (p body) c {k = 6 * p body + c} {j = 6 * body + c} (omega (arith, lengths.0, r.new_below body h))
-          (omega arith) (omega arith) (omega (arith, r.back body h)) ∙ sym (x.impulses_put body c h l m);
+          ∙ along_at 6 q x.impulses (p body) c {k = 6 * p body + c} {j = 6 * body + c} (omega (arith, lengths.0, r.new_below body h)) (omega arith) (omega arith) (omega (arith, r.back body h)) ∙ sym (x.impulses_put body c h l m);
       centre = λ c n l. let (i, k) = placed_new p q b.kind b.bodies body r n in
           y.centres_put (p body) c k l (move body h m) ∙ ap (λ (z : List Float). get_or z (3 * p body + c) nan) same.centres
-          ∙ along_at 3 q x.centres (p body) c {k = 3 * p body + c} {j = 3 * body + c} (omega (arith, lengths.1, k)) (omega arith)
-          (omega arith) (omega (arith, r.back body h)) ∙ sym (x.centres_put body c n l m);
+          ∙ along_at 3 q x.centres (p body) c {k = 3 * p body + c} {j = 3 * body + c} (omega (arith, lengths.1, k)) (omega arith) (omega arith) (omega (arith, r.back body h)) ∙ sym (x.centres_put body c n l m);
     }
 
     accepted_alike : AcceptedAlike p b mine g rows after after'
@@ -101,10 +93,8 @@ module _ (p q : ℕ → ℕ) (b : Bench) (r : Renumbering b.bodies p q) (g : ℕ
       numbers = same.numbers;
       solution = same.solution;
       rules = (alike.accepted a e refl).1;
-      linear = y.told.linear ∙ ap (λ (z : PositionPcg). linear_of z (get_or other.maxima (2 * g) nan)) (alike.answered ∙ e) ∙ sym
-          (x.told.linear ∙ ap (λ (z : PositionPcg). linear_of z (get_or before.maxima (2 * g) nan)) e);
-      angular = y.told.angular ∙ ap (λ (z : PositionPcg). angular_of z (get_or other.maxima (2 * g + 1) nan)) (alike.answered ∙ e) ∙ sym
-          (x.told.angular ∙ ap (λ (z : PositionPcg). angular_of z (get_or before.maxima (2 * g + 1) nan)) e);
+      linear = y.told.linear ∙ ap (λ (z : PositionPcg). linear_of z (get_or other.maxima (2 * g) nan)) (alike.answered ∙ e) ∙ sym (x.told.linear ∙ ap (λ (z : PositionPcg). linear_of z (get_or before.maxima (2 * g) nan)) e);
+      angular = y.told.angular ∙ ap (λ (z : PositionPcg). angular_of z (get_or other.maxima (2 * g + 1) nan)) (alike.answered ∙ e) ∙ sym (x.told.angular ∙ ap (λ (z : PositionPcg). angular_of z (get_or before.maxima (2 * g + 1) nan)) e);
       bodies = body_alike;
     }
 

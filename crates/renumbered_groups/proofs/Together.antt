@@ -5,14 +5,14 @@ use mathlib.Core.Bool.{Bool}
 use mathlib.Core.List.{List}
 use mathlib.Core.Logic.{inl, inr}
 use lib.ListN.{get_or}
-use Rattle.groups.specs.Together.{Links, Has, LinksBelow, Together, Grouped, Member, Apart}
+use Rattle.groups.specs.Together.{Links, Has, Linked, Together, Grouped, Member, Apart}
 use Rattle.groups.specs.Together.Together.{itself, shared, through}
 use Rattle.groups.proofs.Only.{grouped_only, grouped_count}
 use Rattle.renumbered.specs.Renumber.{Renumbering}
 
 -- the rows of m are those of l with their bodies by p, and the bodies that join are the same
 pub record Renamed (p : ℕ → ℕ) (bodies rows : ℕ) (l m : Links) (j k : ℕ → Bool) : Type 0 where
-  pub linked : LinksBelow l rows bodies
+  pub linked : Linked l rows bodies
   pub a : (i : ℕ) → i < rows → m.a i ≡ p (l.a i)
   pub b : (i : ℕ) → i < rows → m.b i ≡ p (l.b i)
   pub joins : (b : ℕ) → b < bodies → k (p b) ≡ j b
@@ -63,14 +63,7 @@ module _ (p q : ℕ → ℕ) (bodies rows : ℕ) (l m : Links) (j k : ℕ → Bo
 
     -- and the same bodies, under their new numbers
     pub member_moved : (g b : ℕ) → b < bodies → Member l j rows u g b → Member m k rows v g (p b)
-    member_moved g b h n =
-        record {
-          row = n.row;
-          within = n.within;
-          group = same_groups n.row n.within ∙ n.group;
-          has = has_moved p bodies rows l m j k w n.row b n.within n.has;
-          joins = w.joins b h ∙ n.joins;
-        }
+    member_moved g b h n = record { row = n.row; within = n.within; group = same_groups n.row n.within ∙ n.group; has = has_moved p bodies rows l m j k w n.row b n.within n.has; joins = w.joins b h ∙ n.joins }
 
   pub apart_moved : (b : ℕ) → b < bodies → Apart l j rows b → Apart m k rows (p b)
   apart_moved b h (inl e) = inl (w.joins b h ∙ e)

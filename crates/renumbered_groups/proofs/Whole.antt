@@ -18,9 +18,7 @@ use Rattle.renumbered_groups.specs.Bench.{renumbered_bench, job_of}
 use Rattle.renumbered_groups.proofs.Together.{Renamed}
 
 module _ (p q : ℕ → ℕ) (b : Bench) (numbers : List Float) (r : Renumbering b.bodies p q) (inside : InRange (bench_table b numbers)) where
-  pub bench_renamed : Long true (job_of b numbers)
-      → Renamed p b.bodies b.rows (links_of (bench_table b numbers)) (links_of (bench_table (renumbered_bench p q b) numbers))
-      (joins_of (bench_table b numbers)) (joins_of (bench_table (renumbered_bench p q b) numbers))
+  pub bench_renamed : Long true (job_of b numbers) → Renamed p b.bodies b.rows (links_of (bench_table b numbers)) (links_of (bench_table (renumbered_bench p q b) numbers)) (joins_of (bench_table b numbers)) (joins_of (bench_table (renumbered_bench p q b) numbers))
   unfolding renumbered_row bodies_by
   bench_renamed long =
       let a = agree p q (job_of b numbers) r inside (long.words_long refl) (long.masses_long refl) in
@@ -38,6 +36,5 @@ module _ (p q : ℕ → ℕ) (b : Bench) (numbers : List Float) (r : Renumbering
       let j = job_of b numbers in
       rw (held_four p q j r inside w m, held_six p q j r inside w m, held_seven p q j r inside w m, held_rules p q j r inside w m, placed_same p q j r inside b.kind (long.centres_long refl))
 
-  pub whole_same : (fits : Bool) → (fits ≡ true → Long true (job_of b numbers))
-      → judge (whole_tests fits (bench_problem (renumbered_bench p q b) numbers)) ≡ judge (whole_tests fits (bench_problem b numbers))
+  pub whole_same : (fits : Bool) → (fits ≡ true → Long true (job_of b numbers)) → judge (whole_tests fits (bench_problem (renumbered_bench p q b) numbers)) ≡ judge (whole_tests fits (bench_problem b numbers))
   whole_same fits long = judge_first 3 fits (bench_tests (bench_problem (renumbered_bench p q b) numbers)) (bench_tests (bench_problem b numbers)) (λ e. tests_same (long e))

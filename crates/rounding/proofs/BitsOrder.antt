@@ -32,10 +32,7 @@ full n h = (le-div_iff_mul-le (pow_pos (size n - 53))).1 (le_trans (le_of_eq (sy
 
 pattern_mono : (a b : ℕ) → a ≤ b → pattern a ≤ pattern b
 pattern_mono a b h = elim (eq-or-lt_of_le (fewer (size a) (size b) (size-le a (size b) (lt_of_le_of_lt h (size-lt b))))) [
-  | inl e ↦ rw e
-      (added ((size b - 53) * 4503599627370496) _ _
-      (div_mono a (2 ^ (size b - 53)) b (2 ^ (size b - 53)) (pow_pos (size b - 53)) (pow_pos (size b - 53))
-      (mul-le-mul_right (2 ^ (size b - 53)) h)))
+  | inl e ↦ rw e (added ((size b - 53) * 4503599627370496) _ _ (div_mono a (2 ^ (size b - 53)) b (2 ^ (size b - 53)) (pow_pos (size b - 53)) (pow_pos (size b - 53)) (mul-le-mul_right (2 ^ (size b - 53)) h)))
   | inr l ↦ apart (size a - 53) (size b - 53) _ _ l (kept-lt 53 a) (full b (omega arith))
 ]
   where
@@ -68,22 +65,17 @@ same_bits x y p q e = sym (of_bits-to_bits binary64 x p) ∙ ap (of_bits binary6
 
 module _ (x y : Float) (p : T (fits binary64 x)) (q : T (fits binary64 y)) (u : T (unsigned x)) (v : T (unsigned y)) where
   pub units_order : le x y ≡ leb (units_of binary64 x) (units_of binary64 y)
-  units_order = le_is binary64 x y p q (unsigned_finite x u) (unsigned_finite y v) ∙ rw
-      ((parts_are x u).0, (parts_are x u).1, (parts_are y v).0, (parts_are y v).1, add-zero (units_of binary64 x), add-zero (units_of binary64 y))
+  units_order = le_is binary64 x y p q (unsigned_finite x u) (unsigned_finite y v) ∙ rw ((parts_are x u).0, (parts_are x u).1, (parts_are y v).0, (parts_are y v).1, add-zero (units_of binary64 x), add-zero (units_of binary64 y))
 
   pub bits_order : le x y ≡ leb (to_bits binary64 x) (to_bits binary64 y)
   bits_order = units_order ∙ go (leb (units_of binary64 x) (units_of binary64 y)) refl
     where
       upper : units_of binary64 y < units_of binary64 x → to_bits binary64 y < to_bits binary64 x
-      upper l = less_of_lem (rw (bits_are x u, bits_are y v) (pattern_mono (units_of binary64 y) (units_of binary64 x) (omega arith)))
-          (λ e. let s = same_bits y x q p e in let n : units_of binary64 y ≡ units_of binary64 x = ap (units_of binary64) s in omega arith)
+      upper l = less_of_lem (rw (bits_are x u, bits_are y v) (pattern_mono (units_of binary64 y) (units_of binary64 x) (omega arith))) (λ e. let s = same_bits y x q p e in let n : units_of binary64 y ≡ units_of binary64 x = ap (units_of binary64) s in omega arith)
         where
           less_of_lem : {a b : ℕ} → a ≤ b → (a ≡ b → ⊥) → a < b
           less_of_lem h n = omega arith
 
       go : (b : Bool) → leb (units_of binary64 x) (units_of binary64 y) ≡ b → b ≡ leb (to_bits binary64 x) (to_bits binary64 y)
-      go true h = sym
-          (le-leb (to_bits binary64 x) (to_bits binary64 y)
-          (rw (bits_are x u, bits_are y v)
-          (pattern_mono (units_of binary64 x) (units_of binary64 y) (leb-true (units_of binary64 x) (units_of binary64 y) h))))
+      go true h = sym (le-leb (to_bits binary64 x) (to_bits binary64 y) (rw (bits_are x u, bits_are y v) (pattern_mono (units_of binary64 x) (units_of binary64 y) (leb-true (units_of binary64 x) (units_of binary64 y) h))))
       go false h = sym (lt-leb (to_bits binary64 x) (to_bits binary64 y) (upper (leb-false (units_of binary64 x) (units_of binary64 y) h)))

@@ -111,8 +111,7 @@ module _ (s : Bool) (m : ℕ) (e : ℤ) (t : T (fits binary64 (fin s m e))) wher
 -- ---- at least 0: what has no minus sign, and −0.0
 pub from_zero : (m : ℕ) (e : ℤ) → T (fits binary64 (fin false m e)) → le zero (fin false m e) ≡ true
 unfolding plus less units_of
-from_zero m e t = le_is binary64 zero (fin false m e) (of_bits-fits binary64 0) t (unfold of_bits in tt) tt ∙ rw
-    (zero_parts.0, zero_parts.1) (le-leb (0 + 0) (units_of binary64 (fin false m e) + 0) zero-le)
+from_zero m e t = le_is binary64 zero (fin false m e) (of_bits-fits binary64 0) t (unfold of_bits in tt) tt ∙ rw (zero_parts.0, zero_parts.1) (le-leb (0 + 0) (units_of binary64 (fin false m e) + 0) zero-le)
 
 pub minus_zero_lem : (m : ℕ) (e : ℤ) (t : T (fits binary64 (fin true m e))) → le zero (fin true m e) ≡ eqb (to_bits binary64 (fin false m e)) 0
 unfolding plus less units_of

@@ -34,13 +34,10 @@ lt_is f (fin s m e) (inf t) p q i j = absurd j
 lt_is f (fin s m e) (fin t n d) p q i j =
     go s t (m * up e * down d) (n * up d * down e) (units_of f (fin s m e)) (units_of f (fin t n d)) (down e * down d) (mul-pos (down_pos e) (down_pos d))
     (mul_right_comm (m * up e) (down d) (2 ^ low f) ∙ ap (λ (k : ℕ). k * down d) (units_exact f s m e p) ∙ mul_assoc (units_of f (fin s m e)) (down e) (down d))
-    (mul_right_comm (n * up d) (down e) (2 ^ low f) ∙ ap (λ (k : ℕ). k * down e) (units_exact f t n d q) ∙ mul_assoc (units_of f (fin t n d))
-    (down d) (down e) ∙ ap (λ (k : ℕ). units_of f (fin t n d) * k) (mul_comm (down d) (down e)))
+    (mul_right_comm (n * up d) (down e) (2 ^ low f) ∙ ap (λ (k : ℕ). k * down e) (units_exact f t n d q) ∙ mul_assoc (units_of f (fin t n d)) (down d) (down e) ∙ ap (λ (k : ℕ). units_of f (fin t n d) * k) (mul_comm (down d) (down e)))
   where
     go : (s t : Bool) (a b M N c : ℕ) → 0 < c → a * 2 ^ low f ≡ M * c → b * 2 ^ low f ≡ N * c → below s a t b ≡ ltb (cond s 0 M + cond t N 0) (cond t 0 N + cond s M 0)
-    go false false a b M N c C A B = ltb_same a b (M + 0) (N + 0)
-        (λ l. plain M N (lt_scale a b M N (2 ^ low f) c (pow_pos (low f)) C A B l))
-        (λ l. lt_scale M N a b c (2 ^ low f) C (pow_pos (low f)) (sym A) (sym B) (bare M N l))
+    go false false a b M N c C A B = ltb_same a b (M + 0) (N + 0) (λ l. plain M N (lt_scale a b M N (2 ^ low f) c (pow_pos (low f)) C A B l)) (λ l. lt_scale M N a b c (2 ^ low f) C (pow_pos (low f)) (sym A) (sym B) (bare M N l))
       where
         plain : (M N : ℕ) → M < N → M + 0 < N + 0
         plain M N h = omega arith
@@ -51,9 +48,7 @@ lt_is f (fin s m e) (fin t n d) p q i j =
       where
         none_below : {n : ℕ} → n < 0 + 0 → ⊥
         none_below h = omega arith
-    go true false a b M N c C A B = ltb_same 0 (a + b) (0 + 0) (N + M)
-        (λ l. more (lt_scale 0 (a + b) 0 (N + M) (2 ^ low f) c (pow_pos (low f)) C (zero-mul (2 ^ low f) ∙ sym (zero-mul c)) both l))
-        (λ l. lt_scale 0 (N + M) 0 (a + b) c (2 ^ low f) C (pow_pos (low f)) (zero-mul c ∙ sym (zero-mul (2 ^ low f))) (sym both) (fewer l))
+    go true false a b M N c C A B = ltb_same 0 (a + b) (0 + 0) (N + M) (λ l. more (lt_scale 0 (a + b) 0 (N + M) (2 ^ low f) c (pow_pos (low f)) C (zero-mul (2 ^ low f) ∙ sym (zero-mul c)) both l)) (λ l. lt_scale 0 (N + M) 0 (a + b) c (2 ^ low f) C (pow_pos (low f)) (zero-mul c ∙ sym (zero-mul (2 ^ low f))) (sym both) (fewer l))
       where
         both : (a + b) * 2 ^ low f ≡ (N + M) * c
         both = omega arith
@@ -63,8 +58,7 @@ lt_is f (fin s m e) (fin t n d) p q i j =
 
         fewer : {n : ℕ} → 0 + 0 < n → 0 < n
         fewer h = omega arith
-    go true true a b M N c C A B = ltb_same b a (0 + N) (0 + M) (λ l. plain N M (lt_scale b a N M (2 ^ low f) c (pow_pos (low f)) C B A l))
-        (λ l. lt_scale N M b a c (2 ^ low f) C (pow_pos (low f)) (sym B) (sym A) (bare N M l))
+    go true true a b M N c C A B = ltb_same b a (0 + N) (0 + M) (λ l. plain N M (lt_scale b a N M (2 ^ low f) c (pow_pos (low f)) C B A l)) (λ l. lt_scale N M b a c (2 ^ low f) C (pow_pos (low f)) (sym B) (sym A) (bare N M l))
       where
         plain : (M N : ℕ) → M < N → 0 + M < 0 + N
         plain M N h = omega arith
@@ -87,8 +81,7 @@ eq_is f (fin s m e) (inf t) p q i j = absurd j
 eq_is f (fin s m e) (fin t n d) p q i j =
     go s t (m * up e * down d) (n * up d * down e) (units_of f (fin s m e)) (units_of f (fin t n d)) (down e * down d) (mul-pos (down_pos e) (down_pos d))
     (mul_right_comm (m * up e) (down d) (2 ^ low f) ∙ ap (λ (k : ℕ). k * down d) (units_exact f s m e p) ∙ mul_assoc (units_of f (fin s m e)) (down e) (down d))
-    (mul_right_comm (n * up d) (down e) (2 ^ low f) ∙ ap (λ (k : ℕ). k * down e) (units_exact f t n d q) ∙ mul_assoc (units_of f (fin t n d))
-    (down d) (down e) ∙ ap (λ (k : ℕ). units_of f (fin t n d) * k) (mul_comm (down d) (down e)))
+    (mul_right_comm (n * up d) (down e) (2 ^ low f) ∙ ap (λ (k : ℕ). k * down e) (units_exact f t n d q) ∙ mul_assoc (units_of f (fin t n d)) (down d) (down e) ∙ ap (λ (k : ℕ). units_of f (fin t n d) * k) (mul_comm (down d) (down e)))
   where
     and_true : (b : Bool) → (b && true) ≡ b
     and_true true = refl
@@ -115,9 +108,7 @@ eq_is f (fin s m e) (fin t n d) p q i j =
             omega arith
 
     go : (s t : Bool) (a b M N c : ℕ) → 0 < c → a * 2 ^ low f ≡ M * c → b * 2 ^ low f ≡ N * c → level s a t b ≡ eqb (cond s 0 M + cond t N 0) (cond t 0 N + cond s M 0)
-    go false false a b M N c C A B = and_true (eqb a b) ∙ eqb_same a b (M + 0) (N + 0)
-        (λ l. ap (λ (n : ℕ). n + 0) (eq_scale a b M N (2 ^ low f) c C A B l))
-        (λ l. eq_scale M N a b c (2 ^ low f) (pow_pos (low f)) (sym A) (sym B) (bare M N l))
+    go false false a b M N c C A B = and_true (eqb a b) ∙ eqb_same a b (M + 0) (N + 0) (λ l. ap (λ (n : ℕ). n + 0) (eq_scale a b M N (2 ^ low f) c C A B l)) (λ l. eq_scale M N a b c (2 ^ low f) (pow_pos (low f)) (sym A) (sym B) (bare M N l))
       where
         bare : (M N : ℕ) → M + 0 ≡ N + 0 → M ≡ N
         bare M N h = omega arith
@@ -129,9 +120,7 @@ eq_is f (fin s m e) (fin t n d) p q i j =
 
         back' : (M N : ℕ) → 0 + 0 ≡ N + M → M + N ≡ 0
         back' M N h = omega arith
-    go true true a b M N c C A B = and_true (eqb a b) ∙ eqb_same a b (0 + N) (0 + M)
-        (λ l. ap (λ (n : ℕ). 0 + n) (sym (eq_scale a b M N (2 ^ low f) c C A B l)))
-        (λ l. eq_scale M N a b c (2 ^ low f) (pow_pos (low f)) (sym A) (sym B) (bare M N l))
+    go true true a b M N c C A B = and_true (eqb a b) ∙ eqb_same a b (0 + N) (0 + M) (λ l. ap (λ (n : ℕ). 0 + n) (sym (eq_scale a b M N (2 ^ low f) c C A B l))) (λ l. eq_scale M N a b c (2 ^ low f) (pow_pos (low f)) (sym A) (sym B) (bare M N l))
       where
         bare : (M N : ℕ) → 0 + N ≡ 0 + M → M ≡ N
         bare M N h = omega arith

@@ -31,9 +31,7 @@ no_overflow f a c C h =
     more a b = omega arith
 
     e : grid f (2 ^ emax f) 1 ≡ 1 * 2 ^ (low f + emax f)
-    e = grid_exact f (2 ^ emax f) 1 1 (low f + emax f) (pow_pos 0) (pow-lt (two-le_pos (prec f) (two f)))
-        (mul_comm (2 ^ emax f) (2 ^ low f) ∙ sym (pow-add 2 (low f) (emax f)) ∙ sym
-        (mul-one (1 * 2 ^ (low f + emax f)) ∙ one-mul (2 ^ (low f + emax f))))
+    e = grid_exact f (2 ^ emax f) 1 1 (low f + emax f) (pow_pos 0) (pow-lt (two-le_pos (prec f) (two f))) (mul_comm (2 ^ emax f) (2 ^ low f) ∙ sym (pow-add 2 (low f) (emax f)) ∙ sym (mul-one (1 * 2 ^ (low f + emax f)) ∙ one-mul (2 ^ (low f + emax f))))
 
 -- neither does a sum or a product whose exact parts are
 pub small_finite : (f : Format) (z : Float) (p q c : ℕ) → 0 < c → Rounded f z p q c → p ≤ c * 2 ^ emax f → q ≤ c * 2 ^ emax f → T (finite z)
@@ -52,8 +50,7 @@ to_val : (f : Format) (z : Float) (D B c d : ℕ) → Gap D B (plus f z) (less f
 to_val f z D B c d g =
     subst (λ (n : ℕ). Gap D B n (under (val f z)) c d) (sym (val_above f z)) (subst (λ (n : ℕ). Gap D B (plus f z) n c d) (sym (val_under f z)) g)
 
-pub add_error : (f : Format) (x y : Float) → T (fits f x) → T (fits f y) → T (finite (add f x y))
-    → nat_abs (val f (add f x y) -ℤ (val f x +ℤ val f y)) * 2 ^ prec f ≤ nat_abs (val f x +ℤ val f y)
+pub add_error : (f : Format) (x y : Float) → T (fits f x) → T (fits f y) → T (finite (add f x y)) → nat_abs (val f (add f x y) -ℤ (val f x +ℤ val f y)) * 2 ^ prec f ≤ nat_abs (val f x +ℤ val f y)
 add_error f x y p q t =
     let i = add_finite f x y t in
     let Z = val f x +ℤ val f y in
@@ -72,17 +69,14 @@ val_neg f (inf s) = refl
 val_neg f (fin true m e) = sym (neg_ℤ-neg_ℤ (pos (units_of f (fin false m e)))) ∙ ap (λ (n : ℕ). neg_ℤ (neg_ℤ (pos n))) (same_units f true false m e)
 val_neg f (fin false m e) = ap (λ (n : ℕ). neg_ℤ (pos n)) (same_units f true false m e)
 
-pub sub_error : (f : Format) (x y : Float) → T (fits f x) → T (fits f y) → T (finite (sub f x y))
-    → nat_abs (val f (sub f x y) -ℤ (val f x -ℤ val f y)) * 2 ^ prec f ≤ nat_abs (val f x -ℤ val f y)
+pub sub_error : (f : Format) (x y : Float) → T (fits f x) → T (fits f y) → T (finite (sub f x y)) → nat_abs (val f (sub f x y) -ℤ (val f x -ℤ val f y)) * 2 ^ prec f ≤ nat_abs (val f x -ℤ val f y)
 unfolding sub
 sub_error f x y p q t =
     subst (λ (v : ℤ). nat_abs (val f (add f x (neg y)) -ℤ (val f x +ℤ v)) * 2 ^ prec f ≤ nat_abs (val f x +ℤ v)) (val_neg f y)
     (add_error f x (neg y) p (neg-fits f y q) t)
 
 -- exact products, by parts
-pub product_parts : (f : Format) (x y : Float)
-    → above (val f x *ℤ val f y) + (plus f x * less f y + less f x * plus f y)
-    ≡ under (val f x *ℤ val f y) + (plus f x * plus f y + less f x * less f y)
+pub product_parts : (f : Format) (x y : Float) → above (val f x *ℤ val f y) + (plus f x * less f y + less f x * plus f y) ≡ under (val f x *ℤ val f y) + (plus f x * plus f y + less f x * less f y)
 product_parts f x y = simp (val_above, val_under) at (mul_parts (val f x) (val f y))
 
 pub times_parts : (f : Format) (z : Float) (U : ℕ) → above (val f z *ℤ pos U) + less f z * U ≡ under (val f z *ℤ pos U) + plus f z * U

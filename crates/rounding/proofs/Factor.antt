@@ -53,16 +53,13 @@ module _ (f : Format) (N h : ℕ) (d : Float) (few : N < 2 ^ prec f) (fd : T (fi
   plain = let e : N * 2 ^ low f * 2 ^ h - 0 ≡ N * 2 ^ low f * 2 ^ h = omega arith in ap (λ (k : ℕ). grid f k (2 ^ low f * 2 ^ low f)) e ∙ its_grid
 
   nothing : grid f (0 - N * 2 ^ low f * 2 ^ h) (2 ^ low f * 2 ^ low f) ≡ 0
-  nothing = let e : 0 - N * 2 ^ low f * 2 ^ h ≡ 0 = omega arith in ap (λ (k : ℕ). grid f k (2 ^ low f * 2 ^ low f)) e ∙ grid_zero f
-      (2 ^ low f * 2 ^ low f) (mul-pos (pow_pos (low f)) (pow_pos (low f)))
+  nothing = let e : 0 - N * 2 ^ low f * 2 ^ h ≡ 0 = omega arith in ap (λ (k : ℕ). grid f k (2 ^ low f * 2 ^ low f)) e ∙ grid_zero f (2 ^ low f * 2 ^ low f) (mul-pos (pow_pos (low f)) (pow_pos (low f)))
 
   small : N * 2 ^ h < overflow f
   small = lt_of_le_of_lt (mul-le-mul (le_refl N) (pow_mono low-enough)) (subst (λ (k : ℕ). k < overflow f) (count_grid f N few) (count_under f N few))
 
   pub factor_finite : T (finite (mul f (of_int f (pos N)) d))
-  factor_finite = rounded_finite f (mul f (of_int f (pos N)) d) (N * 2 ^ low f * 2 ^ h) 0 (2 ^ low f * 2 ^ low f) is_rounded
-      (subst (λ (k : ℕ). k < overflow f) (sym plain) small)
-      (subst (λ (k : ℕ). k < overflow f) (sym nothing) (pow_pos (low f + suc (emax f))))
+  factor_finite = rounded_finite f (mul f (of_int f (pos N)) d) (N * 2 ^ low f * 2 ^ h) 0 (2 ^ low f * 2 ^ low f) is_rounded (subst (λ (k : ℕ). k < overflow f) (sym plain) small) (subst (λ (k : ℕ). k < overflow f) (sym nothing) (pow_pos (low f + suc (emax f))))
 
   pub factor_parts : Parts f (mul f (of_int f (pos N)) d) (N * 2 ^ h) 0
   factor_parts =

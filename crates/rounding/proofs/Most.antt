@@ -20,8 +20,7 @@ pub record Most (f : Format) (A a : ℕ) (w : Float) : Type 0 where
   pub most : plus f w ≤ A * 2 ^ a
 
 -- what is rounded is at most B * 2 ^ b, where that is a number of the format
-module _ (f : Format) (z : Float) (P c B b : ℕ) (C : 0 < c) (held : T (fits f z)) (r : Rounded f z P 0 c) (few : B < 2 ^ prec f)
-    (small : B * 2 ^ b < overflow f) (h : P * 2 ^ low f ≤ B * 2 ^ b * c) where
+module _ (f : Format) (z : Float) (P c B b : ℕ) (C : 0 < c) (held : T (fits f z)) (r : Rounded f z P 0 c) (few : B < 2 ^ prec f) (small : B * 2 ^ b < overflow f) (h : P * 2 ^ low f ≤ B * 2 ^ b * c) where
   at_most : grid f P c ≤ B * 2 ^ b
   at_most =
       le_trans (grid_mono f P c (B * 2 ^ b) (2 ^ low f) C (pow_pos (low f)) h)
@@ -50,8 +49,7 @@ most_add f A B a w v few small m n =
     both : (x y A B t : ℕ) → x ≤ A * t → y ≤ B * t → x + y ≤ (A + B) * t
     both x y A B t h k = omega arith
 
-pub most_mul : (f : Format) (A B a b c : ℕ) (w v : Float) → A * B < 2 ^ prec f → A * B * 2 ^ c < overflow f → c + low f ≡ a + b
-    → Most f A a w → Most f B b v → Most f (A * B) c (mul f w v)
+pub most_mul : (f : Format) (A B a b c : ℕ) (w v : Float) → A * B < 2 ^ prec f → A * B * 2 ^ c < overflow f → c + low f ≡ a + b → Most f A a w → Most f B b v → Most f (A * B) c (mul f w v)
 most_mul f A B a b c w v few small e m n =
     let U = 2 ^ low f in
     most_rounded f (mul f w v) (plus f w * plus f v) (U * U) (A * B) c (mul-pos (pow_pos (low f)) (pow_pos (low f))) (mul-fits f w v)

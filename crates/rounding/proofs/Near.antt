@@ -68,8 +68,7 @@ pub lost : (z W l D : ℕ) → (z + l) * D ≤ (W + 0) * D + z → z * D ≤ W *
 lost z W l D h = omega arith
 
 -- ---- LAW 5: a sum
-sum_step : (D k S w v W px lx py ly pz lz ax ux ay uy az uz : ℕ) → Gap D (w + v) pz lz (px + py) (lx + ly)
-    → Gap D (2 * k * (w * S)) (px * S) (lx * S) ax ux → Gap D (2 * k * (v * S)) (py * S) (ly * S) ay uy
+sum_step : (D k S w v W px lx py ly pz lz ax ux ay uy az uz : ℕ) → Gap D (w + v) pz lz (px + py) (lx + ly) → Gap D (2 * k * (w * S)) (px * S) (lx * S) ax ux → Gap D (2 * k * (v * S)) (py * S) (ly * S) ay uy
     → az + (ux + uy) ≡ uz + (ax + ay) → w + v + 2 * k * (w + v) ≤ 2 * suc k * W → Gap D (2 * suc k * (W * S)) (pz * S) (lz * S) az uz
 sum_step D k S w v W px lx py ly pz lz ax ux ay uy az uz g gx gy e h =
     let b : (w + v + 2 * k * (w + v)) * S ≤ 2 * suc k * W * S = mul-le-mul_right S h in
@@ -97,8 +96,7 @@ module _ (f : Format) (k S i : ℕ) (x w y v : Float) (X Y : ℤ) (few : 2 * k +
         no_less = s.no_less;
         within = s.within;
         gap =
-            sum_step D k S (plus f w) (plus f v) (plus f (add f w v)) (plus f x) (less f x) (plus f y) (less f y) (plus f (add f x y))
-            (less f (add f x y)) (above X) (under X) (above Y) (under Y) (above (X +ℤ Y)) (under (X +ℤ Y))
+            sum_step D k S (plus f w) (plus f v) (plus f (add f w v)) (plus f x) (less f x) (plus f y) (less f y) (plus f (add f x y)) (less f (add f x y)) (above X) (under X) (above Y) (under Y) (above (X +ℤ Y)) (under (X +ℤ Y))
             g c.gap d.gap (add_parts X Y) (slack k z (plus f (add f w v)) D (pow_pos (prec f)) l few);
         floor = floor_of f (add f w v) z (2 ^ low f) i (pow_pos (low f)) r t (sum_floor i (plus f w) (plus f v) (2 ^ low f) c.floor d.floor);
       }
@@ -113,8 +111,7 @@ exact_le (pos n) D B p q g = omega arith
 exact_le (negsuc n) D B p q g = omega arith
 
 -- the three errors together are at most k + h + 1 steps of the rounded W
-product_slack : (k h D z T W A B : ℕ) → 0 < D → z * D ≤ W * D + z → 2 * suc (k + h) + 4 * (k * h) ≤ D → A ≤ 2 * k * (z * T)
-    → B * D ≤ 2 * h * (z * T) * (D + 2 * k) → z * T + (A + B) ≤ 2 * suc (k + h) * (W * T)
+product_slack : (k h D z T W A B : ℕ) → 0 < D → z * D ≤ W * D + z → 2 * suc (k + h) + 4 * (k * h) ≤ D → A ≤ 2 * k * (z * T) → B * D ≤ 2 * h * (z * T) * (D + 2 * k) → z * T + (A + B) ≤ 2 * suc (k + h) * (W * T)
 product_slack k h D z T W A B P l few a b =
     let f1 : z * D * (2 * suc (k + h) * T) ≤ (W * D + z) * (2 * suc (k + h) * T) = mul-le-mul_right (2 * suc (k + h) * T) l in
     let f2 : (2 * suc (k + h) + 4 * (k * h)) * (z * T) ≤ D * (z * T) = mul-le-mul_right (z * T) few in
@@ -132,8 +129,7 @@ second_error k h D w S R v p q X l e =
     omega arith
 
 module _ (D k h S R U w v W p q r s pz lz ax ux ay uy az uz : ℕ) where
-  product_step : 0 < D → Gap D (w * v) (pz * U) (lz * U) (p * r + q * s) (p * s + q * r) → Gap D (2 * k * (w * S)) (p * S) (q * S) ax ux
-      → Gap D (2 * h * (v * R)) (r * R) (s * R) ay uy
+  product_step : 0 < D → Gap D (w * v) (pz * U) (lz * U) (p * r + q * s) (p * s + q * r) → Gap D (2 * k * (w * S)) (p * S) (q * S) ax ux → Gap D (2 * h * (v * R)) (r * R) (s * R) ay uy
       → p + q ≤ w → r + s ≤ v → (ax + ux) * D ≤ (p * S + q * S) * D + 2 * k * (w * S) → az + (ax * uy + ux * ay) ≡ uz + (ax * ay + ux * uy)
       → w * v * D ≤ W * U * D + w * v → 2 * suc (k + h) + 4 * (k * h) ≤ D → Gap D (2 * suc (k + h) * (W * (S * R * U))) (pz * (S * R * U)) (lz * (S * R * U)) az uz
   product_step P g gx gy hx hy ex e l few =
@@ -142,8 +138,7 @@ module _ (D k h S R U w v W p q r s pz lz ax ux ay uy az uz : ℕ) where
       let c3 : r * R * ax + s * R * ux + (ax * (s * R) + ux * (r * R)) ≡ ax * (r * R) + ux * (s * R) + (r * R * ux + s * R * ax) = omega arith in
       let c4 : ay * ax + uy * ux + uz ≡ az + (ay * ux + uy * ax) = omega arith in
       let b : w * v * (S * R) + (2 * k * (w * S) * (r * R + s * R) + 2 * h * (v * R) * (ax + ux)) ≤ 2 * suc (k + h) * (W * U * (S * R)) =
-      product_slack k h D (w * v) (S * R) (W * U) (2 * k * (w * S) * (r * R + s * R)) (2 * h * (v * R) * (ax + ux)) P l few
-      (first_error k w S r s R v hy) (second_error k h D w S R v p q (ax + ux) hx ex) in
+      product_slack k h D (w * v) (S * R) (W * U) (2 * k * (w * S) * (r * R + s * R)) (2 * h * (v * R) * (ax + ux)) P l few (first_error k w S r s R v hy) (second_error k h D w S R v p q (ax + ux) hx ex) in
       let b' : 2 * suc (k + h) * (W * U * (S * R)) ≡ 2 * suc (k + h) * (W * (S * R * U)) = omega arith in
       gap_weaken (2 * suc (k + h) * (W * (S * R * U))) (le_trans b (le_of_eq b'))
       (gap_first (pz * (S * R * U)) (lz * (S * R * U)) c1
@@ -183,15 +178,13 @@ module _ (f : Format) (k h S R i j l : ℕ) (x w y v : Float) (X Y : ℤ) (few :
       let b = product_floor f i j l (plus f w) (plus f v) floors c.floor d.floor in
       let a = spread (plus f x) (less f x) (plus f y) (less f y) (plus f w) (plus f v) c.within d.within in
       let g = product_gap f (mul f x y) p q z (mul_is f x y m.fits_x n.fits_x c.is_finite d.is_finite) s.is_finite (left p q z a) (right p q z a) (normal f l z high b) in
-      let e : z * D ≤ plus f (mul f w v) * U * D + z = lost z (plus f (mul f w v) * U) (less f (mul f w v) * U) D
-      (product_gap f (mul f w v) z 0 z r t (le-add_left z 0) zero-le (normal f l z high b)).under in
+      let e : z * D ≤ plus f (mul f w v) * U * D + z = lost z (plus f (mul f w v) * U) (less f (mul f w v) * U) D (product_gap f (mul f w v) z 0 z r t (le-add_left z 0) zero-le (normal f l z high b)).under in
       record {
         is_finite = s.is_finite;
         no_less = s.no_less;
         within = s.within;
         gap =
-            product_step D k h S R U (plus f w) (plus f v) (plus f (mul f w v)) (plus f x) (less f x) (plus f y) (less f y)
-            (plus f (mul f x y)) (less f (mul f x y)) (above X) (under X) (above Y) (under Y) (above (X *ℤ Y)) (under (X *ℤ Y))
+            product_step D k h S R U (plus f w) (plus f v) (plus f (mul f w v)) (plus f x) (less f x) (plus f y) (less f y) (plus f (mul f x y)) (less f (mul f x y)) (above X) (under X) (above Y) (under Y) (above (X *ℤ Y)) (under (X *ℤ Y))
             (pow_pos (prec f)) g c.gap d.gap c.within d.within (exact_le X D (2 * k * (plus f w * S)) (plus f x * S) (less f x * S) c.gap) (mul_parts X Y) e few;
         floor = floor_of f (mul f w v) z (U * U) l (mul-pos (pow_pos (low f)) (pow_pos (low f))) r t (in_units l U z b);
       }
@@ -207,8 +200,7 @@ module _ (f : Format) (k h S R i j l : ℕ) (x w y v : Float) (X Y : ℤ) (few :
 
 -- ---- the rest of the calculus
 -- an exact input, and its absolute value
-pub near_input : (f : Format) (i : ℕ) (b a : Float) → T (fits f b) → T (fits f a) → T (finite b) → plus f a ≡ plus f b + less f b
-    → less f a ≡ 0 → Floor i (plus f a) → Near f 0 1 i b a (val f b)
+pub near_input : (f : Format) (i : ℕ) (b a : Float) → T (fits f b) → T (fits f a) → T (finite b) → plus f a ≡ plus f b + less f b → less f a ≡ 0 → Floor i (plus f a) → Near f 0 1 i b a (val f b)
 near_input f i b a fb fa t e z l = record {
   fits_x = fb;
   fits_w = fa;
@@ -247,8 +239,7 @@ near_neg f k S i x w X m = record {
     is_finite = neg_finite x c.is_finite;
     no_less = c.no_less;
     within = omega arith;
-    gap = turned (2 ^ prec f) (2 * k * (plus f w * S)) (plus f (neg x)) (less f (neg x)) (plus f x) (less f x) (above X) (under X)
-        (above (neg_ℤ X)) (under (neg_ℤ X)) a b (neg_above X) (neg_under X) c.gap;
+    gap = turned (2 ^ prec f) (2 * k * (plus f w * S)) (plus f (neg x)) (less f (neg x)) (plus f x) (less f x) (above X) (under X) (above (neg_ℤ X)) (under (neg_ℤ X)) a b (neg_above X) (neg_under X) c.gap;
     floor = c.floor;
   };
 }
@@ -259,8 +250,7 @@ near_neg f k S i x w X m = record {
         let y : q * S ≡ p' * S = ap (λ (n : ℕ). n * S) h in
         gap_first (p * S) (q * S) (omega arith) (gap_other a' u' (omega arith) (gap_swap g))
 
-pub near_sub : (f : Format) (k S i : ℕ) (x w y v : Float) (X Y : ℤ) → 2 * k + 2 ≤ 2 ^ prec f → Near f k S i x w X → Near f k S i y v Y
-    → Near f (suc k) S i (sub f x y) (add f w v) (X -ℤ Y)
+pub near_sub : (f : Format) (k S i : ℕ) (x w y v : Float) (X Y : ℤ) → 2 * k + 2 ≤ 2 ^ prec f → Near f k S i x w X → Near f k S i y v Y → Near f (suc k) S i (sub f x y) (add f w v) (X -ℤ Y)
 unfolding sub
 near_sub f k S i x w y v X Y few m n = near_add f k S i x w (neg y) v X (neg_ℤ Y) few m (near_neg f k S i y v Y n)
 
@@ -278,8 +268,7 @@ near_scale f k S i R x w X m = record {
   };
 }
   where
-    finer : (D w p q a u a' u' : ℕ) → a' + (a * 0 + u * R) ≡ u' + (a * R + u * 0) → Gap D (2 * k * (w * S)) (p * S) (q * S) a u
-        → Gap D (2 * k * (w * (S * R))) (p * (S * R)) (q * (S * R)) a' u'
+    finer : (D w p q a u a' u' : ℕ) → a' + (a * 0 + u * R) ≡ u' + (a * R + u * 0) → Gap D (2 * k * (w * S)) (p * S) (q * S) a u → Gap D (2 * k * (w * (S * R))) (p * (S * R)) (q * (S * R)) a' u'
     finer D w p q a u a' u' e g =
         let x : 2 * k * (w * S) * R ≤ 2 * k * (w * (S * R)) = omega arith in
         let y : p * S * R + q * (S * R) ≡ p * (S * R) + q * S * R = omega arith in

@@ -93,10 +93,8 @@ add_is f (fin s m e) (fin t n d) p q i j =
     let b = n * up d * down e in
     let c = down e * down d in
     let A : a * U ≡ M * c = mul_right_comm (m * up e) (down d) U ∙ ap (λ (k : ℕ). k * down d) (units_exact f s m e p) ∙ mul_assoc M (down e) (down d) in
-    let B : b * U ≡ N * c = mul_right_comm (n * up d) (down e) U ∙ ap (λ (k : ℕ). k * down e) (units_exact f t n d q) ∙ mul_assoc N (down d)
-    (down e) ∙ ap (λ (k : ℕ). N * k) (mul_comm (down d) (down e)) in
-    rescale f (add f (fin s m e) (fin t n d)) (cond s 0 a + cond t 0 b) (cond s a 0 + cond t b 0) c (cond s 0 M + cond t 0 N)
-    (cond s M 0 + cond t N 0) U (mul-pos (down_pos e) (down_pos d)) (pow_pos (low f))
+    let B : b * U ≡ N * c = mul_right_comm (n * up d) (down e) U ∙ ap (λ (k : ℕ). k * down e) (units_exact f t n d q) ∙ mul_assoc N (down d) (down e) ∙ ap (λ (k : ℕ). N * k) (mul_comm (down d) (down e)) in
+    rescale f (add f (fin s m e) (fin t n d)) (cond s 0 a + cond t 0 b) (cond s a 0 + cond t b 0) c (cond s 0 M + cond t 0 N) (cond s M 0 + cond t N 0) U (mul-pos (down_pos e) (down_pos d)) (pow_pos (low f))
     (pair (cond s 0 a) (cond t 0 b) (cond s 0 M) (cond t 0 N) U c (scale_up s a M U c A) (scale_up t b N U c B))
     (pair (cond s a 0) (cond t b 0) (cond s M 0) (cond t N 0) U c (scale_down s a M U c A) (scale_down t b N U c B))
     (sum_is f s a t b c)
@@ -120,9 +118,7 @@ mul_finite f (fin s m e) (inf u) t = go (eqb m 0) t
     go false t = absurd t
 mul_finite f (fin s m e) (fin u n d) t = (tt, tt)
 
-signs : (f : Format) (s t : Bool) (M N c : ℕ)
-    → Rounded f (round f (unlike s t) (M * N) c) (cond s 0 M * cond t 0 N + cond s M 0 * cond t N 0)
-    (cond s 0 M * cond t N 0 + cond s M 0 * cond t 0 N) c
+signs : (f : Format) (s t : Bool) (M N c : ℕ) → Rounded f (round f (unlike s t) (M * N) c) (cond s 0 M * cond t 0 N + cond s M 0 * cond t N 0) (cond s 0 M * cond t N 0 + cond s M 0 * cond t 0 N) c
 signs f false false M N c = upward (omega arith) (again f (M * N + 0 * 0 - (M * 0 + 0 * N)) (M * N) c (omega arith) refl)
 signs f true true M N c = upward (omega arith) (again f (0 * 0 + M * N - (0 * N + M * 0)) (M * N) c (omega arith) refl)
 signs f false true M N c = downward (omega arith) (again' f (M * N + 0 * 0 - (M * 0 + 0 * N)) (M * N) c (omega arith) refl)
@@ -141,9 +137,7 @@ mul_is f (fin s m e) (fin t n d) p q i j =
     let N = units_of f (fin t n d) in
     let r : mul f (fin s m e) (fin t n d) ≡ round f (unlike s t) (M * N) (U * U) =
     round_same f (unlike s t) (m * up e * (n * up d)) (down e * down d) (M * N) (U * U) (mul-pos (down_pos e) (down_pos d)) (mul-pos (pow_pos (low f)) (pow_pos (low f)))
-    (mul-mul-mul_comm (m * up e) (n * up d) U U ∙ ap (λ (k : ℕ). k * (n * up d * U)) (units_exact f s m e p) ∙ ap
-    (λ (k : ℕ). M * down e * k) (units_exact f t n d q) ∙ mul-mul-mul_comm M (down e) N (down d))
-    in
+    (mul-mul-mul_comm (m * up e) (n * up d) U U ∙ ap (λ (k : ℕ). k * (n * up d * U)) (units_exact f s m e p) ∙ ap (λ (k : ℕ). M * down e * k) (units_exact f t n d q) ∙ mul-mul-mul_comm M (down e) N (down d)) in
     subst (λ (z : Float). Rounded f z (cond s 0 M * cond t 0 N + cond s M 0 * cond t N 0) (cond s 0 M * cond t N 0 + cond s M 0 * cond t 0 N) (U * U)) (sym r) (signs f s t M N (U * U))
 
 -- ---- the parts of what is rounded, and that it is finite

@@ -40,8 +40,7 @@ by_parts f z c D B p q P Q r g =
     subst (λ (n : ℕ). Gap D B (n * c) (less f z * c) p q) (sym r.is_plus) (subst (λ (n : ℕ). Gap D B (P * c) (n * c) p q) (sym r.is_less) g)
 
 -- LAW 1 with signs. B is any bound of the exact result, and of 2 ^ (prec - 1) units.
-pub rounded_gap : (f : Format) (z : Float) (p q c B : ℕ) → 0 < c → Rounded f z p q c → T (finite z) → p * 2 ^ low f ≤ q * 2 ^ low f + B
-    → q * 2 ^ low f ≤ p * 2 ^ low f + B → c * 2 ^ (prec f - 1) ≤ B
+pub rounded_gap : (f : Format) (z : Float) (p q c B : ℕ) → 0 < c → Rounded f z p q c → T (finite z) → p * 2 ^ low f ≤ q * 2 ^ low f + B → q * 2 ^ low f ≤ p * 2 ^ low f + B → c * 2 ^ (prec f - 1) ≤ B
     → Gap (2 ^ prec f) B (plus f z * c) (less f z * c) (p * 2 ^ low f) (q * 2 ^ low f)
 rounded_gap f z p q c B C r t h k y = by_parts f z c (2 ^ prec f) B (p * 2 ^ low f) (q * 2 ^ low f) (grid f (p - q) c) (grid f (q - p) c) (rounded_parts f z p q c C r t) (go r)
   where
@@ -76,8 +75,7 @@ sum_gap f z p q B r t h k =
 abbrev pub Normal : Format → ℕ → Type 0
 Normal f B = (B ≡ 0) ⊎ (2 ^ (prec f - 1) * 2 ^ low f ≤ B)
 
-pub product_gap : (f : Format) (z : Float) (p q B : ℕ) → Rounded f z p q (2 ^ low f * 2 ^ low f) → T (finite z) → p ≤ q + B → q ≤ p + B
-    → Normal f B → Gap (2 ^ prec f) B (plus f z * 2 ^ low f) (less f z * 2 ^ low f) p q
+pub product_gap : (f : Format) (z : Float) (p q B : ℕ) → Rounded f z p q (2 ^ low f * 2 ^ low f) → T (finite z) → p ≤ q + B → q ≤ p + B → Normal f B → Gap (2 ^ prec f) B (plus f z * 2 ^ low f) (less f z * 2 ^ low f) p q
 product_gap f z p q B r t h k (inl e) =
     let U = 2 ^ low f in
     let s = rounded_parts f z p q (U * U) (mul-pos (pow_pos (low f)) (pow_pos (low f))) r t in

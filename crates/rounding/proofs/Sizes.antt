@@ -75,15 +75,13 @@ prod_down : (a b c d : ℕ) → c ≡ 0 → d ≡ 0 → a * d + c * b ≡ 0
 prod_down a b c d e h = let z : c * b ≡ 0 = ap (λ (n : ℕ). n * b) e ∙ zero-mul b in let y : a * d ≡ 0 = ap (λ (n : ℕ). a * n) h ∙ mul-zero a in omega arith
 
 -- the product of two that are not negative
-pub mul_pos_is : (f : Format) (w v : Float) → T (fits f w) → T (fits f v) → T (finite w) → T (finite v) → less f w ≡ 0 → less f v ≡ 0
-    → Rounded f (mul f w v) (plus f w * plus f v) 0 (2 ^ low f * 2 ^ low f)
+pub mul_pos_is : (f : Format) (w v : Float) → T (fits f w) → T (fits f v) → T (finite w) → T (finite v) → less f w ≡ 0 → less f v ≡ 0 → Rounded f (mul f w v) (plus f w * plus f v) 0 (2 ^ low f * 2 ^ low f)
 mul_pos_is f w v fw fv i j nw nv =
     let U = 2 ^ low f in
     subst (λ (n : ℕ). Rounded f (mul f w v) n 0 (U * U)) (prod_up (plus f w) (plus f v) (less f w) (less f v) nw)
     (subst (λ (n : ℕ). Rounded f (mul f w v) (plus f w * plus f v + less f w * less f v) n (U * U)) (prod_down (plus f w) (plus f v) (less f w) (less f v) nw nv) (mul_is f w v fw fv i j))
 
-pub add_pos_is : (f : Format) (w v : Float) → T (fits f w) → T (fits f v) → T (finite w) → T (finite v) → less f w ≡ 0 → less f v ≡ 0
-    → Rounded f (add f w v) (plus f w + plus f v) 0 (2 ^ low f)
+pub add_pos_is : (f : Format) (w v : Float) → T (fits f w) → T (fits f v) → T (finite w) → T (finite v) → less f w ≡ 0 → less f v ≡ 0 → Rounded f (add f w v) (plus f w + plus f v) 0 (2 ^ low f)
 add_pos_is f w v fw fv i j nw nv = subst (λ (n : ℕ). Rounded f (add f w v) (plus f w + plus f v) n (2 ^ low f)) (omega arith) (add_is f w v fw fv i j)
 
 -- all four products of parts are no more than the product of the sizes
@@ -96,8 +94,7 @@ mul_smaller f x y w v fx fy fw fv t i j nw nv hx hy =
     let k = mul_finite f w v t in
     let U = 2 ^ low f in
     let h = spread (plus f x) (less f x) (plus f y) (less f y) (plus f w) (plus f v) hx hy in
-    smaller f (mul f x y) (mul f w v) (plus f x * plus f y + less f x * less f y) (plus f x * less f y + less f x * plus f y)
-    (plus f w * plus f v) (U * U) (mul-pos (pow_pos (low f)) (pow_pos (low f)))
+    smaller f (mul f x y) (mul f w v) (plus f x * plus f y + less f x * less f y) (plus f x * less f y + less f x * plus f y) (plus f w * plus f v) (U * U) (mul-pos (pow_pos (low f)) (pow_pos (low f)))
     (mul_is f x y fx fy i j) (mul_pos_is f w v fw fv k.0 k.1 nw nv) (omega arith) (omega arith) t
 
 -- with |x| and |y| for w and v the product is of the same size
@@ -146,10 +143,7 @@ mul_same_size f x y w v fx fy fw fv i j t pw pv =
     let e : plus f (mul f w v) ≡ grid f (plus f w * plus f v) (U * U) = plus_is f (mul f w v) (plus f w * plus f v) (U * U) C (mul_pos_is f w v fw fv k.0 k.1 pw.is_less pv.is_less) t in
     let z = one_product (plus f x) (less f x) (plus f y) (less f y) (one_side f x) (one_side f y) in
     sum_up (plus f (mul f x y)) (less f (mul f x y)) (grid f (p - q) (U * U)) (grid f (q - p) (U * U)) (grid f (p + q) (U * U)) r.is_plus r.is_less (apart f p q (U * U) C z)
-    ∙ ap (λ (n : ℕ). grid f n (U * U))
-    (all (plus f x) (less f x) (plus f y) (less f y) ∙ ap (λ (n : ℕ). n * (plus f y + less f y)) (sym pw.is_plus) ∙ ap
-    (λ (n : ℕ). plus f w * n) (sym pv.is_plus))
-    ∙ sym e
+    ∙ ap (λ (n : ℕ). grid f n (U * U)) (all (plus f x) (less f x) (plus f y) (less f y) ∙ ap (λ (n : ℕ). n * (plus f y + less f y)) (sym pw.is_plus) ∙ ap (λ (n : ℕ). plus f w * n) (sym pv.is_plus)) ∙ sym e
   where
     sum_up : (a b c d e : ℕ) → a ≡ c → b ≡ d → c + d ≡ e → a + b ≡ e
     sum_up a b c d e g h k = omega arith

@@ -76,8 +76,7 @@ pub only_within : (p : ℕ → Bool) (n : ℕ) → only_below p n ≤ n
 only_within p zero = unfold only_below in omega arith
 only_within p (suc n) = go (saw_bool (p n)) (saw_bool (every (λ q. not (p q)) n)) (less_or_not (only_below p n) n)
   where
-    go : (p n ≡ true) ⊎ (p n ≡ false) → (every (λ q. not (p q)) n ≡ true) ⊎ (every (λ q. not (p q)) n ≡ false)
-        → (only_below p n < n) ⊎ (n ≤ only_below p n) → only_below p (suc n) ≤ suc n
+    go : (p n ≡ true) ⊎ (p n ≡ false) → (every (λ q. not (p q)) n ≡ true) ⊎ (every (λ q. not (p q)) n ≡ false) → (only_below p n < n) ⊎ (n ≤ only_below p n) → only_below p (suc n) ≤ suc n
     go (inl h) (inl e) _ = let r = here p n h e in omega arith
     go (inl h) (inr e) _ = let r = second p n h e in omega arith
     go (inr h) _ (inl l) = let r = before p n h l in omega arith

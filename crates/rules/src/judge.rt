@@ -46,9 +46,7 @@ pub fn rows_ruled(
     rows: usize,
 ) -> bool
     requires { (8 * rows ≤ length row_words.now) × (3 * length rule_tolerances.now ≤ length rule_words.now) }
-    ensures { result
-        ≡ rows_ruled (rules_in rule_words.now rule_tolerances.now) row_words.now
-        rows }
+    ensures { result ≡ rows_ruled (rules_in rule_words.now rule_tolerances.now) row_words.now rows }
 {
     let mut i = 0;
     while i < rows {

@@ -56,13 +56,9 @@ pub fn gather_tolerances(
     rule_tolerances: &[f64],
     tolerances: &mut [f64],
 )
-    requires tolerances_in_bounds { (8 * length tolerances.old ≤ length row_words.now)
-        × (3 * length rule_tolerances.now ≤ length rule_words.now) }
+    requires tolerances_in_bounds { (8 * length tolerances.old ≤ length row_words.now) × (3 * length rule_tolerances.now ≤ length rule_words.now) }
     requires tolerances_value { rows_ruled (rules_in rule_words.now rule_tolerances.now) row_words.now (length tolerances.old) ≡ true }
-    ensures { tolerances.new
-        ≡ tabulate
-        (tolerance_in (rules_in rule_words.now rule_tolerances.now) row_words.now)
-        (length tolerances.old) }
+    ensures { tolerances.new ≡ tabulate (tolerance_in (rules_in rule_words.now rule_tolerances.now) row_words.now) (length tolerances.old) }
 {
     let plain = rules_plain(rule_words, rule_tolerances);
     let mut i = 0;
@@ -78,12 +74,8 @@ pub fn name_rules(
     rule_tolerances: &[f64],
     rule_numbers: &mut [u32],
 )
-    requires { (8 * length rule_numbers.old ≤ length row_words.now)
-        × (3 * length rule_tolerances.now ≤ length rule_words.now) × (length rule_tolerances.now ≤ 64) }
-    ensures { rule_numbers.new
-        ≡ tabulate
-        (rule_in (rules_in rule_words.now rule_tolerances.now) row_words.now)
-        (length rule_numbers.old) }
+    requires { (8 * length rule_numbers.old ≤ length row_words.now) × (3 * length rule_tolerances.now ≤ length rule_words.now) × (length rule_tolerances.now ≤ 64) }
+    ensures { rule_numbers.new ≡ tabulate (rule_in (rules_in rule_words.now rule_tolerances.now) row_words.now) (length rule_numbers.old) }
 {
     let mut i = 0;
     while i < rule_numbers.len() {
@@ -105,8 +97,7 @@ fn ruled_number(
     rule_tolerances: &[f64],
     i: usize,
 ) -> u32
-    requires i_in_bounds { (8 * i + 8 ≤ length row_words.now)
-        × (3 * length rule_tolerances.now ≤ length rule_words.now) × (length rule_tolerances.now ≤ 64) }
+    requires i_in_bounds { (8 * i + 8 ≤ length row_words.now) × (3 * length rule_tolerances.now ≤ length rule_words.now) × (length rule_tolerances.now ≤ 64) }
     requires plain_value { plain ≡ plain_rules (rules_in rule_words.now rule_tolerances.now) }
     requires i_in_bounds_2 { rule_in (rules_in rule_words.now rule_tolerances.now) row_words.now i < length rule_tolerances.now }
     ensures { result ≡ rule_in (rules_in rule_words.now rule_tolerances.now) row_words.now i }
@@ -128,13 +119,9 @@ pub fn name_only_rules(
     rule_tolerances: &[f64],
     rule_numbers: &mut [u32],
 )
-    requires rule_numbers_in_bounds { (8 * length rule_numbers.old ≤ length row_words.now)
-        × (3 * length rule_tolerances.now ≤ length rule_words.now) × (length rule_tolerances.now ≤ 64) }
+    requires rule_numbers_in_bounds { (8 * length rule_numbers.old ≤ length row_words.now) × (3 * length rule_tolerances.now ≤ length rule_words.now) × (length rule_tolerances.now ≤ 64) }
     requires rule_numbers_value { rows_ruled (rules_in rule_words.now rule_tolerances.now) row_words.now (length rule_numbers.old) ≡ true }
-    ensures { rule_numbers.new
-        ≡ tabulate
-        (rule_in (rules_in rule_words.now rule_tolerances.now) row_words.now)
-        (length rule_numbers.old) }
+    ensures { rule_numbers.new ≡ tabulate (rule_in (rules_in rule_words.now rule_tolerances.now) row_words.now) (length rule_numbers.old) }
 {
     let plain = rules_plain(rule_words, rule_tolerances);
     let mut i = 0;

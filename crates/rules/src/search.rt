@@ -14,8 +14,7 @@ fn applies_to(words: &[u32], tolerances: &[f64], dimension: u32, key: u32, r: us
 // The first rule from `start` on that applies, and their count where none does.
 fn first_rule(words: &[u32], tolerances: &[f64], dimension: u32, key: u32, start: usize) -> usize
     requires { (start ≤ length tolerances.now) × (3 * length tolerances.now ≤ length words.now) }
-    ensures { First (applies (rules_in words.now tolerances.now) dimension key)
-        (length tolerances.now) start result }
+    ensures { First (applies (rules_in words.now tolerances.now) dimension key) (length tolerances.now) start result }
 {
     let mut r = start;
     while r < tolerances.len() {

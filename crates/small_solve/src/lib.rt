@@ -33,29 +33,10 @@ fn with_vectors(
     order: &mut [u32],
     values: &mut [f64],
 ) -> PositionPcg
-    requires rule_numbers_value { job_fits Position rows bodies mode (length numbers.old) (length words.now) (length masses.now)
-        (length solution.old) (length impulses.old) (length centres.now) (length new_centres.old)
-        (length rule_words.now) (length rule_tolerances.now) (length rule_numbers.old) 0
-        ≡ true }
+    requires rule_numbers_value { job_fits Position rows bodies mode (length numbers.old) (length words.now) (length masses.now) (length solution.old) (length impulses.old) (length centres.now) (length new_centres.old) (length rule_words.now) (length rule_tolerances.now) (length rule_numbers.old) 0 ≡ true }
     requires rows_bound { (rows ≤ 128) × (bodies ≤ 64) }
     requires factor_room { FactorRoom mode rows (length pattern.old) (length order.old) (length values.old) }
-    ensures { JobSolved true (rules_in rule_words.now rule_tolerances.now)
-        (position_of rows bodies numbers.entry.now words.now masses.now centres.now
-        (rules_in rule_words.now rule_tolerances.now) shift)
-        (mode_of mode shift) limit 24 rows
-        record {
-          numbers = numbers.entry.now;
-          solution = solution.old;
-          impulses = impulses.old;
-          centres = new_centres.old;
-        }
-        record {
-          numbers = numbers.exit.now;
-          solution = solution.new;
-          impulses = impulses.new;
-          centres = new_centres.new;
-        }
-        rule_numbers.old rule_numbers.new result }
+    ensures { JobSolved true (rules_in rule_words.now rule_tolerances.now) (position_of rows bodies numbers.entry.now words.now masses.now centres.now (rules_in rule_words.now rule_tolerances.now) shift) (mode_of mode shift) limit 24 rows record { numbers = numbers.entry.now; solution = solution.old; impulses = impulses.old; centres = new_centres.old } record { numbers = numbers.exit.now; solution = solution.new; impulses = impulses.new; centres = new_centres.new } rule_numbers.old rule_numbers.new result }
 {
     let mut jacobians: [f64; 1536] = [0.0; 1536];
     let mut links: [u32; 256] = [0; 256];
@@ -120,29 +101,10 @@ fn with_factor(
     new_centres: &mut [f64],
     rule_numbers: &mut [u32],
 ) -> PositionPcg
-    requires rule_numbers_value { job_fits Position rows bodies mode (length numbers.old) (length words.now) (length masses.now)
-        (length solution.old) (length impulses.old) (length centres.now) (length new_centres.old)
-        (length rule_words.now) (length rule_tolerances.now) (length rule_numbers.old) 0
-        ≡ true }
+    requires rule_numbers_value { job_fits Position rows bodies mode (length numbers.old) (length words.now) (length masses.now) (length solution.old) (length impulses.old) (length centres.now) (length new_centres.old) (length rule_words.now) (length rule_tolerances.now) (length rule_numbers.old) 0 ≡ true }
     requires rows_bound { (rows ≤ 128) × (bodies ≤ 64) }
     requires mode_value { mode ≡ 1 }
-    ensures { JobSolved true (rules_in rule_words.now rule_tolerances.now)
-        (position_of rows bodies numbers.entry.now words.now masses.now centres.now
-        (rules_in rule_words.now rule_tolerances.now) shift)
-        (mode_of mode shift) limit 24 rows
-        record {
-          numbers = numbers.entry.now;
-          solution = solution.old;
-          impulses = impulses.old;
-          centres = new_centres.old;
-        }
-        record {
-          numbers = numbers.exit.now;
-          solution = solution.new;
-          impulses = impulses.new;
-          centres = new_centres.new;
-        }
-        rule_numbers.old rule_numbers.new result }
+    ensures { JobSolved true (rules_in rule_words.now rule_tolerances.now) (position_of rows bodies numbers.entry.now words.now masses.now centres.now (rules_in rule_words.now rule_tolerances.now) shift) (mode_of mode shift) limit 24 rows record { numbers = numbers.entry.now; solution = solution.old; impulses = impulses.old; centres = new_centres.old } record { numbers = numbers.exit.now; solution = solution.new; impulses = impulses.new; centres = new_centres.new } rule_numbers.old rule_numbers.new result }
 {
     let mut pattern: [u32; 8257] = [0; 8257];
     let mut order: [u32; 16384] = [0; 16384];
@@ -190,29 +152,10 @@ fn with_blocks(
     new_centres: &mut [f64],
     rule_numbers: &mut [u32],
 ) -> PositionPcg
-    requires rule_numbers_value { job_fits Position rows bodies mode (length numbers.old) (length words.now) (length masses.now)
-        (length solution.old) (length impulses.old) (length centres.now) (length new_centres.old)
-        (length rule_words.now) (length rule_tolerances.now) (length rule_numbers.old) 0
-        ≡ true }
+    requires rule_numbers_value { job_fits Position rows bodies mode (length numbers.old) (length words.now) (length masses.now) (length solution.old) (length impulses.old) (length centres.now) (length new_centres.old) (length rule_words.now) (length rule_tolerances.now) (length rule_numbers.old) 0 ≡ true }
     requires rows_bound { (rows ≤ 128) × (bodies ≤ 64) }
     requires mode_value { mode ≡ 2 }
-    ensures { JobSolved true (rules_in rule_words.now rule_tolerances.now)
-        (position_of rows bodies numbers.entry.now words.now masses.now centres.now
-        (rules_in rule_words.now rule_tolerances.now) shift)
-        (mode_of mode shift) limit 24 rows
-        record {
-          numbers = numbers.entry.now;
-          solution = solution.old;
-          impulses = impulses.old;
-          centres = new_centres.old;
-        }
-        record {
-          numbers = numbers.exit.now;
-          solution = solution.new;
-          impulses = impulses.new;
-          centres = new_centres.new;
-        }
-        rule_numbers.old rule_numbers.new result }
+    ensures { JobSolved true (rules_in rule_words.now rule_tolerances.now) (position_of rows bodies numbers.entry.now words.now masses.now centres.now (rules_in rule_words.now rule_tolerances.now) shift) (mode_of mode shift) limit 24 rows record { numbers = numbers.entry.now; solution = solution.old; impulses = impulses.old; centres = new_centres.old } record { numbers = numbers.exit.now; solution = solution.new; impulses = impulses.new; centres = new_centres.new } rule_numbers.old rule_numbers.new result }
 {
     let mut pattern: [u32; 128] = [0; 128];
     let mut order: [u32; 0] = [0; 0];
@@ -259,29 +202,10 @@ fn with_diagonal(
     new_centres: &mut [f64],
     rule_numbers: &mut [u32],
 ) -> PositionPcg
-    requires rule_numbers_value { job_fits Position rows bodies mode (length numbers.old) (length words.now) (length masses.now)
-        (length solution.old) (length impulses.old) (length centres.now) (length new_centres.old)
-        (length rule_words.now) (length rule_tolerances.now) (length rule_numbers.old) 0
-        ≡ true }
+    requires rule_numbers_value { job_fits Position rows bodies mode (length numbers.old) (length words.now) (length masses.now) (length solution.old) (length impulses.old) (length centres.now) (length new_centres.old) (length rule_words.now) (length rule_tolerances.now) (length rule_numbers.old) 0 ≡ true }
     requires rows_bound { (rows ≤ 128) × (bodies ≤ 64) }
     requires mode_value { mode ≡ 0 }
-    ensures { JobSolved true (rules_in rule_words.now rule_tolerances.now)
-        (position_of rows bodies numbers.entry.now words.now masses.now centres.now
-        (rules_in rule_words.now rule_tolerances.now) shift)
-        (mode_of mode shift) limit 24 rows
-        record {
-          numbers = numbers.entry.now;
-          solution = solution.old;
-          impulses = impulses.old;
-          centres = new_centres.old;
-        }
-        record {
-          numbers = numbers.exit.now;
-          solution = solution.new;
-          impulses = impulses.new;
-          centres = new_centres.new;
-        }
-        rule_numbers.old rule_numbers.new result }
+    ensures { JobSolved true (rules_in rule_words.now rule_tolerances.now) (position_of rows bodies numbers.entry.now words.now masses.now centres.now (rules_in rule_words.now rule_tolerances.now) shift) (mode_of mode shift) limit 24 rows record { numbers = numbers.entry.now; solution = solution.old; impulses = impulses.old; centres = new_centres.old } record { numbers = numbers.exit.now; solution = solution.new; impulses = impulses.new; centres = new_centres.new } rule_numbers.old rule_numbers.new result }
 {
     let mut pattern: [u32; 0] = [0; 0];
     let mut order: [u32; 0] = [0; 0];
@@ -327,28 +251,7 @@ pub fn solve_small_position(
     rule_numbers: &mut [u32],
 ) -> PositionPcg
     requires { (rows ≤ 128) × (bodies ≤ 64) }
-    ensures { JobSolved
-        (job_fits Position rows bodies mode (length numbers.entry.now) (length words.now)
-        (length masses.now) (length solution.old) (length impulses.old)
-        (length centres.now) (length new_centres.old) (length rule_words.now)
-        (length rule_tolerances.now) (length rule_numbers.old) 0)
-        (rules_in rule_words.now rule_tolerances.now)
-        (position_of rows bodies numbers.entry.now words.now masses.now centres.now
-        (rules_in rule_words.now rule_tolerances.now) shift)
-        (mode_of mode shift) limit 24 rows
-        record {
-          numbers = numbers.entry.now;
-          solution = solution.old;
-          impulses = impulses.old;
-          centres = new_centres.old;
-        }
-        record {
-          numbers = numbers.exit.now;
-          solution = solution.new;
-          impulses = impulses.new;
-          centres = new_centres.new;
-        }
-        rule_numbers.old rule_numbers.new result }
+    ensures { JobSolved (job_fits Position rows bodies mode (length numbers.entry.now) (length words.now) (length masses.now) (length solution.old) (length impulses.old) (length centres.now) (length new_centres.old) (length rule_words.now) (length rule_tolerances.now) (length rule_numbers.old) 0) (rules_in rule_words.now rule_tolerances.now) (position_of rows bodies numbers.entry.now words.now masses.now centres.now (rules_in rule_words.now rule_tolerances.now) shift) (mode_of mode shift) limit 24 rows record { numbers = numbers.entry.now; solution = solution.old; impulses = impulses.old; centres = new_centres.old } record { numbers = numbers.exit.now; solution = solution.new; impulses = impulses.new; centres = new_centres.new } rule_numbers.old rule_numbers.new result }
 {
     if !job_fits(
         Kind::Position,

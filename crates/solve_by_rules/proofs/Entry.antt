@@ -38,7 +38,7 @@ use Rattle.position_delivery.specs.declared.answer.PositionPcg.{PositionPcg}
 use Rattle.position_delivery.specs.declared.answer.PositionPcg.TheVariants as answers
 use Rattle.position_delivery.proofs.Accumulated.{delivered_in}
 use Rattle.position_delivery.proofs.Answered.{delivered_of, entry_refused, entry_on, entry_means}
-use Rattle.work_memory.specs.Work.{WorkMemory, cleared_steps, cleared_table}
+use Rattle.work_memory.specs.Work.{WorkMemory, StepMemory, cleared_steps, cleared_table}
 use Rattle.work_memory.proofs.Cleared.{work_cleared, after_three_lem, after_cleared}
 use Rattle.solve_by_rules.specs.SolveHeld.{SolveHeld}
 
@@ -47,15 +47,12 @@ pub fits_true : (b fits : Bool) → b ≡ fits → not b ≡ false → fits ≡ 
 fits_true b fits e h = sym e ∙ not-false b h
 
 -- no number stands twice, of either kind
-pub solve_apart : (kind : Kind) (rows bodies : ℕ) (numbers : List Float) (words : List ℕ) (masses centres given : List Float)
-    (rules : Rules) (shift : Float)
-    → Apart (solve_for kind rows bodies numbers words masses centres given rules shift)
+pub solve_apart : (kind : Kind) (rows bodies : ℕ) (numbers : List Float) (words : List ℕ) (masses centres given : List Float) (rules : Rules) (shift : Float) → Apart (solve_for kind rows bodies numbers words masses centres given rules shift)
 solve_apart kinds.Position rows bodies numbers words masses centres given rules shift = position_apart (table_of rows bodies numbers words masses) rules shift _
 solve_apart kinds.Velocity rows bodies numbers words masses centres given rules shift = velocity_apart (table_of rows bodies numbers words masses) rules shift (coefficients given)
 
 -- where the number that grows stands, and how many bodies have a centre
-pub placing : (kind : Kind) (bodies : ℕ) {place placed centres newCentres : ℕ} → place ≡ place_of kind → placed ≡ placed_of kind bodies
-    → centres ≡ 3 * placed_of kind bodies → newCentres ≡ 3 * placed_of kind bodies
+pub placing : (kind : Kind) (bodies : ℕ) {place placed centres newCentres : ℕ} → place ≡ place_of kind → placed ≡ placed_of kind bodies → centres ≡ 3 * placed_of kind bodies → newCentres ≡ 3 * placed_of kind bodies
     → (place < 27) × (placed ≤ bodies) × (centres ≡ 3 * placed) × (newCentres ≡ 3 * placed)
 placing kinds.Position bodies e f c d = (omega arith, omega arith, omega arith, omega arith)
 placing kinds.Velocity bodies e f c d = (omega arith, omega arith, omega arith, omega arith)
@@ -69,20 +66,12 @@ module _ (fits : Bool) (p : Problem) (mode : Mode) (limit place n : ℕ) (before
 
   -- told by what a commit makes of the rows
   pub proposed_three : not b ≡ true
-      → SolveHeld fits p mode limit place n before
-      (record {
-        numbers = committed_by place (answers.Refused 3) before.numbers before.solution;
-        solution = before.solution;
-        impulses = before.impulses;
-        centres = before.centres;
-      })
-      (answers.Refused 3) work work
+      → SolveHeld fits p mode limit place n before (record { numbers = committed_by place (answers.Refused 3) before.numbers before.solution; solution = before.solution; impulses = before.impulses; centres = before.centres }) (answers.Refused 3) work work
   unfolding committed_by
   proposed_three h = solved_three h
 
   solved_on : (x : Run (Bool × ℕ × Iterate) ℕ) (after : Lent) (answer : PositionPcg) (workAfter : WorkMemory) → not b ≡ false → counted_of mode p limit ≡ x
-      → outcome_at place n before (next x (finished_of p.table p.accumulated p.centres)) ≡ record { answer = answer; lent = after } →
-      workAfter.steps ≡ cleared_steps work.steps → workAfter.table ≡ cleared_table work.table
+      → outcome_at place n before (next x (finished_of p.table p.accumulated p.centres)) ≡ record { answer = answer; lent = after } → workAfter.steps ≡ cleared_steps work.steps → workAfter.table ≡ cleared_table work.table
       → SolveHeld fits p mode limit place n before after answer work workAfter
   solved_on x after answer workAfter h counted d es et =
       let o : Outcome = record { answer = answer; lent = after } in
@@ -94,8 +83,7 @@ abbrev left : List Float → ℕ → PositionPcg → List Float → List Float �
 left numbers place answer solution impulses new = record { numbers = committed_by place answer numbers solution; solution = solution; impulses = impulses; centres = new }
 
 -- judged, counted and proposed, of either kind
-module _ (kind : Kind) (rows bodies : ℕ) (numbers : List Float) (words : List ℕ) (masses centres given : List Float) (rules : Rules)
-    (shift : Float) (mode : Mode) (limit : ℕ) (before : Lent) (work : WorkMemory) (fits b : Bool) (e : b ≡ fits)
+module _ (kind : Kind) (rows bodies : ℕ) (numbers : List Float) (words : List ℕ) (masses centres given : List Float) (rules : Rules) (shift : Float) (mode : Mode) (limit : ℕ) (before : Lent) (work : WorkMemory) (fits b : Bool) (e : b ≡ fits)
     (long : length centres ≡ 3 * placed_of kind bodies) where
   abbrev problem : Problem
   problem = solve_for kind rows bodies numbers words masses centres given rules shift
@@ -107,9 +95,7 @@ module _ (kind : Kind) (rows bodies : ℕ) (numbers : List Float) (words : List 
       → (opened : Opened) → judge (after_three (steps_for kind rows bodies numbers words masses given rules shift finite) limit) ≡ opened_out opened → (place : ℕ) → place ≡ place_of kind
       → (jacobians : List Float) (links : List ℕ) (pending residual : List Float) (c : Iterated) (answer : PositionPcg) (solution impulses new : List Float) (workAfter : WorkMemory) → not b ≡ false
       → CountHeld m (kind_of kind rows bodies numbers words masses given rules) opened limit masses c jacobians links pending residual work.steps workAfter.steps
-      → outcome_at place rows before
-      (next (iterated_out c limit pending residual) (finished_of table (accumulated_in place numbers) (centres_in placed centres))) ≡
-      record { answer = answer; lent = left numbers place answer solution impulses new } → workAfter.table ≡ cleared_table work.table
+      → outcome_at place rows before (next (iterated_out c limit pending residual) (finished_of table (accumulated_in place numbers) (centres_in placed centres))) ≡ record { answer = answer; lent = left numbers place answer solution impulses new } → workAfter.table ≡ cleared_table work.table
       → SolveHeld fits problem mode limit (place_of kind) rows before (left numbers (place_of kind) answer solution impulses new) answer work workAfter
   solved_kind m em placed ep finite ef opened eo place epl jacobians links pending residual c answer solution impulses new workAfter h held d et =
       let found = ef ∙ ap (λ (k : ℕ). centres_finite (centres_in k centres)) ep in
@@ -119,6 +105,4 @@ module _ (kind : Kind) (rows bodies : ℕ) (numbers : List Float) (words : List 
       let o : Outcome = record { answer = answer; lent = after } in
       solved_on fits problem mode limit (place_of kind) rows before work b (solve_apart kind rows bodies numbers words masses centres given rules shift) e x after answer workAfter h
       (ap (λ (k : Mode). counted_of k problem limit) (sym em) ∙ counted)
-      (delivered_in kind rows bodies numbers words masses centres given rules shift long place placed rows before x o epl ep
-      (d ∙ ap (λ (k : ℕ). record { answer = answer; lent = left numbers k answer solution impulses new }) epl))
-      held.memory et
+      (delivered_in kind rows bodies numbers words masses centres given rules shift long place placed rows before x o epl ep (d ∙ ap (λ (k : ℕ). record { answer = answer; lent = left numbers k answer solution impulses new }) epl)) held.memory et

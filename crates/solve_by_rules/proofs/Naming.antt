@@ -39,9 +39,7 @@ use Rattle.solve_by_rules.specs.Ruled.{rules_lent, residual_lent, centres_lent, 
 use Rattle.solve_by_rules.proofs.Entry.{solve_apart, solved_three}
 
 -- ---- an accepted answer has passed what is judged before step 0
-module _ (fits : Bool) (p : Problem) (mode : Mode) (limit place n : ℕ) (before after : Lent) {answer : PositionPcg}
-    (answered : outcome_at place n before (solve (method_of fits p mode) limit) ≡ record { answer = answer; lent = after })
-    (r : PositionPcgResult)
+module _ (fits : Bool) (p : Problem) (mode : Mode) (limit place n : ℕ) (before after : Lent) {answer : PositionPcg} (answered : outcome_at place n before (solve (method_of fits p mode) limit) ≡ record { answer = answer; lent = after }) (r : PositionPcgResult)
     (accepted : answer ≡ answers.Accepted r) where
   accepted_opens : opening_of fits p limit ≡ going tt
   unfolding proposal_of solve on
@@ -59,8 +57,7 @@ module _ (fits : Bool) (p : Problem) (mode : Mode) (limit place n : ℕ) (before
   accepted_tests = (judge_going (opening_tests fits p limit)).0 accepted_opens
 
 -- ---- the lengths of the rules and of what is lent beside the table; r and k are what their tests answered
-module _ (kind : Kind) (rows words tolerances numbers bodies centres newCentres given : ℕ) {r k : Bool}
-    (er : r ≡ rules_lent rows words tolerances numbers) (ek : k ≡ beside_lent kind rows bodies centres newCentres given) where
+module _ (kind : Kind) (rows words tolerances numbers bodies centres newCentres given : ℕ) {r k : Bool} (er : r ≡ rules_lent rows words tolerances numbers) (ek : k ≡ beside_lent kind rows bodies centres newCentres given) where
   pub lent_tests : (r && k) ≡ (rules_lent rows words tolerances numbers && beside_lent kind rows bodies centres newCentres given)
   lent_tests = rw (er, ek)
 
@@ -69,8 +66,7 @@ unfolding residual_lent
 given_room kinds.Position given rows h = record { long = λ e. absurd (let z : ◌≡◌ {A = ℕ} 0 1 = cc in omega arith) }
 given_room kinds.Velocity given rows h = record { long = λ _. eqb-true given rows h }
 
-module _ (kind : Kind) (rows words tolerances numbers bodies centres newCentres given : ℕ) {b : Bool}
-    (e : b ≡ (rules_lent rows words tolerances numbers && beside_lent kind rows bodies centres newCentres given)) (h : not b ≡ false) where
+module _ (kind : Kind) (rows words tolerances numbers bodies centres newCentres given : ℕ) {b : Bool} (e : b ≡ (rules_lent rows words tolerances numbers && beside_lent kind rows bodies centres newCentres given)) (h : not b ≡ false) where
   lent_both : (rules_lent rows words tolerances numbers ≡ true) × (beside_lent kind rows bodies centres newCentres given ≡ true)
   lent_both = both (rules_lent rows words tolerances numbers) (beside_lent kind rows bodies centres newCentres given) (sym e ∙ not-false b h)
 
@@ -96,9 +92,7 @@ module _ (kind : Kind) (rows words tolerances numbers bodies centres newCentres 
   lent_numbers = eqb-true numbers rows lent_parts.1
 
 -- ---- what takes the rules has the rows' words beside it
-pub naming_room : (fits : Bool) (p : Problem) (mode : Mode) (limit place n : ℕ) (before after : Lent) {answer : PositionPcg}
-    {work workAfter : WorkMemory} {numbers words : ℕ}
-    → SolveHeld fits p mode limit place n before after answer work workAfter
+pub naming_room : (fits : Bool) (p : Problem) (mode : Mode) (limit place n : ℕ) (before after : Lent) {answer : PositionPcg} {work workAfter : WorkMemory} {numbers words : ℕ} → SolveHeld fits p mode limit place n before after answer work workAfter
     → (fits ≡ true → words ≡ 8 * n) → numbers ≡ n → NamingRoom answer numbers words
 unfolding AllPass
 naming_room fits p mode limit place n before after held long e = record {
@@ -106,9 +100,7 @@ naming_room fits p mode limit place n before after held long e = record {
 }
 
 -- and each row is under one rule and no second
-module _ (kind : Kind) (s : Rules) (rows bodies : ℕ) (numbers : List Float) (words : List ℕ) (masses centres given : List Float)
-    (shift : Float) (mode : Mode) (limit : ℕ) (before : Lent) {fits : Bool} {after : Lent} {answer : PositionPcg}
-    {work workAfter : WorkMemory}
+module _ (kind : Kind) (s : Rules) (rows bodies : ℕ) (numbers : List Float) (words : List ℕ) (masses centres given : List Float) (shift : Float) (mode : Mode) (limit : ℕ) (before : Lent) {fits : Bool} {after : Lent} {answer : PositionPcg} {work workAfter : WorkMemory}
     (held : SolveHeld fits (solve_for kind rows bodies numbers words masses centres given s shift) mode limit (place_of kind) rows before after answer work workAfter) where
   passed : (r : PositionPcgResult) → answer ≡ answers.Accepted r → AllPass (opening_tests fits (solve_for kind rows bodies numbers words masses centres given s shift) limit)
   passed r c = accepted_tests fits (solve_for kind rows bodies numbers words masses centres given s shift) mode limit (place_of kind) rows before after held.answered r c
@@ -125,9 +117,7 @@ within : (kind : Kind) {place : ℕ} → place ≡ place_of kind → place < 27
 within kinds.Position e = omega arith
 within kinds.Velocity e = omega arith
 
-pub commit_room : (kind : Kind) (fits : Bool) (p : Problem) (mode : Mode) (limit n : ℕ) (before after : Lent) {answer : PositionPcg}
-    {work workAfter : WorkMemory} {place solution numbers : ℕ}
-    → SolveHeld fits p mode limit (place_of kind) n before after answer work workAfter
+pub commit_room : (kind : Kind) (fits : Bool) (p : Problem) (mode : Mode) (limit n : ℕ) (before after : Lent) {answer : PositionPcg} {work workAfter : WorkMemory} {place solution numbers : ℕ} → SolveHeld fits p mode limit (place_of kind) n before after answer work workAfter
     → place ≡ place_of kind → (fits ≡ true → numbers ≡ 27 * n) → (fits ≡ true → solution ≡ n) → CommitRoom place answer solution numbers
 unfolding AllPass
 commit_room kind fits p mode limit n before after held e rows long = record {
@@ -135,18 +125,13 @@ commit_room kind fits p mode limit n before after held e rows long = record {
   room = λ r a. let f = (accepted_tests fits p mode limit (place_of kind) n before after held.answered r a).0 in let w = rows f in let l = long f in omega arith;
 }
 
-pub committed_held : (kind : Kind) (numbers : List Float) {fits : Bool} {p : Problem} {mode : Mode} {limit n place : ℕ} {before : Lent}
-    {numbersAfter solution impulses centres : List Float} {answer : PositionPcg} {work workAfter : WorkMemory}
-    → place ≡ place_of kind → numbersAfter ≡ committed_by place answer numbers solution
-    → SolveHeld fits p mode limit (place_of kind) n before
-    (record { numbers = committed_by (place_of kind) answer numbers solution; solution = solution; impulses = impulses; centres = centres })
-    answer work workAfter
+pub committed_held : (kind : Kind) (numbers : List Float) {fits : Bool} {p : Problem} {mode : Mode} {limit n place : ℕ} {before : Lent} {numbersAfter solution impulses centres : List Float} {answer : PositionPcg} {work workAfter : WorkMemory} → place ≡ place_of kind → numbersAfter ≡ committed_by place answer numbers solution
+    → SolveHeld fits p mode limit (place_of kind) n before (record { numbers = committed_by (place_of kind) answer numbers solution; solution = solution; impulses = impulses; centres = centres }) answer work workAfter
     → SolveHeld fits p mode limit (place_of kind) n before (record { numbers = numbersAfter; solution = solution; impulses = impulses; centres = centres }) answer work workAfter
 committed_held kind numbers e h held = rw (h, e) held
 
 -- ---- the entry, of either kind; b is what the test of the lengths of what is lent beside the table answered
-module _ (kind : Kind) (s : Rules) (rows bodies : ℕ) (numbers : List Float) (words : List ℕ) (masses centres given : List Float)
-    (shift : Float) (mode : Mode) (limit : ℕ) (before : Lent) (named : List ℕ) (work : WorkMemory) (a b q : Bool) (e : b ≡ a) where
+module _ (kind : Kind) (s : Rules) (rows bodies : ℕ) (numbers : List Float) (words : List ℕ) (masses centres given : List Float) (shift : Float) (mode : Mode) (limit : ℕ) (before : Lent) (named : List ℕ) (work : WorkMemory) (a b q : Bool) (e : b ≡ a) where
   abbrev t : Table
   t = table_of rows bodies numbers words masses
 
@@ -167,8 +152,7 @@ module _ (kind : Kind) (s : Rules) (rows bodies : ℕ) (numbers : List Float) (w
     unfolding AllPass
     each_ruled r c = (passes_28 s t).0 (accepted_tests q p mode limit (place_of kind) rows before after held.answered r c).1.1.1.1.0
 
-    pub ruled_on : (n : ℕ) (after-named : List ℕ) → n ≡ rows → after-named ≡ named_by answer (rule_in s words) n named
-        → SolveRuled (a && q) s p mode limit (place_of kind) rows before after named after-named answer work workAfter
+    pub ruled_on : (n : ℕ) (after-named : List ℕ) → n ≡ rows → after-named ≡ named_by answer (rule_in s words) n named → SolveRuled (a && q) s p mode limit (place_of kind) rows before after named after-named answer work workAfter
     unfolding row_of words_of
     ruled_on n after-named en l =
         let passed : a ≡ true = sym e ∙ not-false b h in

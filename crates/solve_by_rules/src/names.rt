@@ -16,10 +16,7 @@ pub fn name_accepted(
 )
     requires rule_tolerances_in_bounds { (3 * length rule_tolerances.now ≤ length rule_words.now) × (length rule_tolerances.now ≤ 64) }
     requires naming_room { NamingRoom answer (length rule_numbers.old) (length words.now) }
-    ensures { rule_numbers.new
-        ≡ named_by answer
-        (rule_in (rules_in rule_words.now rule_tolerances.now) words.now)
-        (length rule_numbers.old) rule_numbers.old }
+    ensures { rule_numbers.new ≡ named_by answer (rule_in (rules_in rule_words.now rule_tolerances.now) words.now) (length rule_numbers.old) rule_numbers.old }
 {
     match answer {
         PositionPcg::Accepted(result) => {
@@ -39,10 +36,7 @@ pub fn name_ruled(
 )
     requires rule_tolerances_in_bounds { (3 * length rule_tolerances.now ≤ length rule_words.now) × (length rule_tolerances.now ≤ 64) }
     requires naming_ruled { NamingRuled answer (rules_in rule_words.now rule_tolerances.now) words.now (length rule_numbers.old) }
-    ensures { rule_numbers.new
-        ≡ named_by answer
-        (rule_in (rules_in rule_words.now rule_tolerances.now) words.now)
-        (length rule_numbers.old) rule_numbers.old }
+    ensures { rule_numbers.new ≡ named_by answer (rule_in (rules_in rule_words.now rule_tolerances.now) words.now) (length rule_numbers.old) rule_numbers.old }
 {
     match answer {
         PositionPcg::Accepted(result) => {

@@ -49,37 +49,12 @@ pub fn propose_by_rules(
     values: &mut [f64],
 ) -> PositionPcg
     requires rule_tolerances_in_bounds { 3 * length rule_tolerances.now ≤ length rule_words.now }
-    requires centres_len { (length centres.now ≡ 3 * placed_of kind bodies)
-        × (length new_centres.old ≡ 3 * placed_of kind bodies) × GivenRoom kind (length given.now) rows }
-    ensures { SolveHeld
-        (passes3 rows bodies mode numbers.entry.now words.now masses.now
-        solution.old impulses.old
-        (work_memory jacobians.old links.old tolerances.old diagonal.old
-        residual.old pending.old direction.old product.old
-        body_impulses.old pattern.old order.old values.old))
-        (solve_for kind rows bodies numbers.entry.now words.now masses.now
-        centres.now given.now
-        (rules_in rule_words.now rule_tolerances.now) shift)
-        (mode_of mode shift) limit (place_of kind) rows
-        record {
-          numbers = numbers.entry.now;
-          solution = solution.old;
-          impulses = impulses.old;
-          centres = new_centres.old;
-        }
-        record {
-          numbers = committed_by (place_of kind) result numbers.entry.now solution.new;
-          solution = solution.new;
-          impulses = impulses.new;
-          centres = new_centres.new;
-        }
-        result
-        (work_memory jacobians.old links.old tolerances.old diagonal.old
-        residual.old pending.old direction.old product.old
-        body_impulses.old pattern.old order.old values.old)
-        (work_memory jacobians.new links.new tolerances.new diagonal.new
-        residual.new pending.new direction.new product.new
-        body_impulses.new pattern.new order.new values.new) }
+    requires centres_len { (length centres.now ≡ 3 * placed_of kind bodies) × (length new_centres.old ≡ 3 * placed_of kind bodies) × GivenRoom kind (length given.now) rows }
+    ensures { SolveHeld (passes3 rows bodies mode numbers.entry.now words.now masses.now solution.old impulses.old (work_memory jacobians.old links.old tolerances.old diagonal.old residual.old pending.old direction.old product.old body_impulses.old pattern.old order.old values.old))
+        (solve_for kind rows bodies numbers.entry.now words.now masses.now centres.now given.now (rules_in rule_words.now rule_tolerances.now) shift) (mode_of mode shift) limit (place_of kind) rows
+        record { numbers = numbers.entry.now; solution = solution.old; impulses = impulses.old; centres = new_centres.old } record { numbers = committed_by (place_of kind) result numbers.entry.now solution.new; solution = solution.new; impulses = impulses.new; centres = new_centres.new } result
+        (work_memory jacobians.old links.old tolerances.old diagonal.old residual.old pending.old direction.old product.old body_impulses.old pattern.old order.old values.old)
+        (work_memory jacobians.new links.new tolerances.new diagonal.new residual.new pending.new direction.new product.new body_impulses.new pattern.new order.new values.new) }
 {
     let fits = counts_fit(rows, bodies, mode)
         & table_fits(

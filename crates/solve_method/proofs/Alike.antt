@@ -15,7 +15,8 @@ use Rattle.loops.proofs.Turned.{turned, unlike}
 use Rattle.binary64.specs.Order.{absolute}
 use Rattle.mass_operator.specs.System.{System}
 use Rattle.mass_operator.specs.Flat.{coefficients, product_of}
-use Rattle.recurrence.specs.Vectors.{dot_product_of, less_scaled}
+use Rattle.mass_operator.specs.Applied.{all_finite_of}
+use Rattle.recurrence.specs.Vectors.{dot_product_of, plus_scaled, less_scaled}
 use Rattle.recurrence.specs.Step.{Iterate, Carried, alpha_of, updated_of, advance_of, renew_from}
 use Rattle.position.specs.Residual.{meets_of}
 use Rattle.steps.specs.Solve.{turn}
@@ -54,16 +55,8 @@ module _ (s : System) (z z' : List Float → Run (List Float) ℕ) (f g : ℕ �
       on_step v l = rw (meets_same v.residual, agree v.residual l)
 
       by : (r : Run Iterate ℕ) → advance_of s t.0 t.1 ≡ r
-          → on {R = Turn} r
-          (λ v.
-          check (meets_of f v.residual s.rows) (ended (going (k + 1, v)))
-          (on (renew_from (z v.residual) v.residual t.1) (λ c. going (v, c)) (λ n. ended (ended n))))
-          (λ n. ended (ended n))
-          ≡ on r
-          (λ v.
-          check (meets_of g v.residual s.rows) (ended (going (k + 1, v)))
-          (on (renew_from (z' v.residual) v.residual t.1) (λ c. going (v, c)) (λ n. ended (ended n))))
-          (λ n. ended (ended n))
+          → on {R = Turn} r (λ v. check (meets_of f v.residual s.rows) (ended (going (k + 1, v))) (on (renew_from (z v.residual) v.residual t.1) (λ c. going (v, c)) (λ n. ended (ended n)))) (λ n. ended (ended n))
+          ≡ on r (λ v. check (meets_of g v.residual s.rows) (ended (going (k + 1, v))) (on (renew_from (z' v.residual) v.residual t.1) (λ c. going (v, c)) (λ n. ended (ended n)))) (λ n. ended (ended n))
       by (going v) e = on_step v (advance_long s t.0 v t.1 e ∙ long)
       by (ended n) e = refl
 
@@ -71,37 +64,25 @@ module _ (s : System) (z z' : List Float → Run (List Float) ℕ) (f g : ℕ �
   unfolding turn on check
   long_turn k t u long = by (advance_of s t.0 t.1) refl
     where
-      renewed : (v : Iterate) (r : Run Carried ℕ) → length v.residual ≡ s.rows
-          → on {R = Turn} r (λ c. going (v, c)) (λ n. ended (ended n)) ≡ going u → length u.0.residual ≡ s.rows
+      renewed : (v : Iterate) (r : Run Carried ℕ) → length v.residual ≡ s.rows → on {R = Turn} r (λ c. going (v, c)) (λ n. ended (ended n)) ≡ going u → length u.0.residual ≡ s.rows
       renewed v (going c) l e = let q : v ≡ u.0 = cc in rw (← q) l
       renewed v (ended n) l e = unlike (ended n) u e
 
-      tested : (v : Iterate) (b : Bool) (r : Run Carried ℕ) → length v.residual ≡ s.rows
-          → check b (ended (going (k + 1, v))) (on {R = Turn} r (λ c. going (v, c)) (λ n. ended (ended n))) ≡ going u
-          → length u.0.residual ≡ s.rows
+      tested : (v : Iterate) (b : Bool) (r : Run Carried ℕ) → length v.residual ≡ s.rows → check b (ended (going (k + 1, v))) (on {R = Turn} r (λ c. going (v, c)) (λ n. ended (ended n))) ≡ going u → length u.0.residual ≡ s.rows
       tested v true r l e = unlike (going (k + 1, v)) u e
       tested v false r l e = renewed v r l e
 
       by : (r : Run Iterate ℕ) → advance_of s t.0 t.1 ≡ r
-          → on {R = Turn} r
-          (λ v.
-          check (meets_of g v.residual s.rows) (ended (going (k + 1, v)))
-          (on (renew_from (z' v.residual) v.residual t.1) (λ c. going (v, c)) (λ n. ended (ended n))))
-          (λ n. ended (ended n)) ≡ going u
+          → on {R = Turn} r (λ v. check (meets_of g v.residual s.rows) (ended (going (k + 1, v))) (on (renew_from (z' v.residual) v.residual t.1) (λ c. going (v, c)) (λ n. ended (ended n)))) (λ n. ended (ended n)) ≡ going u
           → length u.0.residual ≡ s.rows
       by (going v) e q = tested v (meets_of g v.residual s.rows) (renew_from (z' v.residual) v.residual t.1) (advance_long s t.0 v t.1 e ∙ long) q
       by (ended n) e q = unlike (ended n) u q
 
-  pub same_turns : (v : Iterate) (c : Carried) → length v.residual ≡ s.rows → (k : ℕ)
-      → turns (turn (steps_by z (advance_of s) s.rows f)) (v, c) k ≡ turns (turn (steps_by z' (advance_of s) s.rows g)) (v, c) k
+  pub same_turns : (v : Iterate) (c : Carried) → length v.residual ≡ s.rows → (k : ℕ) → turns (turn (steps_by z (advance_of s) s.rows f)) (v, c) k ≡ turns (turn (steps_by z' (advance_of s) s.rows g)) (v, c) k
   unfolding turns on
   same_turns v c long zero = refl
-  same_turns v c long (suc k) = ap (λ (r : Turn). next r (turn (steps_by z (advance_of s) s.rows f) k)) (same_turns v c long k) ∙ by
-      (turns (turn (steps_by z' (advance_of s) s.rows g)) (v, c) k) refl
+  same_turns v c long (suc k) = ap (λ (r : Turn). next r (turn (steps_by z (advance_of s) s.rows f) k)) (same_turns v c long k) ∙ by (turns (turn (steps_by z' (advance_of s) s.rows g)) (v, c) k) refl
     where
-      by : (r : Turn) → turns (turn (steps_by z' (advance_of s) s.rows g)) (v, c) k ≡ r
-          → next r (turn (steps_by z (advance_of s) s.rows f) k) ≡ next r (turn (steps_by z' (advance_of s) s.rows g) k)
-      by (going t) e = same_turn k t
-          (turned (turn (steps_by z' (advance_of s) s.rows g)) (v, c) k (λ _ u. length u.0.residual ≡ s.rows) long
-          (λ i t u _ l q. long_turn i t u l q) k (omega arith) t e)
+      by : (r : Turn) → turns (turn (steps_by z' (advance_of s) s.rows g)) (v, c) k ≡ r → next r (turn (steps_by z (advance_of s) s.rows f) k) ≡ next r (turn (steps_by z' (advance_of s) s.rows g) k)
+      by (going t) e = same_turn k t (turned (turn (steps_by z' (advance_of s) s.rows g)) (v, c) k (λ _ u. length u.0.residual ≡ s.rows) long (λ i t u _ l q. long_turn i t u l q) k (omega arith) t e)
       by (ended a) e = refl

@@ -139,8 +139,7 @@ module _ (p : Problem) (mode : Mode) where
       begin = begin_numbers;
       first = λ v n b. following_numbers v b n;
       advance = advance_numbers Advanced advanced.0 advanced.1 (system_of p.table);
-      renew = λ u v c n b g. renew_numbers Renewed renewed.0 renewed.1 _ _ c
-          (z_numbers Renewed renewed.1 mode _ _ _ _ (factor_there p.factor_first (begun_factor u b) (first_factor u g))) n;
+      renew = λ u v c n b g. renew_numbers Renewed renewed.0 renewed.1 _ _ c (z_numbers Renewed renewed.1 mode _ _ _ _ (factor_there p.factor_first (begun_factor u b) (first_factor u g))) n;
       finish = finish_numbers p.table p.accumulated p.centres;
     }
 
@@ -149,8 +148,7 @@ module _ (p : Problem) (mode : Mode) where
       unfolding once
       nought = go (stands 0 (order_of (places_of p))) refl apart.each
         where
-          go : (b : Bool) → stands 0 (order_of (places_of p)) ≡ b → cond b false (once (order_of (places_of p))) ≡ true
-              → (stands 0 (order_of (places_of p)) ≡ false) × (once (order_of (places_of p)) ≡ true)
+          go : (b : Bool) → stands 0 (order_of (places_of p)) ≡ b → cond b false (once (order_of (places_of p))) ≡ true → (stands 0 (order_of (places_of p)) ≡ false) × (once (order_of (places_of p)) ≡ true)
           go true e h = absurd (false≢true h)
           go false e h = (e, h)
 

@@ -27,11 +27,7 @@ module _ (P : ℕ → Type 0) (p14 : P 14) (p16 : P 16) where
   unfolding renew_from beta_of turned_of
   renew_numbers z residual c q =
       among_next P _ _ q
-      (λ _ _.
-      among_next P _ _ (product_numbers _)
-      (λ _ _.
-      among_next P _ _ (among_next P _ _ (among_test P _ 16 p16) (λ _ _. among_going P _))
-      (λ _ _. among_next P _ _ (among_test P _ 16 p16) (λ _ _. among_going P _))))
+      (λ _ _. among_next P _ _ (product_numbers _) (λ _ _. among_next P _ _ (among_next P _ _ (among_test P _ 16 p16) (λ _ _. among_going P _)) (λ _ _. among_next P _ _ (among_test P _ 16 p16) (λ _ _. among_going P _))))
 
 -- ---- 15 and 16: a step
 module _ (P : ℕ → Type 0) (p15 : P 15) (p16 : P 16) where
@@ -50,8 +46,7 @@ Seventeen n = n ≡ 17
 pub finish_numbers : (t : Table) (accumulated : ℕ → Float) (c : Centres) (count : ℕ) (v : Iterate) → Among (λ n. n ≡ 17) (finish_of t accumulated c count v)
 unfolding finish_of
 finish_numbers t accumulated c zero v = among_going Seventeen _
-finish_numbers t accumulated c (suc count) v = among_next Seventeen _ _ (tested _)
-    (λ _ _. among_next Seventeen _ _ (tested _) (λ _ _. among_next Seventeen _ _ (tested _) (λ _ _. among_going Seventeen _)))
+finish_numbers t accumulated c (suc count) v = among_next Seventeen _ _ (tested _) (λ _ _. among_next Seventeen _ _ (tested _) (λ _ _. among_next Seventeen _ _ (tested _) (λ _ _. among_going Seventeen _)))
   where
     tested : (b : Bool) → Among Seventeen (test b 17)
     tested b = among_test Seventeen b 17 refl

@@ -53,7 +53,6 @@ module _ (kind : Kind) (list : List ℕ) where
     unfolding jobs_of
     jobs_more {k} {c} {r} h l e = record { within = omega arith; counted = rw add-one (e ∙ ap (next_of kind list) h.counted) }
 
-    pub jobs_end : {k : ℕ} {c : Count} (before : Count) (b : Bool) → b ≡ begins_at list before.end → not b ≡ false
-        → n ≡ half_at list (before.end + 8) → s ≡ from_of before (before.end + 16) → Jobs k c → n ≤ k → c ≡ list_of kind list before
+    pub jobs_end : {k : ℕ} {c : Count} (before : Count) (b : Bool) → b ≡ begins_at list before.end → not b ≡ false → n ≡ half_at list (before.end + 8) → s ≡ from_of before (before.end + 16) → Jobs k c → n ≤ k → c ≡ list_of kind list before
     unfolding list_of
     jobs_end {k} {c} before b q t e f h l = let z : k ≡ n = omega (arith, h.within) in h.counted ∙ ap (jobs_of kind list s) z ∙ rw (← q, not-false b t, e, f)

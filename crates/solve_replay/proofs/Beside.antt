@@ -41,8 +41,7 @@ module _ (kind : Kind) {n b w v : ℕ} (p : w ≡ n) (q : v ≡ b) where
   beside_unpacked list at e = e ∙ rw (p, q)
 
 -- three times as many numbers as bodies with a centre
-pub centres_taken : (kind : Kind) (b : ℕ) (beside : List Float) {three w placed : ℕ} → three ≡ 3 * w → w ≡ placed → placed ≡ placed_of kind b
-    → take three beside ≡ centres_of kind b beside
+pub centres_taken : (kind : Kind) (b : ℕ) (beside : List Float) {three w placed : ℕ} → three ≡ 3 * w → w ≡ placed → placed ≡ placed_of kind b → take three beside ≡ centres_of kind b beside
 centres_taken kind b beside e f g = rw (e, f, g)
 
 -- ---- the ways of `unpack_beside`

@@ -26,8 +26,7 @@ use Rattle.solve_replay.specs.declared.answer.Seen.{Seen}
 -- ---- the groups, one straight after the other
 module _ (list : List ℕ) (k : ℕ) where
   -- as it is unpacked into memory that is lent as zeros; w stands for n
-  pub unpacked : (at : ℕ) {n w end : ℕ} {a₀ a : List ℕ} → a₀ ≡ replicate (k * n) 0 → w ≡ n → (end, a) ≡ group_of list at k a₀ w
-      → (end, a) ≡ group_of list at k (replicate (k * n) 0) n
+  pub unpacked : (at : ℕ) {n w end : ℕ} {a₀ a : List ℕ} → a₀ ≡ replicate (k * n) 0 → w ≡ n → (end, a) ≡ group_of list at k a₀ w → (end, a) ≡ group_of list at k (replicate (k * n) 0) n
   unpacked at ea ew e = e ∙ rw (ea, ew)
 
   -- from where the one before it ends
@@ -45,11 +44,9 @@ abbrev words_of : {end : ℕ} {a : List ℕ} {g : ℕ × List ℕ} → (end, a) 
 words_of = ap (λ (x : ℕ × List ℕ). x.1)
 
 -- ---- `answers_seen`
-pub accepted_shown : (kind : Kind) (list : List ℕ) (at : ℕ) (h : Header) (rows : List ℕ) (r : PositionPcgResult) (l : Lent)
-    {place bodiesAt centresAt end : ℕ} {a b c : List ℕ} {f : ℕ} {s t u v k : Bool}
+pub accepted_shown : (kind : Kind) (list : List ℕ) (at : ℕ) (h : Header) (rows : List ℕ) (r : PositionPcgResult) (l : Lent) {place bodiesAt centresAt end : ℕ} {a b c : List ℕ} {f : ℕ} {s t u v k : Bool}
     → place ≡ place_of kind → (bodiesAt, a) ≡ answer_group list at h.rows → (centresAt, b) ≡ impulse_group list bodiesAt h.bodies → (end, c) ≡ centre_group list centresAt (placed_of kind h.bodies)
-    → f ≡ flag_of r.converged → s ≡ same_result h r → t ≡ same_answers place l.solution l.numbers a → u ≡ same_doubles l.impulses b
-    → v ≡ same_doubles l.centres c → k ≡ kept_numbers place true l.numbers rows
+    → f ≡ flag_of r.converged → s ≡ same_result h r → t ≡ same_answers place l.solution l.numbers a → u ≡ same_doubles l.impulses b → v ≡ same_doubles l.centres c → k ≡ kept_numbers place true l.numbers rows
     → record { outcome = 1 + f; same = ((((s && t) && u) && v) && k) && leb end (length list); end = end } ≡ accepted_seen kind list at h rows r l
 unfolding accepted_seen
 accepted_shown kind list at h rows r l ep e f g ef es et eu ev ek =
@@ -58,33 +55,25 @@ accepted_shown kind list at h rows r l ep e f g ef es et eu ev ek =
     rw (ef, es, et, eu, ev, ek, ep, words_of e, words_of p, words_of q, end_of q)
 
 -- ---- `solved_seen`
-module _ (kind : Kind) (list : List ℕ) (at : ℕ) (h : Header) (rows words : List ℕ) (masses centres beside : List Float) (before : Lent)
-    (tolerance : JointTolerance) (named : ℕ) (answer : PositionPcg) (after : Lent) (r : Seen)
-    (t : tolerance ≡ tolerance_in h) (l : named ≡ h.rows) (p : centres ≡ centres_of kind h.bodies beside)
-    (e : solved_of kind h (two_rules tolerance) named words masses centres beside before ≡ record { answer = answer; lent = after }) where
+module _ (kind : Kind) (list : List ℕ) (at : ℕ) (h : Header) (rows words : List ℕ) (masses centres beside : List Float) (before : Lent) (tolerance : JointTolerance) (named : ℕ) (answer : PositionPcg) (after : Lent) (r : Seen)
+    (t : tolerance ≡ tolerance_in h) (l : named ≡ h.rows) (p : centres ≡ centres_of kind h.bodies beside) (e : solved_of kind h (two_rules tolerance) named words masses centres beside before ≡ record { answer = answer; lent = after }) where
   shown : outcome_seen kind list at h rows answer after ≡ solved_seen kind list at h rows words masses beside before
   unfolding solved_seen
   shown = ap (λ (o : Outcome). outcome_seen kind list at h rows o.answer o.lent)
-      (sym e ∙ ap (λ (k : ℕ). solved_of kind h (two_rules tolerance) k words masses centres beside before) l ∙ ap
-      (λ (x : JointTolerance). solved_of kind h (two_rules x) h.rows words masses centres beside before) t ∙ ap
-      (λ (c : List Float). solved_of kind h (two_rules (tolerance_in h)) h.rows words masses c beside before) p)
+      (sym e ∙ ap (λ (k : ℕ). solved_of kind h (two_rules tolerance) k words masses centres beside before) l ∙ ap (λ (x : JointTolerance). solved_of kind h (two_rules x) h.rows words masses centres beside before) t ∙ ap (λ (c : List Float). solved_of kind h (two_rules (tolerance_in h)) h.rows words masses c beside before) p)
 
-  pub solved_accepted : (result : PositionPcgResult) → answer ≡ answers.Accepted result → r ≡ accepted_seen kind list at h rows result after
-      → r ≡ solved_seen kind list at h rows words masses beside before
+  pub solved_accepted : (result : PositionPcgResult) → answer ≡ answers.Accepted result → r ≡ accepted_seen kind list at h rows result after → r ≡ solved_seen kind list at h rows words masses beside before
   unfolding outcome_seen
   solved_accepted result a q = q ∙ ap (λ (x : PositionPcg). outcome_seen kind list at h rows x after) (sym a) ∙ shown
 
-  pub solved_refused : (number : ℕ) → answer ≡ answers.Refused number → r ≡ refused_seen kind list at h rows number after
-      → r ≡ solved_seen kind list at h rows words masses beside before
+  pub solved_refused : (number : ℕ) → answer ≡ answers.Refused number → r ≡ refused_seen kind list at h rows number after → r ≡ solved_seen kind list at h rows words masses beside before
   unfolding outcome_seen
   solved_refused number a q = q ∙ ap (λ (x : PositionPcg). outcome_seen kind list at h rows x after) (sym a) ∙ shown
 
 -- ---- `read_table`
-pub table_read : (kind : Kind) {list : List ℕ} {at n b massesAt besideAt end : ℕ} {rows massWords besideWords : List ℕ} {i : ℕ}
-    {numbers : List Float} {j : ℕ} {words : List ℕ} {k : ℕ} {masses : List Float} {l : ℕ} {beside : List Float}
+pub table_read : (kind : Kind) {list : List ℕ} {at n b massesAt besideAt end : ℕ} {rows massWords besideWords : List ℕ} {i : ℕ} {numbers : List Float} {j : ℕ} {words : List ℕ} {k : ℕ} {masses : List Float} {l : ℕ} {beside : List Float}
     → (massesAt, rows) ≡ row_group list at n → (besideAt, massWords) ≡ mass_group list massesAt b → (end, besideWords) ≡ beside_group kind list besideAt n b
-    → numbers ≡ row_numbers rows i → i ≡ 27 * n → words ≡ row_words rows j → j ≡ 8 * n → masses ≡ doubles_of massWords k → k ≡ 10 * b → beside
-    ≡ doubles_of besideWords l → l ≡ beside_size kind n b → end < 3000000000
+    → numbers ≡ row_numbers rows i → i ≡ 27 * n → words ≡ row_words rows j → j ≡ 8 * n → masses ≡ doubles_of massWords k → k ≡ 10 * b → beside ≡ doubles_of besideWords l → l ≡ beside_size kind n b → end < 3000000000
     → TableRead kind list at n b end rows numbers words masses beside
 table_read kind {list} {n = n} {b = b} e f g en ln ew lw em lm ec lc near =
     let p = following list 10 b (end_of e) f in
@@ -93,8 +82,7 @@ table_read kind {list} {n = n} {b = b} e f g en ln ew lw em lm ec lc near =
 
 -- ---- `table_seen`
 pub table_shown : (kind : Kind) (h : Header) {list : List ℕ} {at end : ℕ} {rows : List ℕ} {numbers : List Float} {words : List ℕ} {masses beside solution impulses newCentres : List Float} {r : Seen}
-    → TableRead kind list at h.rows h.bodies end rows numbers words masses beside → solution ≡ replicate h.rows marked → impulses ≡
-    replicate (6 * h.bodies) marked → newCentres ≡ replicate (3 * placed_of kind h.bodies) marked
+    → TableRead kind list at h.rows h.bodies end rows numbers words masses beside → solution ≡ replicate h.rows marked → impulses ≡ replicate (6 * h.bodies) marked → newCentres ≡ replicate (3 * placed_of kind h.bodies) marked
     → r ≡ solved_seen kind list end h rows words masses beside (record { numbers = numbers; solution = solution; impulses = impulses; centres = newCentres }) → r ≡ table_seen kind list at h
 unfolding table_seen
 table_shown kind h t es ei ec e = e ∙ rw (t.numbered, t.worded, t.massed, t.placed, t.ended, t.rowed, es, ei, ec)

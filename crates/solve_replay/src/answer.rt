@@ -57,19 +57,9 @@ fn answers_seen(
     centre_words: &mut [u64],
 ) -> Seen
     requires at_bound { (at < 3000000000) × (header.rows ≤ 513) × (header.bodies ≤ 257) }
-    requires rows_len { (length rows.now ≡ 35 * header.rows) × (length numbers.now ≡ 27 * header.rows)
-        × (length solution.now ≡ header.rows) × (length impulses.now ≡ 6 * header.bodies)
-        × (length new_centres.now ≡ 3 * placed_of kind header.bodies) }
-    requires answers_value { (answers.old ≡ replicate (2 * header.rows) 0) × (body_words.old ≡ replicate (6 * header.bodies) 0)
-        × (centre_words.old ≡ replicate (3 * placed_of kind header.bodies) 0) }
-    ensures { result
-        ≡ accepted_seen kind list.now at header rows.now res
-        record {
-          numbers = numbers.entry.now;
-          solution = solution.now;
-          impulses = impulses.now;
-          centres = new_centres.now;
-        } }
+    requires rows_len { (length rows.now ≡ 35 * header.rows) × (length numbers.now ≡ 27 * header.rows) × (length solution.now ≡ header.rows) × (length impulses.now ≡ 6 * header.bodies) × (length new_centres.now ≡ 3 * placed_of kind header.bodies) }
+    requires answers_value { (answers.old ≡ replicate (2 * header.rows) 0) × (body_words.old ≡ replicate (6 * header.bodies) 0) × (centre_words.old ≡ replicate (3 * placed_of kind header.bodies) 0) }
+    ensures { result ≡ accepted_seen kind list.now at header rows.now res record { numbers = numbers.entry.now; solution = solution.now; impulses = impulses.now; centres = new_centres.now } }
 {
     let n = wide(header.rows);
     let b = wide(header.bodies);
@@ -103,17 +93,8 @@ pub fn accepted_seen(
     new_centres: &[f64],
 ) -> Seen
     requires at_bound { (at < 3000000000) × (header.rows ≤ 513) × (header.bodies ≤ 257) }
-    requires rows_len { (length rows.now ≡ 35 * header.rows) × (length numbers.now ≡ 27 * header.rows)
-        × (length solution.now ≡ header.rows) × (length impulses.now ≡ 6 * header.bodies)
-        × (length new_centres.now ≡ 3 * placed_of kind header.bodies) }
-    ensures { result
-        ≡ accepted_seen kind list.now at header rows.now res
-        record {
-          numbers = numbers.entry.now;
-          solution = solution.now;
-          impulses = impulses.now;
-          centres = new_centres.now;
-        } }
+    requires rows_len { (length rows.now ≡ 35 * header.rows) × (length numbers.now ≡ 27 * header.rows) × (length solution.now ≡ header.rows) × (length impulses.now ≡ 6 * header.bodies) × (length new_centres.now ≡ 3 * placed_of kind header.bodies) }
+    ensures { result ≡ accepted_seen kind list.now at header rows.now res record { numbers = numbers.entry.now; solution = solution.now; impulses = impulses.now; centres = new_centres.now } }
 {
     let mut answers = answer_room();
     let mut body_words = body_word_room();
@@ -153,17 +134,8 @@ pub fn refused_seen(
     new_centres: &[f64],
 ) -> Seen
     requires rows_bound { (header.rows ≤ 513) × (header.bodies ≤ 257) }
-    requires rows_len { (length rows.now ≡ 35 * header.rows) × (length numbers.now ≡ 27 * header.rows)
-        × (length solution.now ≡ header.rows) × (length impulses.now ≡ 6 * header.bodies)
-        × (length new_centres.now ≡ 3 * placed_of kind header.bodies) }
-    ensures { result
-        ≡ refused_seen kind list.now at header rows.now number
-        record {
-          numbers = numbers.entry.now;
-          solution = solution.now;
-          impulses = impulses.now;
-          centres = new_centres.now;
-        } }
+    requires rows_len { (length rows.now ≡ 35 * header.rows) × (length numbers.now ≡ 27 * header.rows) × (length solution.now ≡ header.rows) × (length impulses.now ≡ 6 * header.bodies) × (length new_centres.now ≡ 3 * placed_of kind header.bodies) }
+    ensures { result ≡ refused_seen kind list.now at header rows.now number record { numbers = numbers.entry.now; solution = solution.now; impulses = impulses.now; centres = new_centres.now } }
 {
     Seen {
         outcome: 0,

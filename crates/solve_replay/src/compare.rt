@@ -56,16 +56,14 @@ pub fn kept_numbers(place: usize, accepted: bool, numbers: &[f64], words: &[u64]
 
 // Of each row, two words: the solution and the new accumulated number.
 fn same_answer(place: usize, solution: &[f64], numbers: &[f64], words: &[u64], i: usize) -> bool
-    requires { (i < length solution.now) × (length numbers.now ≡ 27 * length solution.now)
-        × (2 * length solution.now ≤ length words.now) × (length solution.now ≤ 513) × (place < 27) }
+    requires { (i < length solution.now) × (length numbers.now ≡ 27 * length solution.now) × (2 * length solution.now ≤ length words.now) × (length solution.now ≤ 513) × (place < 27) }
     ensures { result ≡ same_answer place solution.now numbers.now words.now i }
 {
     same_double(solution[i], words[2 * i]) & same_double(numbers[27 * i + place], words[2 * i + 1])
 }
 
 pub fn same_answers(place: usize, solution: &[f64], numbers: &[f64], words: &[u64]) -> bool
-    requires { (length numbers.now ≡ 27 * length solution.now) × (2 * length solution.now ≤ length words.now)
-        × (length solution.now ≤ 513) × (place < 27) }
+    requires { (length numbers.now ≡ 27 * length solution.now) × (2 * length solution.now ≤ length words.now) × (length solution.now ≤ 513) × (place < 27) }
     ensures { result ≡ same_answers place solution.now numbers.now words.now }
 {
     let mut i = 0;

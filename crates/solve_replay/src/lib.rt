@@ -4,7 +4,7 @@ pub mod compare; // compare.rt: number by number
 pub mod header; // header.rt: the first 64 bytes of a job
 pub mod replay; // replay.rt: a job, read and solved
 pub mod room; // room.rt: memory for the largest job
-mod table; // table.rt: its rows, masses, and centres or residual
+pub mod table; // table.rt: its rows, masses, and centres or residual
 
 pub use answer::Seen;
 pub use replay::job_seen;

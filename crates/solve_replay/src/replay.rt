@@ -39,19 +39,8 @@ fn solved_seen(
     new_centres: &mut [f64],
 ) -> Seen
     requires at_bound { (at < 3000000000) × (header.rows ≤ 513) × (header.bodies ≤ 257) }
-    requires rows_len { (length rows.now ≡ 35 * header.rows) × (length numbers.old ≡ 27 * header.rows)
-        × (length solution.old ≡ header.rows) × (length impulses.old ≡ 6 * header.bodies)
-        × (length new_centres.old ≡ 3 * placed_of kind header.bodies)
-        × (length beside.now ≡ beside_size kind header.rows header.bodies) }
-    ensures { result
-        ≡ solved_seen kind list.now at header rows.now words.now masses.now
-        beside.now
-        record {
-          numbers = numbers.entry.now;
-          solution = solution.old;
-          impulses = impulses.old;
-          centres = new_centres.old;
-        } }
+    requires rows_len { (length rows.now ≡ 35 * header.rows) × (length numbers.old ≡ 27 * header.rows) × (length solution.old ≡ header.rows) × (length impulses.old ≡ 6 * header.bodies) × (length new_centres.old ≡ 3 * placed_of kind header.bodies) × (length beside.now ≡ beside_size kind header.rows header.bodies) }
+    ensures { result ≡ solved_seen kind list.now at header rows.now words.now masses.now beside.now record { numbers = numbers.entry.now; solution = solution.old; impulses = impulses.old; centres = new_centres.old } }
 {
     let tolerance = tolerance_in(header);
     let mut rule_numbers: [u32; 513] = [0; 513];
@@ -122,11 +111,8 @@ fn table_seen(
     beside: &mut [f64],
 ) -> Seen
     requires at_bound { (at < 2000000000) × (header.rows ≤ 513) × (header.bodies ≤ 257) }
-    requires numbers_len { (length numbers.old ≡ 27 * header.rows) × (length words.old ≡ 8 * header.rows)
-        × (length masses.old ≡ 10 * header.bodies)
-        × (length beside.old ≡ beside_size kind header.rows header.bodies) }
-    requires rows_value { (rows.old ≡ replicate (35 * header.rows) 0) × (mass_words.old ≡ replicate (10 * header.bodies) 0)
-        × (beside_words.old ≡ replicate (beside_size kind header.rows header.bodies) 0) }
+    requires numbers_len { (length numbers.old ≡ 27 * header.rows) × (length words.old ≡ 8 * header.rows) × (length masses.old ≡ 10 * header.bodies) × (length beside.old ≡ beside_size kind header.rows header.bodies) }
+    requires rows_value { (rows.old ≡ replicate (35 * header.rows) 0) × (mass_words.old ≡ replicate (10 * header.bodies) 0) × (beside_words.old ≡ replicate (beside_size kind header.rows header.bodies) 0) }
     ensures { result ≡ table_seen kind list.now at header }
 {
     let mut solution = solution_room();

@@ -72,13 +72,9 @@ pub fn read_table(
     beside: &mut [f64],
 ) -> usize
     requires at_bound { (at < 2000000000) × (header.rows ≤ 513) × (header.bodies ≤ 257) }
-    requires numbers_len { (length numbers.old ≡ 27 * header.rows) × (length words.old ≡ 8 * header.rows)
-        × (length masses.old ≡ 10 * header.bodies)
-        × (length beside.old ≡ beside_size kind header.rows header.bodies) }
-    requires rows_value { (rows.old ≡ replicate (35 * header.rows) 0) × (mass_words.old ≡ replicate (10 * header.bodies) 0)
-        × (beside_words.old ≡ replicate (beside_size kind header.rows header.bodies) 0) }
-    ensures { TableRead kind list.now at header.rows header.bodies result rows.new
-        numbers.new words.new masses.new beside.new }
+    requires numbers_len { (length numbers.old ≡ 27 * header.rows) × (length words.old ≡ 8 * header.rows) × (length masses.old ≡ 10 * header.bodies) × (length beside.old ≡ beside_size kind header.rows header.bodies) }
+    requires rows_value { (rows.old ≡ replicate (35 * header.rows) 0) × (mass_words.old ≡ replicate (10 * header.bodies) 0) × (beside_words.old ≡ replicate (beside_size kind header.rows header.bodies) 0) }
+    ensures { TableRead kind list.now at header.rows header.bodies result rows.new numbers.new words.new masses.new beside.new }
 {
     let n = wide(header.rows);
     let b = wide(header.bodies);

@@ -119,13 +119,11 @@ module _ {starts columns : List ℕ} {i a b : ℕ} (row : Row starts columns i a
   kept_before values p x p1 p2 l k h =
       rw (numbers_set row values p x p1 p2 (omega (arith, row.inside)), ne_eqb k (get_or columns p 0) (λ e. omega arith), eq-eqb i i refl)
 
-  same_before : (values values' : List Float) (p : ℕ) → a ≤ p → p < b → length values ≡ length columns
-      → values' ≡ set values p (get_or values' p nan) → (k : ℕ) → k < get_or columns p 0
+  same_before : (values values' : List Float) (p : ℕ) → a ≤ p → p < b → length values ≡ length columns → values' ≡ set values p (get_or values' p nan) → (k : ℕ) → k < get_or columns p 0
       → plain (less_turn (numbers starts columns values') i i) k ≡ plain (less_turn (numbers starts columns values) i i) k
   unfolding plain less_turn
   same_before values values' p p1 p2 l e k lk =
-      let w : numbers starts columns values' i k ≡ numbers starts columns values i k = ap (λ (v : List Float). numbers starts columns v i k)
-      e ∙ kept_before values p (get_or values' p nan) p1 p2 l k lk in
+      let w : numbers starts columns values' i k ≡ numbers starts columns values i k = ap (λ (v : List Float). numbers starts columns v i k) e ∙ kept_before values p (get_or values' p nan) p1 p2 l k lk in
       fun_ext (λ v. rw w)
 
   -- the factor at p is written, and its square subtracted
@@ -218,8 +216,7 @@ module _ {starts columns : List ℕ} {i a b : ℕ} (row : Row starts columns i a
         (check_fail _ _ _ et h refl)
 
 -- what `factor_at` writes, read back
-pub written_there : {starts columns : List ℕ} {i a b : ℕ} → Row starts columns i a b → (values values' : List Float) (p : ℕ) (x : Float)
-    → a ≤ p → p < b → length values ≡ length columns
+pub written_there : {starts columns : List ℕ} {i a b : ℕ} → Row starts columns i a b → (values values' : List Float) (p : ℕ) (x : Float) → a ≤ p → p < b → length values ≡ length columns
     → values' ≡ set values p x → values' ≡ set values p (get_or values' p nan)
 written_there row values values' p x p1 p2 l e = let h : get_or values' p nan ≡ x = rw e (get_or-set_same values p x nan (omega (arith, row.inside))) in rw h e
 

@@ -60,8 +60,8 @@ row_of starts columns i a b k h p q = rw (p, q) (record { kept = k; one = h; fro
 
 module _ {starts columns : List ℕ} {i a b : ℕ} (row : Row starts columns i a b) where
   -- a place is in one row only
-  pub one_row_lem : (x p : ℕ) → a ≤ p → p < b → start starts x ≤ p → p < start starts (x + 1) → x ≡ i
-  one_row_lem x p p1 p2 p3 p4 = by_order (dec_le (x + 1) i) (dec_le (i + 1) x)
+  pub one_row : (x p : ℕ) → a ≤ p → p < b → start starts x ≤ p → p < start starts (x + 1) → x ≡ i
+  one_row x p p1 p2 p3 p4 = by_order (dec_le (x + 1) i) (dec_le (i + 1) x)
     where
       known : Dec (length starts ≤ x + 1) → x + 1 < length starts
       known (yes g) = absurd (omega (arith, get_or-eq_default starts 0 {n = x + 1} g))
@@ -97,7 +97,7 @@ module _ {starts columns : List ℕ} {i a b : ℕ} (row : Row starts columns i a
 
       apart : (y z q : ℕ) → (y ≡ i → z ≡ get_or columns p 0 → ⊥) → place y z ≡ some q → q ≡ p → ⊥
       apart y z q g f u = let w = seek_found columns z (start starts y) (start starts (y + 1) - start starts y) q f in
-          g (one_row_lem y p p1 p2 (omega (arith, w.0)) (omega (arith, w.1.0))) (cc w.1.1)
+          g (one_row y p p1 p2 (omega (arith, w.0)) (omega (arith, w.1.0))) (cc w.1.1)
 
       at : (y z : ℕ) (s : Bool) → eqb y i ≡ s → (t : Bool) → eqb z (get_or columns p 0) ≡ t
           → pick (set values p x) (place y z) ≡ cond (eqb y i && eqb z (get_or columns p 0)) (some x) (pick values (place y z))

@@ -216,11 +216,9 @@ pub fn factor(
     requires at_most { AtMost marks.old 0 }
     ensures pivots_value { factor_run (numbers starts.now columns.now values.old) pivots.old
         ≡ factor_out result (numbers starts.now columns.now values.new) pivots.new }
-    ensures pivots_value_2 { or_thirteen
-        (factor_run (numbers starts.now columns.now values.old) pivots.old)
+    ensures pivots_value_2 { or_thirteen (factor_run (numbers starts.now columns.now values.old) pivots.old)
         ≡ factored_out result (numbers starts.now columns.now values.new) pivots.new }
-    ensures factor_free { FactorFree (start starts.now (length pivots.old)) values.old
-        values.new marks.old marks.new }
+    ensures factor_free { FactorFree (start starts.now (length pivots.old)) values.old values.new marks.old marks.new }
 {
     let n = pivots.len();
     let mut i = 0;

@@ -66,8 +66,7 @@ module _ {S C F G : Type 0} (m : Method S C F) (n : Method S C G) (P : S → Typ
 
 module _ {S C F G : Type 0} (m : Method S C F) (n : Method S C G) (P : S → Type 0) (f : F → G) where
   -- the parts after step 0 need agree only where there is a step 0
-  pub solve_alike : (limit : ℕ) → n.opening limit ≡ m.opening limit → n.begin ≡ m.begin → ((v : S) → m.begin ≡ going v → Alike m n P f)
-      → solve n limit ≡ delivering f (solve m limit)
+  pub solve_alike : (limit : ℕ) → n.opening limit ≡ m.opening limit → n.begin ≡ m.begin → ((v : S) → m.begin ≡ going v → Alike m n P f) → solve n limit ≡ delivering f (solve m limit)
   unfolding solve on
   solve_alike limit o e r = rw o (opened (m.opening limit))
     where

@@ -33,8 +33,7 @@ module _ {S C F : Type 0} (m : Method S C F) where
   module _ (limit : ℕ) where
     -- ---- what `counting` gives is counted, or stopped
 
-    loop_counts : (v : S) (c : C) → m.begin ≡ going v → m.steps.meets v ≡ false → m.first v ≡ going c
-        → (r : Run (S × C) (Run (ℕ × S) ℕ)) → turns (turn m.steps) (v, c) limit ≡ r → Counts limit (after_loop limit r)
+    loop_counts : (v : S) (c : C) → m.begin ≡ going v → m.steps.meets v ≡ false → m.first v ≡ going c → (r : Run (S × C) (Run (ℕ × S) ℕ)) → turns (turn m.steps) (v, c) limit ≡ r → Counts limit (after_loop limit r)
     unfolding on
     loop_counts v c b f d (going t) h =
         let (r, all) = turns_ready m v c b f d limit t h in
@@ -51,8 +50,7 @@ module _ {S C F : Type 0} (m : Method S C F) where
         let (r, all) = turns_ready m v c b f d i u e in
         go i u l r all p (way m.steps i u)
       where
-        go : (i : ℕ) (u : S × C) → i < limit → ready m i ≡ going u → AllMiss m (i + 1) → turn m.steps i u ≡ ended (going w)
-            → Way m.steps i u → Counted m limit true w.0 w.1
+        go : (i : ℕ) (u : S × C) → i < limit → ready m i ≡ going u → AllMiss m (i + 1) → turn m.steps i u ≡ ended (going w) → Way m.steps i u → Counted m limit true w.0 w.1
         go i u l r all p (unmade n a q) = absurd (apart _ refl (ended_inj (sym p ∙ q)))
         go i u l r all p (met x a g q) =
             subst (λ x. Counted m limit true x.0 x.1) (going_inj (ended_inj (sym q ∙ p)))
@@ -72,14 +70,7 @@ module _ {S C F : Type 0} (m : Method S C F) where
         go i u l r all p (way m.steps i u)
       where
         go : (i : ℕ) (u : S × C) → i < limit → ready m i ≡ going u → AllMiss m (i + 1) → turn m.steps i u ≡ ended (ended n) → Way m.steps i u → Stopped limit n
-        go i u l r all p (unmade k a q) = at_step
-            (record {
-              step = i;
-              within = omega arith;
-              missed = all;
-              renewed = (u, r);
-              refused = step_after m i u r ∙ (a ∙ ap ended (ended_inj (ended_inj (sym q ∙ p))));
-            })
+        go i u l r all p (unmade k a q) = at_step (record { step = i; within = omega arith; missed = all; renewed = (u, r); refused = step_after m i u r ∙ (a ∙ ap ended (ended_inj (ended_inj (sym q ∙ p)))) })
         go i u l r all p (met x a g q) = absurd (apart _ refl (ended_inj (sym q ∙ p)))
         go i u l r all p (unrenewed x k a g y q) =
             at_renewal (record {
@@ -120,8 +111,7 @@ module _ {S C F : Type 0} (m : Method S C F) where
 
     -- ---- and what is counted, or stopped, `counting` gives
 
-    stop : (k : ℕ) (u : S × C) (e : Run (ℕ × S) ℕ) → k < limit → AllMiss m (k + 1) → ready m k ≡ going u → turn m.steps k u ≡ ended e
-        → counting m limit ≡ next e (λ w. going (true, w.0, w.1))
+    stop : (k : ℕ) (u : S × C) (e : Run (ℕ × S) ℕ) → k < limit → AllMiss m (k + 1) → ready m k ≡ going u → turn m.steps k u ≡ ended e → counting m limit ≡ next e (λ w. going (true, w.0, w.1))
     unfolding step_at
     stop k u e l all r q =
         let (v, c, b, d) = ready_first m k u r in

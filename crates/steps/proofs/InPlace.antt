@@ -249,9 +249,7 @@ module _ {S C F : Type 0} (m : Method S C F) (p : Places) (numbers : Numbers m p
       turned none n (in_beginning o h) = none.not_begin n (begin_number n h) (record { opened = o; then = h })
       turned none n (in_renewing o h) =
           ⊎_elim (λ q. none.not_factor n q.0 (record { opened = o; then = q.1 }))
-          (λ q.
-          ⊎_elim (λ e. none.not14 (record { opened = o; then = subst (λ k. Renewing m limit k) e h }))
-          (λ e. none.not16 (record { opened = o; then = inl (subst (λ k. Renewing m limit k) e h) })) (in_two n 14 16 q))
+          (λ q. ⊎_elim (λ e. none.not14 (record { opened = o; then = subst (λ k. Renewing m limit k) e h })) (λ e. none.not16 (record { opened = o; then = inl (subst (λ k. Renewing m limit k) e h) })) (in_two n 14 16 q))
           (renewal_number n h)
       turned none n (in_advancing o h) =
           ⊎_elim (λ e. none.not15 (record { opened = o; then = subst (λ k. Advancing m limit k) e h })) (λ e. none.not16 (record { opened = o; then = inr (subst (λ k. Advancing m limit k) e h) }))

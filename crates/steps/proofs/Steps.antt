@@ -54,13 +54,11 @@ module _ {S C F : Type 0} (m : Method S C F) where
   step_after k u r = rw r
 
   -- how a step that is ready is renewed after one more
-  pub ready_onward : (k : ℕ) (u : S × C) (v : S) (c : C) → ready m k ≡ going u → m.steps.advance u.0 u.1 ≡ going v
-      → m.steps.renew v u.1 ≡ going c → ready m (suc k) ≡ going (v, c)
+  pub ready_onward : (k : ℕ) (u : S × C) (v : S) (c : C) → ready m k ≡ going u → m.steps.advance u.0 u.1 ≡ going v → m.steps.renew v u.1 ≡ going c → ready m (suc k) ≡ going (v, c)
   unfolding ready on
   ready_onward k u v c r a b = rw (r, a, b)
 
-  pub ready_unrenewed : (k : ℕ) (u : S × C) (v : S) (n : ℕ) → ready m k ≡ going u → m.steps.advance u.0 u.1 ≡ going v
-      → m.steps.renew v u.1 ≡ ended n → ready m (suc k) ≡ ended n
+  pub ready_unrenewed : (k : ℕ) (u : S × C) (v : S) (n : ℕ) → ready m k ≡ going u → m.steps.advance u.0 u.1 ≡ going v → m.steps.renew v u.1 ≡ ended n → ready m (suc k) ≡ ended n
   unfolding ready on
   ready_unrenewed k u v n r a b = rw (r, a, b)
 

@@ -44,8 +44,7 @@ module _ (t u : Table) (alike : TablesAlike t u) where
 
   module _ (shift : Float) (mode : Mode) (owners : mode ≡ modes.BlockJacobi → (i : ℕ) → i < t.rows → owner_of u i ≡ owner_of t i)
       (tolerances other : Tolerances) (tests : other.tests ≡ tolerances.tests) (e : (i : ℕ) → i < t.rows → other.row i ≡ tolerances.row i) where
-    positions_agree : ((i : ℕ) → i < t.rows → error_start u i ≡ error_start t i)
-        → ((i : ℕ) → i < t.rows → multipliers u i ≡ multipliers t i) → ((i : ℕ) → i < t.rows → position_opens u i ≡ position_opens t i)
+    positions_agree : ((i : ℕ) → i < t.rows → error_start u i ≡ error_start t i) → ((i : ℕ) → i < t.rows → multipliers u i ≡ multipliers t i) → ((i : ℕ) → i < t.rows → position_opens u i ≡ position_opens t i)
         → (c d : ℕ → Vec3) → ((b : ℕ) → b < t.bodies → d b ≡ c b) → ProblemsAgree mode (shifted_problem t tolerances shift c) (shifted_problem u other shift d)
     positions_agree starts accumulated opens c d f = let w : CentresAlike (centres_of t c) (centres_of u d) = record { bodies = alike.bodies; at = f } in record {
       table = alike;
@@ -130,22 +129,11 @@ module _ (t u : Table) (a : AgreeBelow t u) where
   pub looks_below : LooksBelow t u
   looks_below = record {
     solves = λ tolerances other tests e c d f fits shift mode limit. solve_below mode (shifted_problem t tolerances shift c) (shifted_problem u other shift d)
-        (positions_agree t u tables_alike shift mode (λ _. own) tolerances other tests e
-        (λ i h. ap (λ (r : ConstraintRow). neg r.scalars.error) (a.row i h))
-        (λ i h. ap (λ (r : ConstraintRow). r.scalars.accumulated_multiplier) (a.row i h))
-        (λ i h. ap (λ (r : ConstraintRow). opens_of r.scalars r.words) (a.row i h)) c d f)
-        fits limit;
-    checks = λ listed other e fits rules placed. check_below (closing_of t listed rules placed) (closing_of u other rules placed)
-        (closings_agree t u tables_alike rules (rule_below rules) listed other e
-        (λ i h. ap (λ (r : ConstraintRow). r.scalars.error) (a.row i h)) placed)
-        fits;
+        (positions_agree t u tables_alike shift mode (λ _. own) tolerances other tests e (λ i h. ap (λ (r : ConstraintRow). neg r.scalars.error) (a.row i h)) (λ i h. ap (λ (r : ConstraintRow). r.scalars.accumulated_multiplier) (a.row i h)) (λ i h. ap (λ (r : ConstraintRow). opens_of r.scalars r.words) (a.row i h)) c d f) fits limit;
+    checks = λ listed other e fits rules placed. check_below (closing_of t listed rules placed) (closing_of u other rules placed) (closings_agree t u tables_alike rules (rule_below rules) listed other e (λ i h. ap (λ (r : ConstraintRow). r.scalars.error) (a.row i h)) placed) fits;
     moving = λ tolerances other tests e residual lent f fits shift mode limit. solve_below mode (moving_problem t tolerances shift residual) (moving_problem u other shift lent)
-        (moving_agree t u tables_alike shift mode (λ _. own) tolerances other tests e
-        (λ i h. ap (λ (r : ConstraintRow). r.scalars.accumulated_impulse) (a.row i h))
-        (λ i h. ap (λ (r : ConstraintRow). velocity_opens_of r.scalars r.words) (a.row i h)) residual lent f)
-        fits limit;
-    speeds = λ listed other e residual lent f fits rules. check_below (speeds_of t listed rules residual) (speeds_of u other rules lent)
-        (speeds_agree t u tables_alike rules (rule_below rules) listed other e residual lent f) fits;
+        (moving_agree t u tables_alike shift mode (λ _. own) tolerances other tests e (λ i h. ap (λ (r : ConstraintRow). r.scalars.accumulated_impulse) (a.row i h)) (λ i h. ap (λ (r : ConstraintRow). velocity_opens_of r.scalars r.words) (a.row i h)) residual lent f) fits limit;
+    speeds = λ listed other e residual lent f fits rules. check_below (speeds_of t listed rules residual) (speeds_of u other rules lent) (speeds_agree t u tables_alike rules (rule_below rules) listed other e residual lent f) fits;
   }
 
 -- ---- the numbers that 4 and 7 alone read
@@ -166,8 +154,7 @@ moving_opens_alike : (bodies : ℕ) (r s : ConstraintRow) → MovingButUnread bo
 unfolding velocity_opens_of
 moving_opens_alike bodies r s a = rw (a.read.compliance, a.read.damping, a.read.force_driven, a.min_impulse, a.max_impulse)
 
-module _ (t u : Table) (rows : u.rows ≡ t.rows) (bodies : u.bodies ≡ t.bodies) (mass : (b : ℕ) → b < t.bodies → u.mass b ≡ t.mass b)
-    (read : (i : ℕ) → i < t.rows → ReadAlike t.bodies (t.row i) (u.row i)) where
+module _ (t u : Table) (rows : u.rows ≡ t.rows) (bodies : u.bodies ≡ t.bodies) (mass : (b : ℕ) → b < t.bodies → u.mass b ≡ t.mass b) (read : (i : ℕ) → i < t.rows → ReadAlike t.bodies (t.row i) (u.row i)) where
   read_tables : TablesAlike t u
   read_tables = record { rows = rows; bodies = bodies; row = λ i h. read_alike t.bodies (t.row i) (u.row i) (read i h); mass = mass }
 
@@ -177,10 +164,7 @@ module _ (t u : Table) (rows : u.rows ≡ t.rows) (bodies : u.bodies ≡ t.bodie
 pub depends : (t u : Table) → TablesButUnread kinds.Position t u → Depends t u
 depends t u a = record {
   solves = λ mode owners tolerances other tests e centre fits shift limit. solve_below mode (shifted_problem t tolerances shift centre) (shifted_problem u other shift centre)
-      (positions_agree t u alike shift mode owners tolerances other tests e (λ i h. ap neg (a.row i h).error)
-      (λ i h. (a.row i h).accumulated_multiplier) (λ i h. opens_alike t.bodies (t.row i) (u.row i) (a.row i h)) centre centre
-      (λ b h. refl))
-      fits limit;
+      (positions_agree t u alike shift mode owners tolerances other tests e (λ i h. ap neg (a.row i h).error) (λ i h. (a.row i h).accumulated_multiplier) (λ i h. opens_alike t.bodies (t.row i) (u.row i) (a.row i h)) centre centre (λ b h. refl)) fits limit;
   checks = λ listed fits rules placed. check_below (closing_of t listed rules placed) (closing_of u listed rules placed)
       (closings_agree t u alike rules (same_rule t u a.rows a.bodies a.mass (λ i h. (a.row i h).read) rules) listed listed (λ i h. refl) (λ i h. (a.row i h).error) placed) fits;
 }
@@ -192,9 +176,7 @@ depends t u a = record {
 pub moving_depends : (t u : Table) → TablesButUnread kinds.Velocity t u → MovingDepends t u
 moving_depends t u a = record {
   solves = λ mode owners tolerances other tests e residual fits shift limit. solve_below mode (moving_problem t tolerances shift residual) (moving_problem u other shift residual)
-      (moving_agree t u alike shift mode owners tolerances other tests e (λ i h. (a.row i h).accumulated_impulse)
-      (λ i h. moving_opens_alike t.bodies (t.row i) (u.row i) (a.row i h)) residual residual (λ i h. refl))
-      fits limit;
+      (moving_agree t u alike shift mode owners tolerances other tests e (λ i h. (a.row i h).accumulated_impulse) (λ i h. moving_opens_alike t.bodies (t.row i) (u.row i) (a.row i h)) residual residual (λ i h. refl)) fits limit;
   checks = λ listed fits rules residual. check_below (speeds_of t listed rules residual) (speeds_of u listed rules residual)
       (speeds_agree t u alike rules (same_rule t u a.rows a.bodies a.mass (λ i h. (a.row i h).read) rules) listed listed (λ i h. refl) residual residual (λ i h. refl)) fits;
 }

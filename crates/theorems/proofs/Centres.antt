@@ -26,7 +26,6 @@ module _ (c d : Centres) (w : CentresAlike c d) where
   flat_same = sym (flat_centres_same c d (sym w.bodies) (λ b h. sym (w.at b h)))
 
   -- by masses and impulses that agree on them too
-  pub moved_alike : (m n : ℕ → SolverMass) (f g : ℕ → GeneralizedImpulse) → ((b : ℕ) → b < c.bodies → n b ≡ m b)
-      → ((b : ℕ) → b < c.bodies → g b ≡ f b) → CentresAlike (moved_by m f c) (moved_by n g d)
+  pub moved_alike : (m n : ℕ → SolverMass) (f g : ℕ → GeneralizedImpulse) → ((b : ℕ) → b < c.bodies → n b ≡ m b) → ((b : ℕ) → b < c.bodies → g b ≡ f b) → CentresAlike (moved_by m f c) (moved_by n g d)
   unfolding moved_at
   moved_alike m n f g masses impulses = record { bodies = w.bodies; at = λ b h. rw (masses b h, impulses b h, w.at b h) }

@@ -26,8 +26,7 @@ use Rattle.theorems.proofs.Tables.{BodiesBelow, table_with, fours, sixes, sevens
 use Rattle.theorems.proofs.Systems.{SystemsAgree, value_same}
 
 -- the systems of sizes agree too
-sizes_agree : (s : System) (jacobian : ℕ → RowJacobian) (mass : ℕ → SolverMass) → SystemsAgree s jacobian mass
-    → SystemsAgree (sizes_of s) (λ i. size_of_row (jacobian i)) (λ b. size_of_mass (mass b))
+sizes_agree : (s : System) (jacobian : ℕ → RowJacobian) (mass : ℕ → SolverMass) → SystemsAgree s jacobian mass → SystemsAgree (sizes_of s) (λ i. size_of_row (jacobian i)) (λ b. size_of_mass (mass b))
 unfolding size_of_row
 sizes_agree s jacobian mass w = record {
   jacobians = λ i k. ap size_of_row (w.jacobians i k);
@@ -44,29 +43,13 @@ on_same (ended k) x y e = refl
 
 -- c with all that a row or a body has from d; the counts are c's
 abbrev with : Closing → Closing → Closing
-with c d =
-    record {
-      table = table_with c.table d.table;
-      error = d.error;
-      listed = d.listed;
-      tolerance = d.tolerance;
-      rule = d.rule;
-      tolerance_tests = c.tolerance_tests;
-      lent = c.lent;
-      placed = c.placed;
-    }
+with c d = record { table = table_with c.table d.table; error = d.error; listed = d.listed; tolerance = d.tolerance; rule = d.rule; tolerance_tests = c.tolerance_tests; lent = c.lent; placed = c.placed }
 
 module _ (c d : Closing) (w : ClosingsAgree c d) where
   eighteens : table_in_range (with c d).table d.error d.listed ≡ table_in_range c.table c.error c.listed
   unfolding table_in_range
   eighteens =
-      rw (
-        every_same (λ i. row_in_range (jacobian_of (d.table.row i)) (d.error i) (d.listed i))
-            (λ i. row_in_range (jacobian_of (c.table.row i)) (c.error i) (c.listed i)) c.table.rows
-            (λ i h. rw ((w.table.row i h).jacobian, w.error i h, w.listed i h)),
-        every_same (λ b. mass_in_range (d.table.mass b)) (λ b. mass_in_range (c.table.mass b)) c.table.bodies
-            (λ b h. ap mass_in_range (w.table.mass b h)),
-      )
+      rw (every_same (λ i. row_in_range (jacobian_of (d.table.row i)) (d.error i) (d.listed i)) (λ i. row_in_range (jacobian_of (c.table.row i)) (c.error i) (c.listed i)) c.table.rows (λ i h. rw ((w.table.row i h).jacobian, w.error i h, w.listed i h)), every_same (λ b. mass_in_range (d.table.mass b)) (λ b. mass_in_range (c.table.mass b)) c.table.bodies (λ b h. ap mass_in_range (w.table.mass b h)))
 
   seven_below : passes7 c.table ≡ true → (i : ℕ) → i < c.table.rows → BodiesBelow c.table i
   unfolding passes7
@@ -84,8 +67,7 @@ module _ (c d : Closing) (w : ClosingsAgree c d) where
     size_of_same : (i : ℕ) → i < c.table.rows → size_of (with c d) i ≡ size_of c i
     unfolding size_of
     size_of_same =
-        value_same (sizes_of (system_of c.table)) (λ i. size_of_row (jacobian_of (d.table.row i))) (λ b. size_of_mass (d.table.mass b))
-        (sizes_agree (system_of c.table) (λ i. jacobian_of (d.table.row i)) d.table.mass agree)
+        value_same (sizes_of (system_of c.table)) (λ i. size_of_row (jacobian_of (d.table.row i))) (λ b. size_of_mass (d.table.mass b)) (sizes_agree (system_of c.table) (λ i. jacobian_of (d.table.row i)) d.table.mass agree)
         (λ k. absolute (c.listed k)) (λ k. absolute (d.listed k)) (λ k h. ap absolute (w.listed k h))
 
     reach_same : (i : ℕ) → i < c.table.rows → reach (with c d) i ≡ reach c i

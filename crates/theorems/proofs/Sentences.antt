@@ -60,15 +60,7 @@ use Rattle.theorems.proofs.Centres.{centres_of}
 pub no_rows : (bodies : ℕ) (row : ℕ → ConstraintRow) (mass : ℕ → SolverMass) (rules : Rules) (shift : Float) (centre : ℕ → Vec3) (mode : Mode) (limit : ℕ)
     → let t : Table = record { rows = 0; bodies = bodies; row = row; mass = mass } in passes25 shift ≡ true → passes27 rules ≡ true → passes6 t ≡ true → centres_finite (centres_of t centre) ≡ true
     → solve (method_of true (shifted_problem t (ruled_by rules t) shift centre) mode) limit
-    ≡ going (
-      (true, 0, record { solution = []; residual = [] }),
-      record {
-        accumulated = [];
-        impulses = zeros (6 * bodies);
-        centres = flat_centres (centres_of t centre);
-        maxima = record { linear = plus_zero; angular = plus_zero };
-      },
-    )
+    ≡ going ((true, 0, record { solution = []; residual = [] }), record { accumulated = []; impulses = zeros (6 * bodies); centres = flat_centres (centres_of t centre); maxima = record { linear = plus_zero; angular = plus_zero } })
 unfolding solve opening_of judge test check on counting begin_of rows_judged judged turns factor_here meets_of every residuals tabulate passes4 passes28 passes5 finish_of maxima_in maxima_of maxima_by
 no_rows bodies row mass rules shift centre mode limit p q r s = rw (p, q, r, s)
 
@@ -83,8 +75,7 @@ pub no_rows_moving : (bodies : ℕ) (row : ℕ → ConstraintRow) (mass : ℕ �
     → let t : Table = record { rows = 0; bodies = bodies; row = row; mass = mass } in passes25 shift ≡ true → passes27 rules ≡ true → passes6 t ≡ true
     → solve (method_of true (moving_problem t (ruled_by rules t) shift residual) mode) limit
     ≡ going ((true, 0, record { solution = []; residual = [] }), record { accumulated = []; impulses = zeros (6 * bodies); centres = []; maxima = record { linear = plus_zero; angular = plus_zero } })
-unfolding solve opening_of judge test check on counting begin_of rows_judged valid_judged diagonals_judged judged turns factor_here meets_of every
-    diagonals residuals tabulate passes4 passes28 passes5 passes20 finish_of flat_centres maxima_in maxima_of maxima_by
+unfolding solve opening_of judge test check on counting begin_of rows_judged valid_judged diagonals_judged judged turns factor_here meets_of every diagonals residuals tabulate passes4 passes28 passes5 passes20 finish_of flat_centres maxima_in maxima_of maxima_by
 no_rows_moving bodies row mass rules shift residual mode limit p q r =
     let t : Table = record { rows = 0; bodies = bodies; row = row; mass = mass } in
     rw (p, q, r, no_rows_factor (system_of t) (owner_of t) mode refl)
@@ -96,8 +87,7 @@ start p = record { solution = zeros p.table.rows; residual = residuals p.table p
 abbrev untouched : Problem → Delivered
 untouched p = record { accumulated = tabulate p.accumulated p.table.rows; impulses = zeros (6 * p.table.bodies); centres = flat_centres p.centres; maxima = maxima_in p.table (start p) }
 
-pub count_zero : (fits : Bool) (t : Table) (tolerances : Tolerances) (shift : Float) (centre : ℕ → Vec3) (mode : Mode) (limit : ℕ)
-    → let p = shifted_problem t tolerances shift centre in opening_of fits p limit ≡ going tt → rows_judged p ≡ going tt
+pub count_zero : (fits : Bool) (t : Table) (tolerances : Tolerances) (shift : Float) (centre : ℕ → Vec3) (mode : Mode) (limit : ℕ) → let p = shifted_problem t tolerances shift centre in opening_of fits p limit ≡ going tt → rows_judged p ≡ going tt
     → meets_of tolerances.row (start p).residual t.rows ≡ true → solve (method_of fits p mode) limit ≡ going ((true, 0, start p), untouched p)
 unfolding solve counting begin_of factor_here finish_of check on
 count_zero fits t tolerances shift centre mode limit o r m = rw (o, r, m)
@@ -108,9 +98,7 @@ module _ (fits : Bool) (t : Table) (tolerances : Tolerances) (shift : Float) (re
   moving = moving_problem t tolerances shift residual
 
   module _ (o : opening_of fits moving limit ≡ going tt) (r : rows_judged moving ≡ going tt) where
-    pub count_zero_moving : factor_judged mode (system_of t) (owner_of t) (diagonals t) ≡ going tt
-        → meets_of tolerances.row (start moving).residual t.rows ≡ true
-        → solve (method_of fits moving mode) limit ≡ going ((true, 0, start moving), untouched moving)
+    pub count_zero_moving : factor_judged mode (system_of t) (owner_of t) (diagonals t) ≡ going tt → meets_of tolerances.row (start moving).residual t.rows ≡ true → solve (method_of fits moving mode) limit ≡ going ((true, 0, start moving), untouched moving)
     unfolding solve counting begin_of factor_here finish_of check on
     count_zero_moving f m = rw (o, r, f, m)
 
@@ -148,12 +136,10 @@ module _ (p : Problem) (rules : Rules) (shift : Float) (placed : Bool) (centres 
 
 module _ (t : Table) (rules : Rules) (four : passes4 t ≡ true) where
   module _ (odd : passes27 rules ≡ false) where
-    pub odd_not_solved : (shift : Float) (centre : ℕ → Vec3) (mode : Mode) (limit : ℕ) → passes25 shift ≡ true
-        → solve (method_of true (shifted_problem t (ruled_by rules t) shift centre) mode) limit ≡ ended 27
+    pub odd_not_solved : (shift : Float) (centre : ℕ → Vec3) (mode : Mode) (limit : ℕ) → passes25 shift ≡ true → solve (method_of true (shifted_problem t (ruled_by rules t) shift centre) mode) limit ≡ ended 27
     odd_not_solved shift centre mode limit p = odd_refused (position_problem t (ruled_by rules t).row) rules shift (centres_finite (centres_of t centre)) (centres_of t centre) mode limit four p odd
 
-    pub odd_not_moved : (shift : Float) (residual : ℕ → Float) (mode : Mode) (limit : ℕ) → passes25 shift ≡ true
-        → solve (method_of true (moving_problem t (ruled_by rules t) shift residual) mode) limit ≡ ended 27
+    pub odd_not_moved : (shift : Float) (residual : ℕ → Float) (mode : Mode) (limit : ℕ) → passes25 shift ≡ true → solve (method_of true (moving_problem t (ruled_by rules t) shift residual) mode) limit ≡ ended 27
     odd_not_moved shift residual mode limit p = odd_refused (velocity_problem t (ruled_by rules t).row residual) rules shift true no_centres mode limit four p odd
 
     pub odd_not_checked : (listed : ℕ → Float) (placed : Bool) → check_of true (closing_of t listed rules placed) ≡ Refused 27
@@ -165,13 +151,10 @@ module _ (t : Table) (rules : Rules) (four : passes4 t ≡ true) where
     odd_speeds listed residual = rw (four, odd)
 
   module _ (fit : passes27 rules ≡ true) (stray : passes28 rules t ≡ false) where
-    pub stray_not_solved : (shift : Float) (centre : ℕ → Vec3) (mode : Mode) (limit : ℕ) → passes25 shift ≡ true
-        → solve (method_of true (shifted_problem t (ruled_by rules t) shift centre) mode) limit ≡ ended 28
-    stray_not_solved shift centre mode limit p = stray_refused (position_problem t (ruled_by rules t).row) rules shift
-        (centres_finite (centres_of t centre)) (centres_of t centre) mode limit four p fit stray
+    pub stray_not_solved : (shift : Float) (centre : ℕ → Vec3) (mode : Mode) (limit : ℕ) → passes25 shift ≡ true → solve (method_of true (shifted_problem t (ruled_by rules t) shift centre) mode) limit ≡ ended 28
+    stray_not_solved shift centre mode limit p = stray_refused (position_problem t (ruled_by rules t).row) rules shift (centres_finite (centres_of t centre)) (centres_of t centre) mode limit four p fit stray
 
-    pub stray_not_moved : (shift : Float) (residual : ℕ → Float) (mode : Mode) (limit : ℕ) → passes25 shift ≡ true
-        → solve (method_of true (moving_problem t (ruled_by rules t) shift residual) mode) limit ≡ ended 28
+    pub stray_not_moved : (shift : Float) (residual : ℕ → Float) (mode : Mode) (limit : ℕ) → passes25 shift ≡ true → solve (method_of true (moving_problem t (ruled_by rules t) shift residual) mode) limit ≡ ended 28
     stray_not_moved shift residual mode limit p = stray_refused (velocity_problem t (ruled_by rules t).row residual) rules shift true no_centres mode limit four p fit stray
 
     pub stray_not_checked : (listed : ℕ → Float) (placed : Bool) → check_of true (closing_of t listed rules placed) ≡ Refused 28
@@ -184,9 +167,7 @@ module _ (t : Table) (rules : Rules) (four : passes4 t ≡ true) where
 
   -- ---- document 02, a: "20, a lent residual is not finite, judged right after 6, in the closing check too"
   module _ (fit : passes27 rules ≡ true) (each : passes28 rules t ≡ true) (six : passes6 t ≡ true) (residual : ℕ → Float) (twenty : passes20 residual t.rows ≡ false) where
-    pub residual_refused : (shift : Float) (mode : Mode) (limit : ℕ) → passes25 shift ≡ true
-        → passes5 t.rows (velocity_opens t) limit ≡ true
-        → solve (method_of true (moving_problem t (ruled_by rules t) shift residual) mode) limit ≡ ended 20
+    pub residual_refused : (shift : Float) (mode : Mode) (limit : ℕ) → passes25 shift ≡ true → passes5 t.rows (velocity_opens t) limit ≡ true → solve (method_of true (moving_problem t (ruled_by rules t) shift residual) mode) limit ≡ ended 20
     unfolding solve opening_of judge test check on
     residual_refused shift mode limit p five = rw (p, four, fit, each, five, six, twenty)
 
@@ -214,9 +195,7 @@ module _ (t : Table) (listed : ℕ → Float) (rules : Rules) where
   centres_unmeasured false false = inl refl
   centres_unmeasured true false = go (saw_bool (passes4 t)) (saw_bool (passes27 rules)) (saw_bool (passes28 rules t))
     where
-      go : (passes4 t ≡ true) ⊎ (passes4 t ≡ false) → (passes27 rules ≡ true) ⊎ (passes27 rules ≡ false)
-          → (passes28 rules t ≡ true) ⊎ (passes28 rules t ≡ false)
-          → (answer true false ≡ answer true true) ⊎ ((false ≡ false) × (answer true false ≡ Refused 6))
+      go : (passes4 t ≡ true) ⊎ (passes4 t ≡ false) → (passes27 rules ≡ true) ⊎ (passes27 rules ≡ false) → (passes28 rules t ≡ true) ⊎ (passes28 rules t ≡ false) → (answer true false ≡ answer true true) ⊎ ((false ≡ false) × (answer true false ≡ Refused 6))
       go (inr a) b c = inl (rw a)
       go (inl a) (inr b) c = inl (rw (a, b))
       go (inl a) (inl b) (inr c) = inl (rw (a, b, c))
@@ -227,8 +206,7 @@ module _ (t : Table) (listed : ℕ → Float) (rules : Rules) where
 abbrev besides : Delivered → List Float × List Float × Maxima
 besides f = (f.accumulated, f.impulses, f.maxima)
 
-finish_besides : (t : Table) (accumulated : ℕ → Float) (c d : Centres) (count : ℕ) (v : Iterate) (f g : Delivered)
-    → finish_of t accumulated c count v ≡ going f → finish_of t accumulated d count v ≡ going g → besides f ≡ besides g
+finish_besides : (t : Table) (accumulated : ℕ → Float) (c d : Centres) (count : ℕ) (v : Iterate) (f g : Delivered) → finish_of t accumulated c count v ≡ going f → finish_of t accumulated d count v ≡ going g → besides f ≡ besides g
 unfolding finish_of
 finish_besides t accumulated c d zero v f g x y = sym (ap besides (going_inj x)) ∙ ap besides (going_inj y)
 finish_besides t accumulated c d (suc count) v f g x y =
@@ -245,18 +223,13 @@ module _ (t : Table) (tolerances : Tolerances) (shift : Float) (mode : Mode) (li
   with = shifted_problem t tolerances shift
 
   -- an accepted answer is the step counted and what is delivered of it
-  parts : (centre : ℕ → Vec3) (a : Bool × ℕ × Iterate) (f : Delivered) → solve (method_of true (with centre) mode) limit ≡ going (a, f)
-      → (counted_of mode (with centre) limit ≡ going a) × (finish_of t (multipliers t) (centres_of t centre) a.1 a.2 ≡ going f)
+  parts : (centre : ℕ → Vec3) (a : Bool × ℕ × Iterate) (f : Delivered) → solve (method_of true (with centre) mode) limit ≡ going (a, f) → (counted_of mode (with centre) limit ≡ going a) × (finish_of t (multipliers t) (centres_of t centre) a.1 a.2 ≡ going f)
   unfolding solve counted_of
   parts centre a f h =
       let (o, p, q) = (next_going (opening_of true (with centre) limit) _ _).0 h in
       let (b, r, s) = (next_going (counting (method_of true (with centre) mode) limit) _ _).0 q in
       let (g, u, e) = (next_going (finish_of t (multipliers t) (centres_of t centre) b.1 b.2) _ _).0 s in
-      subst
-      (λ (x : (Bool × ℕ × Iterate) × Delivered).
-      (counted_of mode (with centre) limit ≡ going x.0) ×
-      (finish_of t (multipliers t) (centres_of t centre) x.0.1 x.0.2 ≡ going x.1))
-      (going_inj e) ((next_going (opening_of true (with centre) limit) _ b).1 (o, p, r), u)
+      subst (λ (x : (Bool × ℕ × Iterate) × Delivered). (counted_of mode (with centre) limit ≡ going x.0) × (finish_of t (multipliers t) (centres_of t centre) x.0.1 x.0.2 ≡ going x.1)) (going_inj e) ((next_going (opening_of true (with centre) limit) _ b).1 (o, p, r), u)
 
   module _ (c d : ℕ → Vec3) (finite : centres_finite (centres_of t c) ≡ centres_finite (centres_of t d)) where
     -- the step counted, and so flag, count, solution and residual, or the refusal before it
@@ -265,16 +238,12 @@ module _ (t : Table) (tolerances : Tolerances) (shift : Float) (mode : Mode) (li
     centres_unread = ap (λ (x : Bool). counted_of mode (placed_problem t tolerances shift x (centres_of t c)) limit) finite
 
     -- of two accepted answers all but the centres
-    pub centres_apart : (a b : Bool × ℕ × Iterate) (f g : Delivered) → solve (method_of true (with c) mode) limit ≡ going (a, f)
-        → solve (method_of true (with d) mode) limit ≡ going (b, g) → (a ≡ b) × (besides f ≡ besides g)
+    pub centres_apart : (a b : Bool × ℕ × Iterate) (f g : Delivered) → solve (method_of true (with c) mode) limit ≡ going (a, f) → solve (method_of true (with d) mode) limit ≡ going (b, g) → (a ≡ b) × (besides f ≡ besides g)
     centres_apart a b f g x y =
         let (p, q) = parts c a f x in
         let (r, s) = parts d b g y in
-        let e : a ≡ b = going_inj (sym p ∙ centres_unread ∙ r) in (
-          e,
-          finish_besides t (multipliers t) (centres_of t c) (centres_of t d) b.1 b.2 f g
-              (subst (λ (z : Bool × ℕ × Iterate). finish_of t (multipliers t) (centres_of t c) z.1 z.2 ≡ going f) e q) s,
-        )
+        let e : a ≡ b = going_inj (sym p ∙ centres_unread ∙ r) in
+        (e, finish_besides t (multipliers t) (centres_of t c) (centres_of t d) b.1 b.2 f g (subst (λ (z : Bool × ℕ × Iterate). finish_of t (multipliers t) (centres_of t c) z.1 z.2 ≡ going f) e q) s)
 
 -- ---- document 02, d: "A body whose six impulses are all zero keeps its centre's bits"
 module _ (mass : ℕ → SolverMass) (impulse : ℕ → GeneralizedImpulse) where
@@ -287,15 +256,12 @@ module _ (mass : ℕ → SolverMass) (impulse : ℕ → GeneralizedImpulse) wher
   still_lent c b l h = flat_centres_at (moved_by mass impulse c) b l ∙ still_stays c.at b h
 
 -- and "With count 0, solution and impulses are +0.0": then every centre delivered is the one given
-pub centres_kept : (fits : Bool) (p : Problem) (mode : Mode) (limit : ℕ) (flag : Bool) (v : Iterate) (f : Delivered)
-    → solve (method_of fits p mode) limit ≡ going ((flag, 0, v), f) → f.centres ≡ flat_centres p.centres
+pub centres_kept : (fits : Bool) (p : Problem) (mode : Mode) (limit : ℕ) (flag : Bool) (v : Iterate) (f : Delivered) → solve (method_of fits p mode) limit ≡ going ((flag, 0, v), f) → f.centres ≡ flat_centres p.centres
 unfolding finish_of
 centres_kept fits p mode limit flag v f h = sym (ap (λ (d : Delivered). d.centres) (going_inj ((accepted_iff (method_of fits p mode) limit flag 0 v f).0 h).finished))
 
 -- document 02, d: "Velocity solves give no centres"
-pub no_centres_lem : (fits : Bool) (t : Table) (tolerances : Tolerances) (shift : Float) (residual : ℕ → Float) (mode : Mode) (limit : ℕ)
-    (flag : Bool) (count : ℕ) (v : Iterate) (f : Delivered)
-    → solve (method_of fits (moving_problem t tolerances shift residual) mode) limit ≡ going ((flag, count, v), f) → f.centres ≡ []
+pub no_centres_lem : (fits : Bool) (t : Table) (tolerances : Tolerances) (shift : Float) (residual : ℕ → Float) (mode : Mode) (limit : ℕ) (flag : Bool) (count : ℕ) (v : Iterate) (f : Delivered) → solve (method_of fits (moving_problem t tolerances shift residual) mode) limit ≡ going ((flag, count, v), f) → f.centres ≡ []
 unfolding finish_of flat_centres tabulate
 no_centres_lem fits t tolerances shift residual mode limit flag count v f h = none count ((accepted_iff (method_of fits (moving_problem t tolerances shift residual) mode) limit flag count v f).0 h).finished
   where

@@ -43,16 +43,5 @@ use Rattle.solve_method.specs.Method.{passes5, opening_of, factor_here, begin_of
 use Rattle.theorems.specs.Sheets.{AllSame, sheets}
 
 pub all_same : AllSame sheets
-unfolding AllSame tolerance_fits rule_fits passes27 applies only_below rule_for passes28 solve opening_of passes5 judge test check on counting
-    begin_of judged turns rows_judged row_judged passes8 passes9 is_low row_diagonal prepared_diagonal prepared_residual diagonals residuals
-    tabulate every meets_of first_of factor_here factor_judged shifted shifted_by passes25 preconditioned diagonal_solve_of first_from product_fit
-    dot_product_of dot_to turn advance_of alpha_of updated_of plus_scaled less_scaled renew_from beta_of turned_of product_of all_finite_of value_at
-    response_at response_of impulse_at add_row_of add_impulse_of row_value_of finish_of gains_of maxima_in maxima_of maxima_by raised_by dimension_of
-    impulses_of flat_impulses larger absolute dot_of add_of scale_of mul_vector_of jacobian_of diagonal_of cross_of passes4 words_fit_of opens_of passes6
-    mass_finite_of centres_finite moved_at still_of zero_of next_centre finite_columns_of is_finite_of is_valid_of bodies_below_of jacobians_finite_of
-    scalars_finite_of scalars_in_range_of neg of_bits add sub mul div le lt eq cholesky_run pairs_run judged_pairs pair_count pattern_of pairs_of pair_of
-    finite_pairs finite_pair factor_run row_turn factors_run column_turn column_of factored quotient_of reduced_of less_turn less count put pivot_of
-    squares_of fit root_value root_of shares_of row_pairs arm_of cross_at sum_of square_root units_of check_of verdict_of closes largest_reaches reach
-    reach_of radius value_of size_of measured_of radius_of weight_of radius_factor abs_of abs_columns_of size_of_row size_of_mass of_int passes7
-    table_in_range row_in_range jacobian_in_range vec_in_range mass_in_range mat_in_range in_range
+unfolding AllSame tolerance_fits rule_fits passes27 applies only_below rule_for passes28 solve opening_of passes5 judge test check on counting begin_of judged turns rows_judged row_judged passes8 passes9 is_low row_diagonal prepared_diagonal prepared_residual diagonals residuals tabulate every meets_of first_of factor_here factor_judged shifted shifted_by passes25 preconditioned diagonal_solve_of first_from product_fit dot_product_of dot_to turn advance_of alpha_of updated_of plus_scaled less_scaled renew_from beta_of turned_of product_of all_finite_of value_at response_at response_of impulse_at add_row_of add_impulse_of row_value_of finish_of gains_of maxima_in maxima_of maxima_by raised_by dimension_of impulses_of flat_impulses larger absolute dot_of add_of scale_of mul_vector_of jacobian_of diagonal_of cross_of passes4 words_fit_of opens_of passes6 mass_finite_of centres_finite moved_at still_of zero_of next_centre finite_columns_of is_finite_of is_valid_of bodies_below_of jacobians_finite_of scalars_finite_of scalars_in_range_of neg of_bits add sub mul div le lt eq cholesky_run pairs_run judged_pairs pair_count pattern_of pairs_of pair_of finite_pairs finite_pair factor_run row_turn factors_run column_turn column_of factored quotient_of reduced_of less_turn less count put pivot_of squares_of fit root_value root_of shares_of row_pairs arm_of cross_at sum_of square_root units_of check_of verdict_of closes largest_reaches reach reach_of radius value_of size_of measured_of radius_of weight_of radius_factor abs_of abs_columns_of size_of_row size_of_mass of_int passes7 table_in_range row_in_range jacobian_in_range vec_in_range mass_in_range mat_in_range in_range
 all_same = (refl, (refl, (refl, (refl, (refl, (refl, (refl, (refl, (refl, (refl, tt))))))))))

@@ -19,6 +19,7 @@ use Rattle.kapitsa_joint.specs.Mass.{diagonal_of}
 use Rattle.kapitsa_joint.specs.declared.mass.SolverMass.{SolverMass}
 use Rattle.kapitsa_joint.specs.declared.row.RowJacobian.{RowJacobian}
 use Rattle.kapitsa_joint.specs.declared.row.ConstraintRow.{ConstraintRow}
+use Rattle.kapitsa_joint.specs.declared.tolerance.RowDimension.{RowDimension}
 use Rattle.joint_refusals.specs.Refusals.{is_valid_of}
 use Rattle.mass_operator.specs.System.{system_of}
 use Rattle.mass_operator.specs.Flat.{coefficients}
@@ -59,8 +60,7 @@ module _ (p : Problem) where
   unfolding rows_judged check
   judged_below h = go p.valid_first h
     where
-      go : (b : Bool) → check b (next (valid_judged p) (λ _. diagonals_judged p)) (judged (row_judged p) p.table.rows) ≡ going tt → (i : ℕ)
-          → i < p.table.rows → BodiesBelow p.table i
+      go : (b : Bool) → check b (next (valid_judged p) (λ _. diagonals_judged p)) (judged (row_judged p) p.table.rows) ≡ going tt → (i : ℕ) → i < p.table.rows → BodiesBelow p.table i
       go true e = let (_, q, _) = (next_going (valid_judged p) _ tt).0 e in valid_judged_lem q
       go false e = by_rows e
 
@@ -127,11 +127,7 @@ module _ (mode : Mode) (p q : Problem) (w : ProblemsAgree mode p q) where
   rows_judged_same : rows_judged (with p q) ≡ rows_judged p
   unfolding rows_judged
   rows_judged_same =
-      rw (
-        valid_judged_same,
-        next_same (valid_judged p) (λ _. diagonals_judged (with p q)) (λ _. diagonals_judged p) (λ _ e. diagonals_judged_same e),
-        judged_same (row_judged (with p q)) (row_judged p) p.table.rows row_judged_same,
-      )
+      rw (valid_judged_same, next_same (valid_judged p) (λ _. diagonals_judged (with p q)) (λ _. diagonals_judged p) (λ _ e. diagonals_judged_same e), judged_same (row_judged (with p q)) (row_judged p) p.table.rows row_judged_same)
 
   -- ---- what is delivered, and when a residual meets
   gains_same : (x : List Float) → gains_of q.accumulated p.table.rows x ≡ gains_of p.accumulated p.table.rows x
@@ -162,21 +158,12 @@ module _ (mode : Mode) (p q : Problem) (w : ProblemsAgree mode p q) where
     agree : SystemsAgree (system_of p.table) (λ i. jacobian_of (q.table.row i)) q.table.mass
     agree = systems_agree p.table q.table w.table (judged_below p passed)
 
-    factor_here_same : (here : Bool)
-        → factor_here here mode (system_of (with p q).table) (owner_of (with p q).table) (diagonals (with p q).table)
-        ≡ factor_here here mode (system_of p.table) (owner_of p.table) (diagonals p.table)
+    factor_here_same : (here : Bool) → factor_here here mode (system_of (with p q).table) (owner_of (with p q).table) (diagonals (with p q).table) ≡ factor_here here mode (system_of p.table) (owner_of p.table) (diagonals p.table)
     unfolding factor_here
-    factor_here_same here = rw (
-      diagonals_same,
-      factor_same (system_of p.table) (λ i. jacobian_of (q.table.row i)) q.table.mass agree (owner_of p.table)
-          (owner_of (with p q).table) mode w.owner (diagonals p.table),
-    )
+    factor_here_same here = rw (diagonals_same, factor_same (system_of p.table) (λ i. jacobian_of (q.table.row i)) q.table.mass agree (owner_of p.table) (owner_of (with p q).table) mode w.owner (diagonals p.table))
 
-    z_same : (residual : List Float) → length residual ≡ p.table.rows
-        → preconditioned mode (system_of (with p q).table) (owner_of (with p q).table) (diagonals p.table) residual
-        ≡ preconditioned mode (system_of p.table) (owner_of p.table) (diagonals p.table) residual
-    z_same residual l = preconditioned_same (system_of p.table) (λ i. jacobian_of (q.table.row i)) q.table.mass agree
-        (owner_of p.table) (owner_of (with p q).table) mode w.owner (diagonals p.table) residual l
+    z_same : (residual : List Float) → length residual ≡ p.table.rows → preconditioned mode (system_of (with p q).table) (owner_of (with p q).table) (diagonals p.table) residual ≡ preconditioned mode (system_of p.table) (owner_of p.table) (diagonals p.table) residual
+    z_same residual l = preconditioned_same (system_of p.table) (λ i. jacobian_of (q.table.row i)) q.table.mass agree (owner_of p.table) (owner_of (with p q).table) mode w.owner (diagonals p.table) residual l
 
   begin_same : begin_of (with p q) mode ≡ begin_of p mode
   unfolding begin_of
@@ -192,31 +179,18 @@ module _ (mode : Mode) (p q : Problem) (w : ProblemsAgree mode p q) where
   centres_same : CentresAlike p.centres (with p q).centres
   centres_same = record { bodies = refl; at = w.centres.at }
 
-  moved_same : (v : Iterate)
-      → CentresAlike (moved_by p.table.mass (impulse_by p.table v) p.centres)
-      (moved_by q.table.mass (impulse_by (with p q).table v) (with p q).centres)
+  moved_same : (v : Iterate) → CentresAlike (moved_by p.table.mass (impulse_by p.table v) p.centres) (moved_by q.table.mass (impulse_by (with p q).table v) (with p q).centres)
   moved_same v =
-      moved_alike p.centres (with p q).centres centres_same p.table.mass q.table.mass (impulse_by p.table v)
-      (impulse_by (with p q).table v) (λ b h. w.table.mass b (omega (arith, w.within)))
-      (λ b h.
-      impulse_same (λ i. jacobian_of (q.table.row i)) (λ i. jacobian_of (p.table.row i)) (coefficients v.solution)
-      (coefficients v.solution) b p.table.rows (λ i k. (w.table.row i k).jacobian) (λ i k. refl))
+      moved_alike p.centres (with p q).centres centres_same p.table.mass q.table.mass (impulse_by p.table v) (impulse_by (with p q).table v) (λ b h. w.table.mass b (omega (arith, w.within)))
+      (λ b h. impulse_same (λ i. jacobian_of (q.table.row i)) (λ i. jacobian_of (p.table.row i)) (coefficients v.solution) (coefficients v.solution) b p.table.rows (λ i k. (w.table.row i k).jacobian) (λ i k. refl))
 
-  finish_same : rows_judged p ≡ going tt → (k : ℕ) (v : Iterate)
-      → finish_of (with p q).table q.accumulated (with p q).centres k v ≡ finish_of p.table p.accumulated p.centres k v
+  finish_same : rows_judged p ≡ going tt → (k : ℕ) (v : Iterate) → finish_of (with p q).table q.accumulated (with p q).centres k v ≡ finish_of p.table p.accumulated p.centres k v
   unfolding finish_of
   finish_same passed zero v = rw (kept_same, flat_same p.centres (with p q).centres centres_same, maxima_in_same v)
   finish_same passed (suc k) v =
       let moved = moved_by p.table.mass (impulse_by p.table v) p.centres in
       let other = moved_by q.table.mass (impulse_by (with p q).table v) (with p q).centres in
-      rw (
-        impulses_same (system_of p.table) (λ i. jacobian_of (q.table.row i)) q.table.mass (agree passed)
-            (coefficients v.solution),
-        gains_same v.solution,
-        finite_same moved other (moved_same v),
-        flat_same moved other (moved_same v),
-        maxima_in_same v,
-      )
+      rw (impulses_same (system_of p.table) (λ i. jacobian_of (q.table.row i)) q.table.mass (agree passed) (coefficients v.solution), gains_same v.solution, finite_same moved other (moved_same v), flat_same moved other (moved_same v), maxima_in_same v)
 
   alike : (fits : Bool) → rows_judged p ≡ going tt → Alike (method_of fits p mode) (method_of fits (with p q) mode) (λ v. length v.residual ≡ p.table.rows) (λ d. d)
   unfolding first_of advance_of on

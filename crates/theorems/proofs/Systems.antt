@@ -104,9 +104,7 @@ module _ (s : System) (jacobian : ℕ → RowJacobian) (mass : ℕ → SolverMas
   unfolding pairs_of
   pairs_same = fun_ext (λ i. fun_ext (λ j. go i j (ltb i s.rows) refl (ltb j i) refl))
     where
-      go : (i j : ℕ) (a : Bool) → ltb i s.rows ≡ a → (b : Bool) → ltb j i ≡ b
-          → cond (ltb i s.rows && ltb j i) (pair_of mass (jacobian j) (jacobian i)) none
-          ≡ cond (ltb i s.rows && ltb j i) (pair_of s.mass (s.jacobian j) (s.jacobian i)) none
+      go : (i j : ℕ) (a : Bool) → ltb i s.rows ≡ a → (b : Bool) → ltb j i ≡ b → cond (ltb i s.rows && ltb j i) (pair_of mass (jacobian j) (jacobian i)) none ≡ cond (ltb i s.rows && ltb j i) (pair_of s.mass (s.jacobian j) (s.jacobian i)) none
       go i j true e true f = rw (e, f) (pair_same i j (ltb-true i s.rows e) (omega (arith, ltb-true i s.rows e, ltb-true j i f)))
       go i j true e false f = rw (e, f)
       go i j false e b f = rw e
@@ -116,16 +114,10 @@ module _ (s : System) (jacobian : ℕ → RowJacobian) (mass : ℕ → SolverMas
   cholesky_same diagonal = rw (pair_count_same (pattern_of (system_with s jacobian mass)) (pattern_of s) s.rows (λ i j k l. pattern_same i j k (omega arith)), pairs_same)
 
   -- ---- blocks
-  column_same : (start row column : ℕ) (l : List Float) → start + row < s.rows → start + column < s.rows
-      → block_column_turn (system_with s jacobian mass) start row column l ≡ block_column_turn s start row column l
+  column_same : (start row column : ℕ) (l : List Float) → start + row < s.rows → start + column < s.rows → block_column_turn (system_with s jacobian mass) start row column l ≡ block_column_turn s start row column l
   unfolding block_column_turn cell_run block_value
   column_same start row column l k o =
-      rw (
-        w.jacobians (start + row) k,
-        w.jacobians (start + column) o,
-        w.masses (s.jacobian (start + row)).body_a (w.a_below (start + row) k),
-        w.masses (s.jacobian (start + row)).body_b (w.b_below (start + row) k),
-      )
+      rw (w.jacobians (start + row) k, w.jacobians (start + column) o, w.masses (s.jacobian (start + row)).body_a (w.a_below (start + row) k), w.masses (s.jacobian (start + row)).body_b (w.b_below (start + row) k))
 
   row_same : (start row : ℕ) (l : List Float) → start + row < s.rows → block_row_turn (system_with s jacobian mass) start row l ≡ block_row_turn s start row l
   unfolding block_row_turn
@@ -142,25 +134,17 @@ module _ (s : System) (jacobian : ℕ → RowJacobian) (mass : ℕ → SolverMas
     block_at_same i = rw (run_length_same own owner s.rows e i) (block_same i (run_length owner i s.rows) (run_few owner i s.rows))
 
   module _ (owner own : ℕ → ℕ) where
-    pub factor_same : (mode : Mode) → (mode ≡ modes.BlockJacobi → (i : ℕ) → i < s.rows → own i ≡ owner i) → (diagonal : List Float)
-        → factor_judged mode (system_with s jacobian mass) own diagonal ≡ factor_judged mode s owner diagonal
+    pub factor_same : (mode : Mode) → (mode ≡ modes.BlockJacobi → (i : ℕ) → i < s.rows → own i ≡ owner i) → (diagonal : List Float) → factor_judged mode (system_with s jacobian mass) own diagonal ≡ factor_judged mode s owner diagonal
     unfolding factor_judged block_judged
     factor_same modes.Diagonal e diagonal = refl
     factor_same (modes.IncompleteCholesky shift) e diagonal = rw (cholesky_same (shifted shift diagonal))
     factor_same modes.BlockJacobi e diagonal = judged_same _ _ s.rows (λ i k. rw (begins_same own owner s.rows (e refl) i k, block_at_same owner own (e refl) i))
 
-    pub preconditioned_same : (mode : Mode) → (mode ≡ modes.BlockJacobi → (i : ℕ) → i < s.rows → own i ≡ owner i)
-        → (diagonal residual : List Float) → length residual ≡ s.rows
-        → preconditioned mode (system_with s jacobian mass) own diagonal residual ≡ preconditioned mode s owner diagonal residual
+    pub preconditioned_same : (mode : Mode) → (mode ≡ modes.BlockJacobi → (i : ℕ) → i < s.rows → own i ≡ owner i) → (diagonal residual : List Float) → length residual ≡ s.rows → preconditioned mode (system_with s jacobian mass) own diagonal residual ≡ preconditioned mode s owner diagonal residual
     unfolding preconditioned blocks_solve_run solve_turn
     preconditioned_same modes.Diagonal e diagonal residual l = refl
     preconditioned_same (modes.IncompleteCholesky shift) e diagonal residual l = rw (cholesky_same (shifted shift diagonal))
     preconditioned_same modes.BlockJacobi e diagonal residual l =
         let f : (i : ℕ) → i < length residual → own i ≡ owner i = λ i k. e refl i (omega arith) in
-        let b : ◌≡◌ {A = ℕ → List Float} (λ i. block_numbers (block_at (system_with s jacobian mass) own i))
-        (λ i. block_numbers (block_at s owner i)) = fun_ext (λ i. ap block_numbers (block_at_same owner own (e refl) i)) in
-        rw b
-        (rw
-        (turns_same (solve_turn (λ i. block_numbers (block_at s owner i)) own residual)
-        (solve_turn (λ i. block_numbers (block_at s owner i)) owner residual) _ (length residual)
-        (λ i t k. rw (begins_same own owner (length residual) f i k, run_length_same own owner (length residual) f i))))
+        let b : ◌≡◌ {A = ℕ → List Float} (λ i. block_numbers (block_at (system_with s jacobian mass) own i)) (λ i. block_numbers (block_at s owner i)) = fun_ext (λ i. ap block_numbers (block_at_same owner own (e refl) i)) in
+        rw b (rw (turns_same (solve_turn (λ i. block_numbers (block_at s owner i)) own residual) (solve_turn (λ i. block_numbers (block_at s owner i)) owner residual) _ (length residual) (λ i t k. rw (begins_same own owner (length residual) f i k, run_length_same own owner (length residual) f i))))

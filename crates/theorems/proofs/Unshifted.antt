@@ -2,14 +2,14 @@
 use Prim.Native.Nat.{ℕ, zero, suc, ◌+◌, ◌*◌, ◌<◌}
 use mathlib.Core.Path.{◌≡◌, refl, sym, ap, ◌∙◌, subst}
 use mathlib.Core.Bool.{Bool, true, false, cond, true≢false}
-use mathlib.Core.List.{[], ◌∷◌}
+use mathlib.Core.List.{List, [], ◌∷◌}
 use lib.Dec.{T}
 use lib.IntN.{ℤ, pos}
 use native.Mathlib.Nat.{mul-pos}
 use native.Mathlib.Omega.{arith}
 use borrow.Author.Tests.{lt-ltb}
-use lib.ListN.{get_or}
-use lib.Ieee.{Float, nan, inf, fin, binary64, mul, le, lt, fits, of_bits, of_fields, up, down}
+use lib.ListN.{length, get_or}
+use lib.Ieee.{Float, nan, inf, fin, binary64, add, mul, le, lt, fits, of_bits, of_fields, up, down}
 use lib.Ieee.Fits.{add-fits, up_pos, down_pos}
 use lib.Ieee.Scale.{finite}
 use Rattle.loops.specs.Run.{check, going, next}
@@ -31,8 +31,7 @@ use Rattle.incomplete_cholesky.specs.Build.{cholesky_run}
 use Rattle.preconditioner.specs.Mode.{mode_of}
 use Rattle.preconditioner.specs.declared.mode.Mode.{Mode}
 use Rattle.position.specs.Problem.{Problem, position_problem, velocity_problem, with_tests}
-use Rattle.binary64.specs.One.{one}
-use Rattle.preconditioner.specs.Shift.{shifted_by, shifted, passes25}
+use Rattle.preconditioner.specs.Shift.{one, shifted_by, shifted, passes25}
 use Rattle.position.specs.Prepare.{row_diagonal, passes8, is_low, diagonal_tests, valid_test, row_judged, valid_judged, diagonals_judged, rows_judged, prepared_diagonal, diagonals}
 use Rattle.steps.specs.Solve.{solve}
 use Rattle.solve_method.specs.Method.{method_of}
@@ -78,8 +77,7 @@ module _ (t : Table) (s : Bool) (i : ℕ) (eight : passes8 (row_diagonal t.mass 
       held : T (fits binary64 (row_diagonal t.mass (t.row i)))
       held = unfold row_diagonal in add-fits binary64 _ _
 
-      go : (b : Bool) → le (row_diagonal t.mass (t.row i)) min_positive ≡ b
-          → shifted_by (fin s 0 (pos 0)) (cond b one (row_diagonal t.mass (t.row i))) ≡ cond b one (row_diagonal t.mass (t.row i))
+      go : (b : Bool) → le (row_diagonal t.mass (t.row i)) min_positive ≡ b → shifted_by (fin s 0 (pos 0)) (cond b one (row_diagonal t.mass (t.row i))) ≡ cond b one (row_diagonal t.mass (t.row i))
       go true e = once_more s one one_fits one_unsigned
       go false e = once_more s (row_diagonal t.mass (t.row i)) held (above_unsigned _ (subst T (sym eight) tt) e)
 
@@ -91,8 +89,7 @@ unshifted t s eight =
     ∙ tabulate_same _ _ t.rows (λ i h. ap (shifted_by (fin s 0 (pos 0))) (get_d_tabulate (prepared_diagonal t) t.rows i nan h) ∙ kept t s i (eight i h))
 
 -- so the factor is that of the diagonal itself
-pub unshifted_factor : (a : System) (t : Table) (s : Bool) → ((i : ℕ) → i < t.rows → passes8 (row_diagonal t.mass (t.row i)) ≡ true)
-    → cholesky_run a (shifted (fin s 0 (pos 0)) (diagonals t)) ≡ cholesky_run a (diagonals t)
+pub unshifted_factor : (a : System) (t : Table) (s : Bool) → ((i : ℕ) → i < t.rows → passes8 (row_diagonal t.mass (t.row i)) ≡ true) → cholesky_run a (shifted (fin s 0 (pos 0)) (diagonals t)) ≡ cholesky_run a (diagonals t)
 unshifted_factor a t s eight = ap (cholesky_run a) (unshifted t s eight)
 
 -- ---- of a problem of either kind, past 7 to 9: no row's diagonal overflows
@@ -117,9 +114,7 @@ module _ (p : Problem) where
       go false e = by_rows e
 
   -- its factor in mode 1 is that of the diagonal itself
-  pub unshifted_step0 : (s : Bool) → rows_judged p ≡ going tt
-      → cholesky_run (system_of p.table) (shifted (fin s 0 (pos 0)) (diagonals p.table))
-      ≡ cholesky_run (system_of p.table) (diagonals p.table)
+  pub unshifted_step0 : (s : Bool) → rows_judged p ≡ going tt → cholesky_run (system_of p.table) (shifted (fin s 0 (pos 0)) (diagonals p.table)) ≡ cholesky_run (system_of p.table) (diagonals p.table)
   unshifted_step0 s h = unshifted_factor (system_of p.table) p.table s (no_overflow h)
 
 -- ---- "Past 25, modes 0 and 2 pay no heed to it"
@@ -130,8 +125,7 @@ no_heed (suc zero) a b h = absurd (h refl)
 no_heed (suc (suc n)) a b h = refl
 
 -- whatever else the problem is
-unheeded : (fits : Bool) (p : Problem) (limits : Tolerances) (placed : Bool) (centres : Centres) (word limit : ℕ) (a b : Float)
-    → (word ≡ 1 → ⊥) → passes25 a ≡ true → passes25 b ≡ true
+unheeded : (fits : Bool) (p : Problem) (limits : Tolerances) (placed : Bool) (centres : Centres) (word limit : ℕ) (a b : Float) → (word ≡ 1 → ⊥) → passes25 a ≡ true → passes25 b ≡ true
     → solve (method_of fits (with_tests (shift_tests a) limits placed centres p) (mode_of word a)) limit ≡ solve (method_of fits (with_tests (shift_tests b) limits placed centres p) (mode_of word b)) limit
 unheeded fits p limits placed centres word limit a b h ea eb =
     ap (λ (m : Mode). solve (method_of fits (with_tests (shift_tests a) limits placed centres p) m) limit) (no_heed word a b h)
@@ -141,7 +135,6 @@ pub shift_unheeded : (fits : Bool) (t : Table) (tolerances : Tolerances) (centre
     → solve (method_of fits (shifted_problem t tolerances a centre) (mode_of word a)) limit ≡ solve (method_of fits (shifted_problem t tolerances b centre) (mode_of word b)) limit
 shift_unheeded fits t tolerances centre = unheeded fits (position_problem t tolerances.row) tolerances (centres_finite (centres_of t centre)) (centres_of t centre)
 
-pub moving_unheeded : (fits : Bool) (t : Table) (tolerances : Tolerances) (residual : ℕ → Float) (word limit : ℕ) (a b : Float)
-    → (word ≡ 1 → ⊥) → passes25 a ≡ true → passes25 b ≡ true
+pub moving_unheeded : (fits : Bool) (t : Table) (tolerances : Tolerances) (residual : ℕ → Float) (word limit : ℕ) (a b : Float) → (word ≡ 1 → ⊥) → passes25 a ≡ true → passes25 b ≡ true
     → solve (method_of fits (moving_problem t tolerances a residual) (mode_of word a)) limit ≡ solve (method_of fits (moving_problem t tolerances b residual) (mode_of word b)) limit
 moving_unheeded fits t tolerances residual = unheeded fits (velocity_problem t tolerances.row residual) tolerances true no_centres

@@ -56,11 +56,11 @@ abbrev pub mass_of_inverse : Float → SolverMass
 mass_of_inverse x = record { inverse_mass = x; inverse_inertia = record { x = along plus_zero; y = along plus_zero; z = along plus_zero } }
 
 -- P1: "one row, two bodies, ... inverse masses 0.5"; P7 has another error, P8 limit 0
-abbrev pub one_row : Float → Table
-one_row error = record { rows = 1; bodies = 2; row = λ i. row_on 0 1 error; mass = λ b. mass_of_inverse (of_bits binary64 0x3fe0000000000000) }
+abbrev pub one : Float → Table
+one error = record { rows = 1; bodies = 2; row = λ i. row_on 0 1 error; mass = λ b. mass_of_inverse (of_bits binary64 0x3fe0000000000000) }
 
 abbrev pub p1 : Table
-p1 = one_row (of_bits binary64 0xbfd0000000000000)
+p1 = one (of_bits binary64 0xbfd0000000000000)
 
 -- P4: "three bodies of inverse mass 1 in a chain of two such rows, errors −1 and 0"
 abbrev pub chain_error : ℕ → Float
@@ -101,14 +101,14 @@ pub record Accepted : Type 0 where
 abbrev pub Worked : Type 0
 Worked = Run Accepted ℕ
 
-abbrev pub worked_by : Problem → Mode → ℕ → Worked
-worked_by p mode limit =
+abbrev pub told_of : Problem → Mode → ℕ → Worked
+told_of p mode limit =
     on (solve (method_of true p mode) limit)
     (λ r. going (record { flag = r.0.0; count = r.0.1; solution = r.0.2.solution; accumulated = r.1.accumulated; residual = r.1.maxima.linear })) ended
 
 -- with shift 0 and centres of +0.0
 abbrev pub worked_of : Table → Float → Mode → ℕ → Worked
-worked_of t tolerance mode limit = worked_by (shifted_problem t (ruled_by (alike tolerance) t) plus_zero (λ b. along plus_zero)) mode limit
+worked_of t tolerance mode limit = told_of (shifted_problem t (ruled_by (alike tolerance) t) plus_zero (λ b. along plus_zero)) mode limit
 
 -- P1's check: its row with the multiplier that P1 ends with
 abbrev pub checked : Float → Closing
@@ -149,7 +149,7 @@ sheets =
     ∷ (solved (worked_of twice thousandth modes.Diagonal 4) (ended 15)
     ∷ (solved (worked_of twice thousandth (modes.IncompleteCholesky plus_zero) 4) (ended 13)
     -- P7: "P1 with error 1e-160, tolerance 1e-170: 14"
-    ∷ (solved (worked_of (one_row (of_bits binary64 0x1eb67e9c127b6e74)) (of_bits binary64 0x1ca3529ba7d19eaf) modes.Diagonal 4) (ended 14)
+    ∷ (solved (worked_of (one (of_bits binary64 0x1eb67e9c127b6e74)) (of_bits binary64 0x1ca3529ba7d19eaf) modes.Diagonal 4) (ended 14)
     -- P8: "limit 0: 5"
     ∷ (solved (worked_of p1 thousandth modes.Diagonal 0) (ended 5)
     -- P9: "no rows, limit 0: accepted"

@@ -14,7 +14,7 @@ use Rattle.check_range.specs.Closing.{Closing, speeds_of}
 use Rattle.check_measure.specs.Verdict.{radius}
 use Rattle.check_answer.specs.Answer.{check_of}
 use Rattle.check_answer.specs.declared.CheckAnswer.TheVariants.{Closed, Open, Refused}
-use Rattle.theorems.specs.Sheets.{along, row_on, mass_of_inverse, thousandth, alike, Worked, worked_by, worked_of, p1_gap, Entry, solved, verdict, number}
+use Rattle.theorems.specs.Sheets.{along, row_on, mass_of_inverse, thousandth, alike, Worked, told_of, worked_of, p1_gap, Entry, solved, verdict, number}
 
 -- 1.0, 0.5 and 0.25
 abbrev pub whole : Float
@@ -94,7 +94,7 @@ v5 inverse = on_two 1 (λ i. off_row whole nan) inverse
 
 -- a solve of velocities, with shift 0 and tolerance 0.001: `accumulated` are the accumulated impulses
 abbrev pub moved_of : Table → (ℕ → Float) → Mode → ℕ → Worked
-moved_of t residual mode limit = worked_by (moving_problem t (ruled_by (alike thousandth) t) plus_zero residual) mode limit
+moved_of t residual mode limit = told_of (moving_problem t (ruled_by (alike thousandth) t) plus_zero residual) mode limit
 
 -- accepted at count 0, both rows within tolerance
 abbrev pub stands : Worked

@@ -73,8 +73,7 @@ module _ {starts columns order : List ℕ} {n count j a b : ℕ} (spread : Sprea
   unfolding plain along_turn transposed less
   down_skip values y v = record { skip = λ k m. rw (down_none spread values k m) }
 
-  pub down_way : (values y : List Float) (q p r : ℕ) (v x : Float) → a ≤ q → q < b → p ≡ place_at order n q → r ≡ home_at order n q
-      → x ≡ mul binary64 (get_or values p nan) (get_or y r nan)
+  pub down_way : (values y : List Float) (q p r : ℕ) (v x : Float) → a ≤ q → q < b → p ≡ place_at order n q → r ≡ home_at order n q → x ≡ mul binary64 (get_or values p nan) (get_or y r nan)
       → plain (along_turn (transposed (numbers starts columns values) j) y) (get_or (homes order n) q 0) v ≡ going (sub binary64 v x)
   unfolding plain along_turn transposed less
   down_way values y q p r v x l h ep er ex = rw (home_at_lem order n q, down_some spread values q l h, ex, ep, er)
@@ -84,8 +83,7 @@ pub backward_way : (L : Sparse) (pivots y : List Float) (i n : ℕ) (v : Float) 
 unfolding backward_of
 backward_way L pivots y i n v e l h = rw (← l, ← e) h
 
-pub backward_at : (L : Sparse) (pivots y : List Float) (t n : ℕ) {o : Run (List Float) (List Float)} → n ≡ length pivots
-    → backward_of L pivots (n - 1 - t) y ≡ o → backward_turn L pivots t y ≡ o
+pub backward_at : (L : Sparse) (pivots y : List Float) (t n : ℕ) {o : Run (List Float) (List Float)} → n ≡ length pivots → backward_of L pivots (n - 1 - t) y ≡ o → backward_turn L pivots t y ≡ o
 unfolding backward_turn
 backward_at L pivots y t n e h = rw (← e) h
 

@@ -31,11 +31,7 @@ fn along_row(
     requires values_len { length values.now ≡ length columns.now }
     requires starts_len { length starts.now ≡ length output.now + 1 }
     requires i_in_bounds { i < length output.now }
-    ensures { result
-        ≡ down
-        (along_turn (numbers starts.now columns.now values.now i)
-        output.now)
-        value i }
+    ensures { result ≡ down (along_turn (numbers starts.now columns.now values.now i) output.now) value i }
 {
     let row = row(starts, columns, i);
     let first = row.first;
@@ -66,8 +62,7 @@ fn forward_at(
     requires pivots_len { length pivots.now ≡ length output.old }
     requires residual_len { length residual.now ≡ length output.old }
     requires i_in_bounds { i < length output.old }
-    ensures { forward_turn (numbers starts.now columns.now values.now)
-        pivots.now residual.now i output.old
+    ensures { forward_turn (numbers starts.now columns.now values.now) pivots.now residual.now i output.old
         ≡ solve_out result output.new }
 {
     let value = along_row(residual[i], starts, columns, values, output, i) / pivots[i];
@@ -91,8 +86,7 @@ pub fn forward(
     requires starts_len { length starts.now ≡ length output.old + 1 }
     requires pivots_len { length pivots.now ≡ length output.old }
     requires residual_len { length residual.now ≡ length output.old }
-    ensures { forward_run (numbers starts.now columns.now values.now)
-        pivots.now residual.now output.old
+    ensures { forward_run (numbers starts.now columns.now values.now) pivots.now residual.now output.old
         ≡ solve_out result output.new }
 {
     let mut i = 0;
@@ -189,11 +183,7 @@ fn along_column(
     requires count_in_bounds_2 { count ≤ length values.now }
     requires rows_value { rows ≡ length output.now }
     requires j_lt_rows { j < rows }
-    ensures { result
-        ≡ down
-        (along_turn (transposed (numbers starts.now columns.now values.now) j)
-        output.now)
-        value rows }
+    ensures { result ≡ down (along_turn (transposed (numbers starts.now columns.now values.now) j) output.now) value rows }
 {
     let column = column_stretch(starts, columns, order, rows, count, j);
     let first = column.first;
@@ -226,8 +216,7 @@ fn backward_at(
     requires rows_value { rows ≡ length output.old }
     requires rows_value_2 { rows ≡ length pivots.now }
     requires i_lt_rows { i < rows }
-    ensures { backward_of (numbers starts.now columns.now values.now)
-        pivots.now i output.old
+    ensures { backward_of (numbers starts.now columns.now values.now) pivots.now i output.old
         ≡ solve_out result output.new }
 {
     let value = along_column(
@@ -253,8 +242,7 @@ pub fn backward(
     requires count_in_bounds { length output.old + 2 * count ≤ length order.now }
     requires count_in_bounds_2 { count ≤ length values.now }
     requires output_len { length output.old ≡ length pivots.now }
-    ensures { backward_run (numbers starts.now columns.now values.now)
-        pivots.now output.old
+    ensures { backward_run (numbers starts.now columns.now values.now) pivots.now output.old
         ≡ solve_out result output.new }
 {
     let rows = output.len();
@@ -287,12 +275,9 @@ pub fn solve(
     requires values_len { length values.now ≡ length columns.now }
     requires pivots_len { length pivots.now ≡ length output.old }
     requires residual_len { length residual.now ≡ length output.old }
-    ensures output_value { solve_run (numbers starts.now columns.now values.now)
-        pivots.now residual.now output.old
+    ensures output_value { solve_run (numbers starts.now columns.now values.now) pivots.now residual.now output.old
         ≡ solve_out result output.new }
-    ensures output_value_2 { or_sixteen
-        (solve_run (numbers starts.now columns.now values.now) pivots.now
-        residual.now output.old)
+    ensures output_value_2 { or_sixteen (solve_run (numbers starts.now columns.now values.now) pivots.now residual.now output.old)
         ≡ solved_out result output.new }
 {
     let Solved::Done = forward(starts, columns, values, pivots, residual, output) else {

@@ -11,13 +11,11 @@ use Rattle.loops.specs.Cleared.{cleared, cleared_words, zeros}
 use Rattle.work_memory.specs.Work.{StepMemory, TableMemory, WorkMemory, step_memory, table_memory, cleared_steps, cleared_table, cleared_work, After}
 
 -- ---- `clear_steps`, `clear_table`
-pub steps_cleared : (t t' d d' e e' p p' : List Float) (a a' o o' : List ℕ) (v v' : List Float) → t' ≡ cleared t → d' ≡ cleared d
-    → e' ≡ cleared e → p' ≡ cleared p → a' ≡ cleared_words a → o' ≡ cleared_words o → v' ≡ cleared v
+pub steps_cleared : (t t' d d' e e' p p' : List Float) (a a' o o' : List ℕ) (v v' : List Float) → t' ≡ cleared t → d' ≡ cleared d → e' ≡ cleared e → p' ≡ cleared p → a' ≡ cleared_words a → o' ≡ cleared_words o → v' ≡ cleared v
     → step_memory t' d' e' p' a' o' v' ≡ cleared_steps (step_memory t d e p a o v)
 steps_cleared t t' d d' e e' p p' a a' o o' v v' e0 e1 e2 e3 e4 e5 e6 = rw (e0, e1, e2, e3, e4, e5, e6)
 
-pub table_cleared : (j j' : List Float) (l l' : List ℕ) (r r' p p' i i' : List Float) → j' ≡ cleared j → l' ≡ cleared_words l
-    → r' ≡ cleared r → p' ≡ cleared p → i' ≡ cleared i → table_memory j' l' r' p' i' ≡ cleared_table (table_memory j l r p i)
+pub table_cleared : (j j' : List Float) (l l' : List ℕ) (r r' p p' i i' : List Float) → j' ≡ cleared j → l' ≡ cleared_words l → r' ≡ cleared r → p' ≡ cleared p → i' ≡ cleared i → table_memory j' l' r' p' i' ≡ cleared_table (table_memory j l r p i)
 table_cleared j j' l l' r r' p p' i i' e0 e1 e2 e3 e4 = rw (e0, e1, e2, e3, e4)
 
 -- ---- cleared memory depends on nothing but its lengths, which a call keeps
@@ -26,8 +24,7 @@ pub steps_since : (t d e p a o v : ℕ) (t₀ d₀ e₀ p₀ : List Float) (a₀
     → t ≡ length t₀ → d ≡ length d₀ → e ≡ length e₀ → p ≡ length p₀ → a ≡ length a₀ → o ≡ length o₀ → v ≡ length v₀ → x ≡ cleared_steps (step_memory t₀ d₀ e₀ p₀ a₀ o₀ v₀)
 steps_since t d e p a o v t₀ d₀ e₀ p₀ a₀ o₀ v₀ x h e0 e1 e2 e3 e4 e5 e6 = h ∙ rw (e0, e1, e2, e3, e4, e5, e6)
 
-pub table_since : (j l r p i : ℕ) (j₀ : List Float) (l₀ : List ℕ) (r₀ p₀ i₀ : List Float) (x : TableMemory)
-    → x ≡ record { jacobians = zeros j; links = replicate l 0; residual = zeros r; pending = zeros p; body_impulses = zeros i }
+pub table_since : (j l r p i : ℕ) (j₀ : List Float) (l₀ : List ℕ) (r₀ p₀ i₀ : List Float) (x : TableMemory) → x ≡ record { jacobians = zeros j; links = replicate l 0; residual = zeros r; pending = zeros p; body_impulses = zeros i }
     → j ≡ length j₀ → l ≡ length l₀ → r ≡ length r₀ → p ≡ length p₀ → i ≡ length i₀ → x ≡ cleared_table (table_memory j₀ l₀ r₀ p₀ i₀)
 table_since j l r p i j₀ l₀ r₀ p₀ i₀ x h e0 e1 e2 e3 e4 = h ∙ rw (e0, e1, e2, e3, e4)
 

@@ -1,9 +1,9 @@
 -- Refusal 3: what has passed it, and what calls ask for. Assumes nothing.
 use Prim.Native.Nat.{ℕ, ◌*◌}
-use mathlib.Core.Path.{◌≡◌, ◌∙◌}
+use mathlib.Core.Path.{◌≡◌, sym, ◌∙◌}
 use mathlib.Core.Bool.{Bool, true, ◌&&◌}
 use mathlib.Core.List.{List}
-use lib.Dec.{eqb}
+use lib.Dec.{eqb, leb}
 use lib.ListN.{length}
 use lib.Ieee.{Float}
 use borrow.Author.Tests.{eqb-true}
@@ -15,16 +15,12 @@ use Rattle.preconditioner.specs.Room.{pattern_room, order_room, values_room}
 use Rattle.preconditioner.specs.declared.mode.Mode.{Mode}
 use Rattle.work_memory.specs.Work.{TableMemory, WorkMemory}
 use Rattle.joint_refusals.specs.Counts.{counts_fit}
-use Rattle.work_memory.specs.Lengths.{table_fits, vectors_fit, factor_fits, passes3, TableRoom, WorkRoom, RowsRoom}
+use Rattle.work_memory.specs.Lengths.{table_fits, vectors_fit, factor_fits, passes3, StepRoom, TableRoom, WorkRoom, RowsRoom}
 
 -- put together from its parts
-pub fits_three : (n b mode : ℕ) (numbers : List Float) (words : List ℕ) (masses solution impulses : List Float) (w : WorkMemory) (m : Mode)
-    (c t v f : Bool)
-    → m ≡ room_mode mode → c ≡ counts_fit n b mode
+pub fits_three : (n b mode : ℕ) (numbers : List Float) (words : List ℕ) (masses solution impulses : List Float) (w : WorkMemory) (m : Mode) (c t v f : Bool) → m ≡ room_mode mode → c ≡ counts_fit n b mode
     → t ≡ table_fits n b (length numbers) (length words) (length masses) (length solution) (length impulses)
-    → v ≡ vectors_fit n b (length w.table.jacobians) (length w.table.links) (length w.steps.tolerances)
-    (length w.table.residual) (length w.table.pending) (length w.steps.direction) (length w.steps.product)
-    (length w.table.body_impulses)
+    → v ≡ vectors_fit n b (length w.table.jacobians) (length w.table.links) (length w.steps.tolerances) (length w.table.residual) (length w.table.pending) (length w.steps.direction) (length w.steps.product) (length w.table.body_impulses)
     → f ≡ factor_fits m n (length w.steps.factor.diagonal) (length w.steps.factor.pattern) (length w.steps.factor.order) (length w.steps.factor.values)
     → (((c && t) && v) && f) ≡ passes3 n b mode numbers words masses solution impulses w
 unfolding passes3
@@ -74,9 +70,7 @@ module _ (n b mode : ℕ) (numbers : List Float) (words : List ℕ) (masses solu
   table = table_fits n b (length numbers) (length words) (length masses) (length solution) (length impulses)
 
   abbrev vectors : Bool
-  vectors = vectors_fit n b (length w.table.jacobians) (length w.table.links) (length w.steps.tolerances)
-      (length w.table.residual) (length w.table.pending) (length w.steps.direction) (length w.steps.product)
-      (length w.table.body_impulses)
+  vectors = vectors_fit n b (length w.table.jacobians) (length w.table.links) (length w.steps.tolerances) (length w.table.residual) (length w.table.pending) (length w.steps.direction) (length w.steps.product) (length w.table.body_impulses)
 
   abbrev factor : Bool
   factor = factor_fits (room_mode mode) n (length w.steps.factor.diagonal) (length w.steps.factor.pattern) (length w.steps.factor.order) (length w.steps.factor.values)
@@ -101,25 +95,10 @@ module _ (n b mode : ℕ) (numbers : List Float) (words : List ℕ) (masses solu
       let f = factor_lengths (room_mode mode) n _ _ _ _ parts.2 in
       let (p, o, x) = rooms_shift mode plus_zero shift n in
       record {
-        steps =
-            record {
-              tolerances_long = v.2;
-              direction_long = v.5;
-              product_long = v.6;
-              factor = record { diagonal_long = f.0; pattern_long = f.1 ∙ p; order_long = f.2 ∙ o; values_long = f.3 ∙ x };
-            };
+        steps = record { tolerances_long = v.2; direction_long = v.5; product_long = v.6; factor = record { diagonal_long = f.0; pattern_long = f.1 ∙ p; order_long = f.2 ∙ o; values_long = f.3 ∙ x } };
         table = record { jacobians_long = v.0; links_long = v.1; residual_long = v.3; pending_long = v.4; body_impulses_long = v.7 };
       }
 
 -- memory that kept its lengths
-pub table_room_same : (n b : ℕ) (m m' : TableMemory) → TableRoom n b m → length m'.jacobians ≡ length m.jacobians
-    → length m'.links ≡ length m.links → length m'.residual ≡ length m.residual → length m'.pending ≡ length m.pending
-    → length m'.body_impulses ≡ length m.body_impulses → TableRoom n b m'
-table_room_same n b m m' r ej el er ep ei =
-    record {
-      jacobians_long = ej ∙ r.jacobians_long;
-      links_long = el ∙ r.links_long;
-      residual_long = er ∙ r.residual_long;
-      pending_long = ep ∙ r.pending_long;
-      body_impulses_long = ei ∙ r.body_impulses_long;
-    }
+pub table_room_same : (n b : ℕ) (m m' : TableMemory) → TableRoom n b m → length m'.jacobians ≡ length m.jacobians → length m'.links ≡ length m.links → length m'.residual ≡ length m.residual → length m'.pending ≡ length m.pending → length m'.body_impulses ≡ length m.body_impulses → TableRoom n b m'
+table_room_same n b m m' r ej el er ep ei = record { jacobians_long = ej ∙ r.jacobians_long; links_long = el ∙ r.links_long; residual_long = er ∙ r.residual_long; pending_long = ep ∙ r.pending_long; body_impulses_long = ei ∙ r.body_impulses_long }

@@ -12,11 +12,8 @@ pub fn clear_steps(
     order: &mut [u32],
     values: &mut [f64],
 )
-    ensures { step_memory tolerances.new diagonal.new direction.new
-        product.new pattern.new order.new values.new
-        ≡ cleared_steps
-        (step_memory tolerances.old diagonal.old direction.old product.old
-        pattern.old order.old values.old) }
+    ensures { step_memory tolerances.new diagonal.new direction.new product.new pattern.new order.new values.new
+        ≡ cleared_steps (step_memory tolerances.old diagonal.old direction.old product.old pattern.old order.old values.old) }
 {
     loops::clear(tolerances);
     loops::clear(diagonal);
@@ -35,11 +32,8 @@ pub fn clear_table(
     pending: &mut [f64],
     body_impulses: &mut [f64],
 )
-    ensures { table_memory jacobians.new links.new residual.new
-        pending.new body_impulses.new
-        ≡ cleared_table
-        (table_memory jacobians.old links.old residual.old pending.old
-        body_impulses.old) }
+    ensures { table_memory jacobians.new links.new residual.new pending.new body_impulses.new
+        ≡ cleared_table (table_memory jacobians.old links.old residual.old pending.old body_impulses.old) }
 {
     loops::clear(jacobians);
     loops::clear_words(links);

@@ -1,5 +1,5 @@
 // Refusal 3 of the solve, of every length: true where it does not apply.
-ghost use Rattle.std.specs.Prelude.{◌≡◌};
+ghost use Rattle.std.specs.Prelude.{◌≡◌, ◌≤◌};
 ghost use Rattle.work_memory.specs.Lengths.{table_fits, vectors_fit, factor_fits};
 
 use loops::wide;

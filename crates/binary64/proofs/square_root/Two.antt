@@ -1,18 +1,18 @@
 -- Two bits of the root at a call: which digit from 0 to 3 comes next, what it takes, and that both bits are settled by it. Nothing here is about floats. Assumes nothing.
-use mathlib.Core.Path.{◌≡◌, refl, ◌∙◌}
+use mathlib.Core.Path.{◌≡◌, refl, sym, ◌∙◌}
 use Prim.Native.Nat.{ℕ, suc, ◌+◌, ◌-◌, ◌*◌, ◌/◌, ◌%◌, ◌^◌, ◌<◌, ◌≤◌}
 use mir.Val.{bool_byte}
 use native.Mathlib.Nat.{pow-succ'}
-use mathlib.Core.Bool.{Bool, true, false, cond}
-use lib.Dec.{ltb}
+use mathlib.Core.Bool.{Bool, true, false, not, cond}
+use lib.Dec.{T, ltb}
 use lib.Bits.{bit_and, and_mask}
+use native.Mathlib.Numerals.{add-one}
 use native.Mathlib.Omega.{arith}
 use borrow.Author.Tests.{ltb-true, ltb-false}
-use Rattle.binary64.specs.RootDigits.{Settles, digit_of, share_of}
+use Rattle.binary64.specs.RootDigits.{Partial, Settles, digit_of, share_of}
 
 -- ---- which digit it is
-pub digit_case : (a r : ℕ) (P : ℕ → Type 0) → (r ≤ a * 8 → P 0) → (a * 8 < r → r ≤ a * 16 + 3 → P 1)
-    → (a * 16 + 3 < r → r ≤ a * 24 + 8 → P 2) → (a * 24 + 8 < r → P 3) → P (digit_of a r)
+pub digit_case : (a r : ℕ) (P : ℕ → Type 0) → (r ≤ a * 8 → P 0) → (a * 8 < r → r ≤ a * 16 + 3 → P 1) → (a * 16 + 3 < r → r ≤ a * 24 + 8 → P 2) → (a * 24 + 8 < r → P 3) → P (digit_of a r)
 unfolding digit_of
 digit_case a r P zero one two three = third (ltb (a * 24 + 8) r) refl
   where
@@ -114,12 +114,10 @@ settle_two_code a b c d s ed es l k = rw (ed, es, shifted) (settle_two a b c l k
 
 -- the four ways of `next_share`
 module _ (a r x : ℕ) where
-  share_by : (k : ℕ) → x ≡ k → (r ≤ a * 8 → k ≡ 0) → (a * 8 < r → r ≤ a * 16 + 3 → k ≡ a * 8 + 1)
-      → (a * 16 + 3 < r → r ≤ a * 24 + 8 → k ≡ a * 16 + 4) → (a * 24 + 8 < r → k ≡ a * 24 + 9) → x ≡ share_of a r
+  share_by : (k : ℕ) → x ≡ k → (r ≤ a * 8 → k ≡ 0) → (a * 8 < r → r ≤ a * 16 + 3 → k ≡ a * 8 + 1) → (a * 16 + 3 < r → r ≤ a * 24 + 8 → k ≡ a * 16 + 4) → (a * 24 + 8 < r → k ≡ a * 24 + 9) → x ≡ share_of a r
   unfolding share_of
   share_by k e zero one two three =
-      e ∙ digit_case a r (λ n. k ≡ 8 * a * n + n * n) (λ h. let z = zero h in omega arith) (λ h u. let z = one h u in omega arith)
-      (λ h u. let z = two h u in omega arith) (λ h. let z = three h in omega arith)
+      e ∙ digit_case a r (λ n. k ≡ 8 * a * n + n * n) (λ h. let z = zero h in omega arith) (λ h u. let z = one h u in omega arith) (λ h u. let z = two h u in omega arith) (λ h. let z = three h in omega arith)
 
   pub share_none : r ≤ a * 16 + 3 → r ≤ a * 8 → x ≡ 0 → x ≡ share_of a r
   share_none u h e = share_by 0 e (λ _. refl) (λ k _. omega arith) (λ k _. omega arith) (λ k. omega arith)

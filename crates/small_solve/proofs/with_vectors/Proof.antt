@@ -9,105 +9,38 @@ use Rattle.own_memory.proofs.Lending.{lent_room, job_solved}
 use Rattle.small_solve.proofs.with_vectors.Statement.{statement}
 use Rattle.small_solve.proofs.with_vectors.Tie as tie
 
--- The places that the answers look back to.
-abbrev start₁ : tie.After-slice-known8 → tie.Start
-start₁ c = c.before.before.before.before.before.before.before.before.before.before.before.before.before
-
-abbrev start₂ : tie.After-solve-position-pcg-prepared-arg5 → tie.Start
-start₂ c = c.before.before.before.before.before.before.before.before.before.before.before.before.before.before.before.before.before.before
-
-abbrev start₃ : tie.After-jacobians → tie.Start
-start₃ c = c.before.before.before.before.before.before.before.before.before.before.before.before.before.before.before.before.before.before.before
-
-abbrev start₄ : tie.After-links → tie.Start
-start₄ c = c.before.before.before.before.before.before.before.before.before.before.before.before.before.before.before.before.before.before.before.before
-
-abbrev start₅ : tie.After-tolerances → tie.Start
-start₅ c = c.before.before.before.before.before.before.before.before.before.before.before.before.before.before.before.before.before.before.before.before.before
-
-abbrev start₆ : tie.After-diagonal → tie.Start
-start₆ c = c.before.before.before.before.before.before.before.before.before.before.before.before.before.before.before.before.before.before.before.before.before.before
-
-abbrev start₇ : tie.After-residual → tie.Start
-start₇ c = c.before.before.before.before.before.before.before.before.before.before.before.before.before.before.before.before.before.before.before.before.before.before.before
-
-abbrev start₈ : tie.After-pending → tie.Start
-start₈ c = c.before.before.before.before.before.before.before.before.before.before.before.before.before.before.before.before.before.before.before.before.before.before.before.before
-
-abbrev start₉ : tie.After-direction → tie.Start
-start₉ c = c.before.before.before.before.before.before.before.before.before.before.before.before.before.before.before.before.before.before.before.before.before.before.before.before.before
-
-abbrev start₁₀ : tie.After-product → tie.Start
-start₁₀ c = c.before.before.before.before.before.before.before.before.before.before.before.before.before.before.before.before.before.before.before.before.before.before.before.before.before.before
-
-abbrev start₁₁ : tie.After-body-impulses → tie.Start
-start₁₁ c = c.before.before.before.before.before.before.before.before.before.before.before.before.before.before.before.before.before.before.before.before.before.before.before.before.before.before.before
-
-abbrev at_pattern₁₂ : tie.After-slice-known16 → tie.After-pattern
-at_pattern₁₂ c = c.before.before.before.before.before
-
-abbrev at_rule_numbers₁₂ : tie.After-slice-known16 → tie.After-rule-numbers
-at_rule_numbers₁₂ c = (at_pattern₁₂ c).before.before.before.before.before.before.before.before.before.before.before
-
-abbrev at_new_centres₁₂ : tie.After-slice-known16 → tie.After-new-centres
-at_new_centres₁₂ c = (at_rule_numbers₁₂ c).before.before
-
-abbrev at_impulses₁₂ : tie.After-slice-known16 → tie.After-impulses
-at_impulses₁₂ c = (at_new_centres₁₂ c).before.before
-
-abbrev at_solution₁₂ : tie.After-slice-known16 → tie.After-solution
-at_solution₁₂ c = (at_impulses₁₂ c).before.before
-
-abbrev at_numbers₁₂ : tie.After-slice-known16 → tie.After-numbers
-at_numbers₁₂ c = (at_solution₁₂ c).before.before
-
-abbrev at_solve_position_pcg_prepared₁₂ : tie.After-slice-known16 → tie.After-solve-position-pcg-prepared
-at_solve_position_pcg_prepared₁₂ c = (at_numbers₁₂ c).before
-
-abbrev start₁₂ : tie.After-slice-known16 → tie.Start
-start₁₂ c = (at_solve_position_pcg_prepared₁₂ c).before.before.before.before.before.before.before.before.before.before.before.before.before.before.before.before.before.before.before.before.before.before.before.before.before.before.before.before.before.before.before
-
 pub with_vectors_spec : {M : Type 1} → statement M
 with_vectors_spec =
     tie.close
     (tie.spec
-    (λ c. omega (arith, (start₁ c).requires.1.0))  -- mul-jacobian-numbers
-    (λ c. omega (arith, (start₁ c).requires.1.0))  -- mul-body-links
-    (λ c. omega (arith, (start₁ c).requires.1.0))  -- mul-body-numbers
-    (λ c. omega (arith, (start₂ c).requires.1.0))  -- array-borrow-prefix-jacobians
-    (λ c. sym (length-take-le _ _ (omega (arith, (start₃ c).requires.1.0))))  -- slice-aggregate-solve-position-pcg-prepared
-    (λ c. omega (arith, (start₃ c).requires.1.0))  -- array-borrow-prefix-links
-    (λ c. sym (length-take-le _ _ (omega (arith, (start₄ c).requires.1.0))))  -- slice-aggregate-solve-position-pcg-prepared-2
-    (λ c. omega (arith, (start₄ c).requires.1.0))  -- array-borrow-prefix-tolerances
-    (λ c. sym (length-take-le _ _ (omega (arith, (start₅ c).requires.1.0))))  -- slice-aggregate-solve-position-pcg-prepared-3
-    (λ c. omega (arith, (start₅ c).requires.1.0))  -- array-borrow-prefix-diagonal
-    (λ c. sym (length-take-le _ _ (omega (arith, (start₆ c).requires.1.0))))  -- slice-aggregate-solve-position-pcg-prepared-4
-    (λ c. omega (arith, (start₆ c).requires.1.0))  -- array-borrow-prefix-residual
-    (λ c. sym (length-take-le _ _ (omega (arith, (start₇ c).requires.1.0))))  -- slice-aggregate-solve-position-pcg-prepared-5
-    (λ c. omega (arith, (start₇ c).requires.1.0))  -- array-borrow-prefix-pending
-    (λ c. sym (length-take-le _ _ (omega (arith, (start₈ c).requires.1.0))))  -- slice-aggregate-solve-position-pcg-prepared-6
-    (λ c. omega (arith, (start₈ c).requires.1.0))  -- array-borrow-prefix-direction
-    (λ c. sym (length-take-le _ _ (omega (arith, (start₉ c).requires.1.0))))  -- slice-aggregate-solve-position-pcg-prepared-7
-    (λ c. omega (arith, (start₉ c).requires.1.0))  -- array-borrow-prefix-product
-    (λ c. sym (length-take-le _ _ (omega (arith, (start₁₀ c).requires.1.0))))  -- slice-aggregate-solve-position-pcg-prepared-8
-    (λ c. omega (arith, (start₁₀ c).requires.1.0))  -- array-borrow-prefix-body-impulses
-    (λ c. sym (length-take-le _ _ (omega (arith, (start₁₁ c).requires.1.0))))  -- slice-aggregate-solve-position-pcg-prepared-9
+    (λ c. omega (arith, c.before.before.before.before.before.before.before.before.before.before.before.before.before.requires.1.0))  -- mul-jacobian-numbers
+    (λ c. omega (arith, c.before.before.before.before.before.before.before.before.before.before.before.before.before.requires.1.0))  -- mul-body-links
+    (λ c. omega (arith, c.before.before.before.before.before.before.before.before.before.before.before.before.before.requires.1.0))  -- mul-body-numbers
+    (λ c. omega (arith, c.before.before.before.before.before.before.before.before.before.before.before.before.before.before.before.before.before.before.requires.1.0))  -- array-borrow-prefix-jacobians
+    (λ c. sym (length-take-le _ _ (omega (arith, c.before.before.before.before.before.before.before.before.before.before.before.before.before.before.before.before.before.before.before.requires.1.0))))  -- slice-aggregate-solve-position-pcg-prepared
+    (λ c. omega (arith, c.before.before.before.before.before.before.before.before.before.before.before.before.before.before.before.before.before.before.before.requires.1.0))  -- array-borrow-prefix-links
+    (λ c. sym (length-take-le _ _ (omega (arith, c.before.before.before.before.before.before.before.before.before.before.before.before.before.before.before.before.before.before.before.before.requires.1.0))))  -- slice-aggregate-solve-position-pcg-prepared-2
+    (λ c. omega (arith, c.before.before.before.before.before.before.before.before.before.before.before.before.before.before.before.before.before.before.before.before.requires.1.0))  -- array-borrow-prefix-tolerances
+    (λ c. sym (length-take-le _ _ (omega (arith, c.before.before.before.before.before.before.before.before.before.before.before.before.before.before.before.before.before.before.before.before.before.requires.1.0))))  -- slice-aggregate-solve-position-pcg-prepared-3
+    (λ c. omega (arith, c.before.before.before.before.before.before.before.before.before.before.before.before.before.before.before.before.before.before.before.before.before.requires.1.0))  -- array-borrow-prefix-diagonal
+    (λ c. sym (length-take-le _ _ (omega (arith, c.before.before.before.before.before.before.before.before.before.before.before.before.before.before.before.before.before.before.before.before.before.before.requires.1.0))))  -- slice-aggregate-solve-position-pcg-prepared-4
+    (λ c. omega (arith, c.before.before.before.before.before.before.before.before.before.before.before.before.before.before.before.before.before.before.before.before.before.before.requires.1.0))  -- array-borrow-prefix-residual
+    (λ c. sym (length-take-le _ _ (omega (arith, c.before.before.before.before.before.before.before.before.before.before.before.before.before.before.before.before.before.before.before.before.before.before.before.requires.1.0))))  -- slice-aggregate-solve-position-pcg-prepared-5
+    (λ c. omega (arith, c.before.before.before.before.before.before.before.before.before.before.before.before.before.before.before.before.before.before.before.before.before.before.before.requires.1.0))  -- array-borrow-prefix-pending
+    (λ c. sym (length-take-le _ _ (omega (arith, c.before.before.before.before.before.before.before.before.before.before.before.before.before.before.before.before.before.before.before.before.before.before.before.before.requires.1.0))))  -- slice-aggregate-solve-position-pcg-prepared-6
+    (λ c. omega (arith, c.before.before.before.before.before.before.before.before.before.before.before.before.before.before.before.before.before.before.before.before.before.before.before.before.requires.1.0))  -- array-borrow-prefix-direction
+    (λ c. sym (length-take-le _ _ (omega (arith, c.before.before.before.before.before.before.before.before.before.before.before.before.before.before.before.before.before.before.before.before.before.before.before.before.before.requires.1.0))))  -- slice-aggregate-solve-position-pcg-prepared-7
+    (λ c. omega (arith, c.before.before.before.before.before.before.before.before.before.before.before.before.before.before.before.before.before.before.before.before.before.before.before.before.before.requires.1.0))  -- array-borrow-prefix-product
+    (λ c. sym (length-take-le _ _ (omega (arith, c.before.before.before.before.before.before.before.before.before.before.before.before.before.before.before.before.before.before.before.before.before.before.before.before.before.before.requires.1.0))))  -- slice-aggregate-solve-position-pcg-prepared-8
+    (λ c. omega (arith, c.before.before.before.before.before.before.before.before.before.before.before.before.before.before.before.before.before.before.before.before.before.before.before.before.before.before.requires.1.0))  -- array-borrow-prefix-body-impulses
+    (λ c. sym (length-take-le _ _ (omega (arith, c.before.before.before.before.before.before.before.before.before.before.before.before.before.before.before.before.before.before.before.before.before.before.before.before.before.before.before.requires.1.0))))  -- slice-aggregate-solve-position-pcg-prepared-9
     (λ c κs. search rules)  -- solve-position-pcg-prepared-requires
-    (λ c. (at_numbers₁₂ c).numbers.given)  -- same-length
-    (λ c. (at_solution₁₂ c).solution.given)  -- same-length-2
-    (λ c. (at_impulses₁₂ c).impulses.given)  -- same-length-3
-    (λ c. (at_new_centres₁₂ c).new-centres.given)  -- same-length-4
-    (λ c. (at_rule_numbers₁₂ c).rule-numbers.given)  -- same-length-5
-    (λ c. (at_pattern₁₂ c).pattern.given)  -- same-length-6
+    (λ c. c.before.before.before.before.before.before.before.before.before.before.before.before.before.before.before.before.before.before.before.before.before.before.before.before.numbers.given)  -- same-length
+    (λ c. c.before.before.before.before.before.before.before.before.before.before.before.before.before.before.before.before.before.before.before.before.before.before.solution.given)  -- same-length-2
+    (λ c. c.before.before.before.before.before.before.before.before.before.before.before.before.before.before.before.before.before.before.before.before.impulses.given)  -- same-length-3
+    (λ c. c.before.before.before.before.before.before.before.before.before.before.before.before.before.before.before.before.before.before.new-centres.given)  -- same-length-4
+    (λ c. c.before.before.before.before.before.before.before.before.before.before.before.before.before.before.before.before.rule-numbers.given)  -- same-length-5
+    (λ c. c.before.before.before.before.before.pattern.given)  -- same-length-6
     (λ c. c.before.before.before.order.given)  -- same-length-7
     (λ c. c.before.values.given)  -- same-length-8
-    (λ c.
-    job_solved Position (start₁₂ c).args.rows (start₁₂ c).args.bodies (start₁₂ c).args.mode
-    (start₁₂ c).args.numbers.now (start₁₂ c).args.words.now (start₁₂ c).args.masses.now
-    (start₁₂ c).args.solution.now (start₁₂ c).args.impulses.now _ (length (start₁₂ c).args.centres.now)
-    (length (start₁₂ c).args.new-centres.now) (length (start₁₂ c).args.rule-words.now)
-    (length (start₁₂ c).args.rule-tolerances.now) (length (start₁₂ c).args.rule-numbers.now) 0
-    (start₁₂ c).requires.0
-    (lent_room 128 64 (start₁₂ c).requires.1.0 (start₁₂ c).requires.1.1 _ _ _ _ _ _ _ _ _ refl refl refl refl refl
-    refl refl refl refl)
-    (at_solve_position_pcg_prepared₁₂ c).solve-position-pcg-prepared.ensures))  -- returns
+    (λ c. job_solved Position c.before.before.before.before.before.before.before.before.before.before.before.before.before.before.before.before.before.before.before.before.before.before.before.before.before.before.before.before.before.before.before.before.before.before.before.before.before.before.before.before.before.before.before.before.before.before.before.before.before.before.before.before.before.before.before.before.args.rows c.before.before.before.before.before.before.before.before.before.before.before.before.before.before.before.before.before.before.before.before.before.before.before.before.before.before.before.before.before.before.before.before.before.before.before.before.before.before.before.before.before.before.before.before.before.before.before.before.before.before.before.before.before.before.before.before.args.bodies c.before.before.before.before.before.before.before.before.before.before.before.before.before.before.before.before.before.before.before.before.before.before.before.before.before.before.before.before.before.before.before.before.before.before.before.before.before.before.before.before.before.before.before.before.before.before.before.before.before.before.before.before.before.before.before.before.args.mode c.before.before.before.before.before.before.before.before.before.before.before.before.before.before.before.before.before.before.before.before.before.before.before.before.before.before.before.before.before.before.before.before.before.before.before.before.before.before.before.before.before.before.before.before.before.before.before.before.before.before.before.before.before.before.before.before.args.numbers.now c.before.before.before.before.before.before.before.before.before.before.before.before.before.before.before.before.before.before.before.before.before.before.before.before.before.before.before.before.before.before.before.before.before.before.before.before.before.before.before.before.before.before.before.before.before.before.before.before.before.before.before.before.before.before.before.before.args.words.now c.before.before.before.before.before.before.before.before.before.before.before.before.before.before.before.before.before.before.before.before.before.before.before.before.before.before.before.before.before.before.before.before.before.before.before.before.before.before.before.before.before.before.before.before.before.before.before.before.before.before.before.before.before.before.before.before.args.masses.now c.before.before.before.before.before.before.before.before.before.before.before.before.before.before.before.before.before.before.before.before.before.before.before.before.before.before.before.before.before.before.before.before.before.before.before.before.before.before.before.before.before.before.before.before.before.before.before.before.before.before.before.before.before.before.before.before.args.solution.now c.before.before.before.before.before.before.before.before.before.before.before.before.before.before.before.before.before.before.before.before.before.before.before.before.before.before.before.before.before.before.before.before.before.before.before.before.before.before.before.before.before.before.before.before.before.before.before.before.before.before.before.before.before.before.before.before.args.impulses.now _ (length c.before.before.before.before.before.before.before.before.before.before.before.before.before.before.before.before.before.before.before.before.before.before.before.before.before.before.before.before.before.before.before.before.before.before.before.before.before.before.before.before.before.before.before.before.before.before.before.before.before.before.before.before.before.before.before.before.args.centres.now) (length c.before.before.before.before.before.before.before.before.before.before.before.before.before.before.before.before.before.before.before.before.before.before.before.before.before.before.before.before.before.before.before.before.before.before.before.before.before.before.before.before.before.before.before.before.before.before.before.before.before.before.before.before.before.before.before.before.args.new-centres.now) (length c.before.before.before.before.before.before.before.before.before.before.before.before.before.before.before.before.before.before.before.before.before.before.before.before.before.before.before.before.before.before.before.before.before.before.before.before.before.before.before.before.before.before.before.before.before.before.before.before.before.before.before.before.before.before.before.before.args.rule-words.now) (length c.before.before.before.before.before.before.before.before.before.before.before.before.before.before.before.before.before.before.before.before.before.before.before.before.before.before.before.before.before.before.before.before.before.before.before.before.before.before.before.before.before.before.before.before.before.before.before.before.before.before.before.before.before.before.before.before.args.rule-tolerances.now) (length c.before.before.before.before.before.before.before.before.before.before.before.before.before.before.before.before.before.before.before.before.before.before.before.before.before.before.before.before.before.before.before.before.before.before.before.before.before.before.before.before.before.before.before.before.before.before.before.before.before.before.before.before.before.before.before.before.args.rule-numbers.now) 0 c.before.before.before.before.before.before.before.before.before.before.before.before.before.before.before.before.before.before.before.before.before.before.before.before.before.before.before.before.before.before.before.before.before.before.before.before.before.before.before.before.before.before.before.before.before.before.before.before.before.before.before.before.before.before.before.before.requires.0 (lent_room 128 64 c.before.before.before.before.before.before.before.before.before.before.before.before.before.before.before.before.before.before.before.before.before.before.before.before.before.before.before.before.before.before.before.before.before.before.before.before.before.before.before.before.before.before.before.before.before.before.before.before.before.before.before.before.before.before.before.before.requires.1.0 c.before.before.before.before.before.before.before.before.before.before.before.before.before.before.before.before.before.before.before.before.before.before.before.before.before.before.before.before.before.before.before.before.before.before.before.before.before.before.before.before.before.before.before.before.before.before.before.before.before.before.before.before.before.before.before.before.requires.1.1 _ _ _ _ _ _ _ _ _ refl refl refl refl refl refl refl refl refl) c.before.before.before.before.before.before.before.before.before.before.before.before.before.before.before.before.before.before.before.before.before.before.before.before.before.solve-position-pcg-prepared.ensures))  -- returns

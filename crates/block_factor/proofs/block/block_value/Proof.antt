@@ -6,13 +6,6 @@ use Rattle.block_factor.proofs.block.block_value.Tie as tie
 
 ruleset known = (block_is, rules)
 
--- The places that the answers look back to.
-abbrev at_mass_at : tie.After-cross-value2 → tie.After-mass-at
-at_mass_at c = c.before.before.before.before
-
-abbrev at_wide : tie.After-cross-value2 → tie.After-wide
-at_wide c = (at_mass_at c).before
-
 pub block_value_spec : {M : Type 1} → statement M
 block_value_spec =
     tie.close
@@ -23,7 +16,4 @@ block_value_spec =
     (λ c κs. search known)  -- wide-requires-2
     (λ c κs. search known)  -- mass-at-requires-2
     (λ c κs. search known)  -- cross-value-requires-2
-    (λ c.
-    block_is _ _ _ _ _ _ _ _ _ (at_mass_at c).mass_at.ensures (at_wide c).wide.ensures
-    c.before.mass-at2.ensures c.before.before.wide2.ensures
-    c.before.before.before.cross-value.ensures c.cross-value2.ensures))  -- returns
+    (λ c. block_is _ _ _ _ _ _ _ _ _ c.before.before.before.before.mass_at.ensures c.before.before.before.before.before.wide.ensures c.before.mass-at2.ensures c.before.before.wide2.ensures c.before.before.before.cross-value.ensures c.cross-value2.ensures))  -- returns

@@ -1,11 +1,11 @@
 -- `block_jacobi::build::build_block_jacobi_preconditioner` meets its contract: the runs before `start` have their blocks, and of the run at `start` the pairs before (row, column) are made. Assumes nothing.
-use Prim.Native.Nat.{◌*◌, ◌-◌}
+use Prim.Native.Nat.{◌+◌, ◌*◌, ◌-◌, ◌<◌, ◌≤◌}
 use mathlib.Core.Path.{◌≡◌}
 use lib.ListN.{length}
 use native.Mathlib.Omega.{arith}
 use Rattle.loops.proofs.Loop.{loops}
 use Rattle.mass_operator.specs.System.{compact_system}
-use Rattle.block_jacobi.specs.Runs.{owner_in}
+use Rattle.block_jacobi.specs.Runs.{owner_in, run_length}
 use Rattle.block_jacobi.specs.Blocks.{block_turn}
 use Rattle.block_jacobi.specs.declared.build.Blocked.TheVariants as blocked
 use Rattle.block_jacobi.proofs.RunsOf.{Runs, runs_none, runs_more, runs_stop, runs_end, run_within, run_some}
@@ -22,45 +22,12 @@ decreases-loop jacobians links masses owners bodies blocks rows answer₀ start 
 
 abbrev invariant-runs : tie.invariant-runs
 invariant-runs jacobians links masses owners bodies blocks₀ rows answer₀ start₀ blocks answer start =
-    (answer ≡ blocked.Done) × (length blocks ≡ length blocks₀) × Runs
-    (block_turn (compact_system (length owners) bodies jacobians links masses) (owner_in owners)) (owner_in owners) blocks₀ (length owners)
-    start blocks
+    (answer ≡ blocked.Done) × (length blocks ≡ length blocks₀) × Runs (block_turn (compact_system (length owners) bodies jacobians links masses) (owner_in owners)) (owner_in owners) blocks₀ (length owners) start blocks
 
 abbrev decreases-runs : tie.decreases-runs
 decreases-runs jacobians links masses owners bodies blocks₀ rows answer₀ start₀ blocks answer start = length owners - start
 
 ruleset known = (runs_none, runs_more, runs_stop, runs_end, run_within, run_some, pairs_none, pairs_column, pairs_row, pairs_stop, pairs_end, pair_on, pair_out, run_eleven, run_out, run_on, blocks_pass, loops)
-
--- The places that the answers look back to.
-abbrev at_cell_at₁ : tie.Then2 invariant-loop decreases-loop invariant-runs decreases-runs → tie.After-cell-at invariant-loop decreases-loop invariant-runs decreases-runs
-at_cell_at₁ c = c.before.before.before.before
-
-abbrev at_loop₁ : tie.Then2 invariant-loop decreases-loop invariant-runs decreases-runs → tie.At-loop invariant-loop decreases-loop invariant-runs decreases-runs
-at_loop₁ c = (at_cell_at₁ c).before.before.before
-
-abbrev at_cell_at₂ : tie.Else2 invariant-loop decreases-loop invariant-runs decreases-runs → tie.After-cell-at invariant-loop decreases-loop invariant-runs decreases-runs
-at_cell_at₂ c = c.before.before.before.before
-
-abbrev at_loop₂ : tie.Else2 invariant-loop decreases-loop invariant-runs decreases-runs → tie.At-loop invariant-loop decreases-loop invariant-runs decreases-runs
-at_loop₂ c = (at_cell_at₂ c).before.before.before
-
-abbrev at_loop₃ : tie.After-slice-known2 invariant-loop decreases-loop invariant-runs decreases-runs → tie.At-loop invariant-loop decreases-loop invariant-runs decreases-runs
-at_loop₃ c = c.before.before.before.before.before.before
-
-abbrev at_run_length₃ : tie.After-slice-known2 invariant-loop decreases-loop invariant-runs decreases-runs → tie.After-run-length invariant-loop decreases-loop invariant-runs decreases-runs
-at_run_length₃ c = (at_loop₃ c).before.before
-
-abbrev at_runs₃ : tie.After-slice-known2 invariant-loop decreases-loop invariant-runs decreases-runs → tie.At-runs invariant-loop decreases-loop invariant-runs decreases-runs
-at_runs₃ c = (at_run_length₃ c).before.before
-
-abbrev at_loop₄ : tie.After-known-told2 invariant-loop decreases-loop invariant-runs decreases-runs → tie.At-loop invariant-loop decreases-loop invariant-runs decreases-runs
-at_loop₄ c = c.before.before.before.before.before.before
-
-abbrev at_run_length₄ : tie.After-known-told2 invariant-loop decreases-loop invariant-runs decreases-runs → tie.After-run-length invariant-loop decreases-loop invariant-runs decreases-runs
-at_run_length₄ c = (at_loop₄ c).before.before
-
-abbrev at_runs₄ : tie.After-known-told2 invariant-loop decreases-loop invariant-runs decreases-runs → tie.At-runs invariant-loop decreases-loop invariant-runs decreases-runs
-at_runs₄ c = (at_run_length₄ c).before.before
 
 pub build_block_jacobi_preconditioner_spec : {M : Type 1} → statement M
 build_block_jacobi_preconditioner_spec =
@@ -78,41 +45,17 @@ build_block_jacobi_preconditioner_spec =
     (λ c. search known)  -- enum-known-number
     (λ c. search known)  -- add-column
     (λ c. search known)  -- loop-less
-    (λ c. (
-      search known,
-      pairs_column _ _ _ (at_loop₁ c).loop.invariant.1 (omega arith)
-          (pair_on _ _ _ _ _ _ (at_cell_at₁ c).Cell-at.ensures _ c.before.before.x.given.1) (omega arith),
-    ))  -- loop-again
+    (λ c. (search known, pairs_column _ _ _ c.before.before.before.before.before.before.before.loop.invariant.1 (omega arith) (pair_on _ _ _ _ _ _ c.before.before.before.before.Cell-at.ensures _ c.before.before.x.given.1) (omega arith)))  -- loop-again
     (λ c. search known)  -- add-row
     (λ c. search known)  -- loop-less-2
-    (λ c. (
-      search known,
-      pairs_row _ _ _ (at_loop₂ c).loop.invariant.1 (omega arith)
-          (pair_on _ _ _ _ _ _ (at_cell_at₂ c).Cell-at.ensures _ c.before.before.x.given.1) (omega arith),
-    ))  -- loop-again-2
+    (λ c. (search known, pairs_row _ _ _ c.before.before.before.before.before.before.before.loop.invariant.1 (omega arith) (pair_on _ _ _ _ _ _ c.before.before.before.before.Cell-at.ensures _ c.before.before.x.given.1) (omega arith)))  -- loop-again-2
     (λ c κs. search known)  -- put-block-requires
     (λ c. search known)  -- add-start
     (λ c. search known)  -- runs-less
-    (λ c. (
-      search known,
-      search known,
-      runs_more (at_runs₃ c).runs.invariant.2 (blocks_pass _ _) (omega arith)
-          (at_run_length₃ c).run_length.ensures.is
-          (run_on _ _ _ _ _ ((at_runs₃ c).runs.inv.2.first (omega arith))
-          (at_run_length₃ c).run_length.ensures.is (omega arith)
-          (pairs_end _ _ _ (at_loop₃ c).loop.invariant.1 (omega arith)) c.before.before.put-block.ensures),
-    ))  -- runs-again
+    (λ c. (search known, search known, runs_more c.before.before.before.before.before.before.before.before.before.before.runs.invariant.2 (blocks_pass _ _) (omega arith) c.before.before.before.before.before.before.before.before.run_length.ensures.is (run_on _ _ _ _ _ (c.before.before.before.before.before.before.before.before.before.before.runs.invariant.2.first (omega arith)) c.before.before.before.before.before.before.before.before.run_length.ensures.is (omega arith) (pairs_end _ _ _ c.before.before.before.before.before.before.loop.invariant.1 (omega arith)) c.before.before.put-block.ensures)))  -- runs-again
     (λ c. search known)  -- same-length
     (λ c. blocks_end _ _ _ _ _ c.before.runs.invariant.2 _ c.before.runs.invariant.0 (omega arith))  -- returns
     (λ c. search known)  -- same-length-2
-    (λ c.
-    blocks_stop _ _ _ _ _ c.before.before.before.runs.invariant.2 (omega arith)
-    (run_eleven _ _ _ _ _ (c.before.before.before.runs.invariant.2.first (omega arith))
-    c.before.run_length.ensures.is (omega arith)))  -- returns_2
+    (λ c. blocks_stop _ _ _ _ _ c.before.before.before.runs.invariant.2 (omega arith) (run_eleven _ _ _ _ _ (c.before.before.before.runs.invariant.2.first (omega arith)) c.before.run_length.ensures.is (omega arith)))  -- returns_2
     (λ c. search known)  -- same-length-3
-    (λ c.
-    blocks_stop _ _ _ _ _ (at_runs₄ c).runs.invariant.2 (omega arith)
-    (run_out _ _ _ _ _ ((at_runs₄ c).runs.inv.2.first (omega arith))
-    (at_run_length₄ c).run_length.ensures.is (omega arith)
-    (pairs_stop _ _ _ (at_loop₄ c).loop.invariant.1 (omega arith)
-    (pair_out _ _ _ _ _ _ c.before.before.before.Cell-at.ensures _ c.before.number.given.1)))))  -- returns-3
+    (λ c. blocks_stop _ _ _ _ _ c.before.before.before.before.before.before.before.before.before.before.runs.invariant.2 (omega arith) (run_out _ _ _ _ _ (c.before.before.before.before.before.before.before.before.before.before.runs.invariant.2.first (omega arith)) c.before.before.before.before.before.before.before.before.run_length.ensures.is (omega arith) (pairs_stop _ _ _ c.before.before.before.before.before.before.loop.invariant.1 (omega arith) (pair_out _ _ _ _ _ _ c.before.before.before.Cell-at.ensures _ c.before.number.given.1)))))  -- returns-3

@@ -5,16 +5,12 @@ use Rattle.check_alone.proofs.Alone.{alone_3}
 use Rattle.check_alone.proofs.small.checked_small.Statement.{statement}
 use Rattle.check_alone.proofs.small.checked_small.Tie as tie
 
--- The places that the answers look back to.
-abbrev start : tie.After-with-small-memory-arg → tie.Start
-start c = c.before.before.before.before.before.before.before.before.before.before.before
-
 pub checked_small_spec : {M : Type 1} → statement M
 checked_small_spec =
     tie.close
     (tie.spec
     (λ c κs. search rules)  -- given-fits-requires
     (λ c. alone_3 _ _ _ c.before.given-fits.ensures c.if1.true)  -- returns
-    (λ c κs. (passed_3 c.before.before.given-fits.ensures c.before.if1.false, (start c).requires))  -- with-small-memory-requires
+    (λ c κs. (passed_3 c.before.before.given-fits.ensures c.before.if1.false, c.before.before.before.before.before.before.before.before.before.before.before.requires))  -- with-small-memory-requires
     (λ c. c.before.rule-numbers.given)  -- same-length
     (λ c. c.before.before.with-small-memory.ensures))  -- returns_2

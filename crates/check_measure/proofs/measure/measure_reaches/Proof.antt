@@ -16,16 +16,6 @@ decreases-loop kind rows numbers given sizes values₀ i₀ values i = rows - i
 
 ruleset known = (replaced_none, reaches_more, reaches_made, given_below, loops)
 
--- The places that the answers look back to.
-abbrev at_loop_test : tie.After-reach invariant-loop decreases-loop → tie.In-loop invariant-loop decreases-loop
-at_loop_test c = c.before.before.before.before
-
-abbrev at_loop : tie.After-reach invariant-loop decreases-loop → tie.At-loop invariant-loop decreases-loop
-at_loop c = (at_loop_test c).before
-
-abbrev start : tie.After-reach invariant-loop decreases-loop → tie.Start invariant-loop decreases-loop
-start c = (at_loop c).before.before.before.before.before
-
 pub measure_reaches_spec : {M : Type 1} → statement M
 measure_reaches_spec =
     tie.close
@@ -41,8 +31,6 @@ measure_reaches_spec =
     (λ c. search known)  -- slice-write-values
     (λ c. search known)  -- add-i
     (λ c. search known)  -- loop-less
-    (λ c.
-    reaches_more _ _ (at_loop c).loop.invariant (start c).requires.3 (at_loop_test c).loop-test.true
-    c.before.before.before.error-at.ensures c.reach.ensures refl)  -- loop-again
+    (λ c. reaches_more _ _ c.before.before.before.before.before.loop.invariant c.before.before.before.before.before.before.before.before.before.before.requires.3 c.before.before.before.before.loop-test.true c.before.before.before.error-at.ensures c.reach.ensures refl)  -- loop-again
     (λ c. search known)  -- same-length
     (λ c. search known))  -- returns

@@ -24,15 +24,4 @@ row_sound_at_spec =
     (λ c κs. search rules)  -- scalars-finite-requires
     (λ c κs. search rules)  -- scalars-in-range-requires
     (λ c κs. search rules)  -- row-in-range-at-requires
-    (λ c.
-    rw (
-      c.before.before.before.before.before.row-words-fit.ensures,
-      c.before.before.before.before.bodies-below.ensures,
-      c.before.before.before.is_finite_lem.ensures,
-      c.before.before.scalars-finite.ensures,
-      c.before.scalars-in-range.ensures,
-      c.row-in-range-at.ensures,
-      c.before.before.before.before.before.before.vec-at.ensures,
-      c.before.before.before.before.before.before.before.scalars-at.ensures,
-      c.before.before.before.before.before.before.before.before.words_at.ensures,
-    )))  -- returns
+    (λ c. rw (c.before.before.before.before.before.row-words-fit.ensures, c.before.before.before.before.bodies-below.ensures, c.before.before.before.is_finite_lem.ensures, c.before.before.scalars-finite.ensures, c.before.scalars-in-range.ensures, c.row-in-range-at.ensures, c.before.before.before.before.before.before.vec-at.ensures, c.before.before.before.before.before.before.before.scalars-at.ensures, c.before.before.before.before.before.before.before.before.words_at.ensures)))  -- returns

@@ -3,16 +3,6 @@ use borrow.Author.Rules.{rules}
 use Rattle.check_work.proofs.clear.clear_work.Statement.{statement}
 use Rattle.check_work.proofs.clear.clear_work.Tie as tie
 
--- The places that the answers look back to.
-abbrev at_values : tie.After-slice-known8 → tie.After-values
-at_values c = c.before.before.before.before.before
-
-abbrev at_size_impulses : tie.After-slice-known8 → tie.After-size-impulses
-at_size_impulses c = (at_values c).before.before.before.before
-
-abbrev at_impulses : tie.After-slice-known8 → tie.After-impulses
-at_impulses c = (at_size_impulses c).before.before.before.before
-
 pub clear_work_spec : {M : Type 1} → statement M
 clear_work_spec =
     tie.close
@@ -21,14 +11,8 @@ clear_work_spec =
     (λ c κs. search rules)  -- clear-requires-2
     (λ c κs. search rules)  -- clear-requires-3
     (λ c κs. search rules)  -- clear-requires-4
-    (λ c. (at_impulses c).impulses.given)  -- same-length
-    (λ c. (at_size_impulses c).size-impulses.given)  -- same-length-2
-    (λ c. (at_values c).values.given)  -- same-length-3
+    (λ c. c.before.before.before.before.before.before.before.before.before.before.before.before.before.impulses.given)  -- same-length
+    (λ c. c.before.before.before.before.before.before.before.before.before.size-impulses.given)  -- same-length-2
+    (λ c. c.before.before.before.before.before.values.given)  -- same-length-3
     (λ c. c.before.sizes.given)  -- same-length-4
-    (λ c.
-    rw (
-      c.before.before.before.before.before.before.before.before.before.before.before.before.before.before.clear.ensures,
-      c.before.before.before.before.before.before.before.before.before.before.clear2.ensures,
-      c.before.before.before.before.before.before.clear3.ensures,
-      c.before.before.clear4.ensures,
-    )))  -- returns
+    (λ c. rw (c.before.before.before.before.before.before.before.before.before.before.before.before.before.before.clear.ensures, c.before.before.before.before.before.before.before.before.before.before.clear2.ensures, c.before.before.before.before.before.before.clear3.ensures, c.before.before.clear4.ensures)))  -- returns

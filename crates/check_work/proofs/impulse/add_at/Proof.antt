@@ -14,10 +14,4 @@ add_at_spec =
     (λ c κs. search rules)  -- add-generalized-impulse-requires
     (λ c κs. search rules)  -- put-paired-requires
     (λ c. search rules)  -- same-length
-    (λ c.
-    rw (
-      c.before.before.put-paired.ensures,
-      c.before.before.before.add-generalized-impulse.ensures,
-      c.before.before.before.before.before.paired_at.ensures,
-      c.before.before.before.before.before.before.before.wide.ensures,
-    )))  -- returns
+    (λ c. rw (c.before.before.put-paired.ensures, c.before.before.before.add-generalized-impulse.ensures, c.before.before.before.before.before.paired_at.ensures, c.before.before.before.before.before.before.before.wide.ensures)))  -- returns

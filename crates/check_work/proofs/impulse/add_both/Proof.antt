@@ -4,38 +4,15 @@ use Rattle.check_work.proofs.Bodies.{read, size_read}
 use Rattle.check_work.proofs.impulse.add_both.Statement.{statement}
 use Rattle.check_work.proofs.impulse.add_both.Tie as tie
 
--- The places that the answers look back to.
-abbrev start₁ : tie.After-add-row-arg → tie.Start
-start₁ c = c.before.before.before.before.before.before
-
-abbrev at_jacobian_at₂ : tie.After-add-row-arg2 → tie.After-jacobian-at
-at_jacobian_at₂ c = c.before.before.before.before.before.before.before
-
-abbrev start₂ : tie.After-add-row-arg2 → tie.Start
-start₂ c = (at_jacobian_at₂ c).before.before.before.before.before
-
 pub add_both_spec : {M : Type 1} → statement M
 add_both_spec =
     tie.close
     (tie.spec
     (λ c κs. search rules)  -- jacobian-at-requires
-    (λ c κs. read c.before.jacobian-at.ensures (start₁ c).requires.1.0)  -- add-row-requires
+    (λ c κs. read c.before.jacobian-at.ensures c.before.before.before.before.before.before.requires.1.0)  -- add-row-requires
     (λ c κs. search rules)  -- row-size-requires
     (λ c κs. search rules)  -- abs-requires
-    (λ c κs.
-    size_read (at_jacobian_at₂ c).jacobian-at.ensures (start₂ c).requires.1.1
-    c.before.before.row-size.ensures)  -- add-row-requires-2
+    (λ c κs. size_read c.before.before.before.before.before.before.before.jacobian-at.ensures c.before.before.before.before.before.before.before.before.before.before.before.before.requires.1.1 c.before.before.row-size.ensures)  -- add-row-requires-2
     (λ c. search rules)  -- same-length
     (λ c. search rules)  -- same-length-2
-    (λ c. (
-      rw (
-        c.before.before.before.before.before.before.before.before.add_row.ensures,
-        c.before.before.before.before.before.before.before.before.before.before.jacobian-at.ensures,
-      ),
-      rw (
-        c.before.before.add-row2.ensures,
-        c.before.before.before.before.abs.ensures,
-        c.before.before.before.before.before.row-size.ensures,
-        c.before.before.before.before.before.before.before.before.before.before.jacobian-at.ensures,
-      ),
-    )))  -- returns
+    (λ c. (rw (c.before.before.before.before.before.before.before.before.add_row.ensures, c.before.before.before.before.before.before.before.before.before.before.jacobian-at.ensures), rw (c.before.before.add-row2.ensures, c.before.before.before.before.abs.ensures, c.before.before.before.before.before.row-size.ensures, c.before.before.before.before.before.before.before.before.before.before.jacobian-at.ensures))))  -- returns

@@ -18,69 +18,19 @@ invariant-loop numbers words multipliers bodies impulses₀ size-impulses₀ i�
 abbrev decreases-loop : tie.decreases-loop
 decreases-loop numbers words multipliers bodies impulses₀ size-impulses₀ i₀ impulses size-impulses i = length multipliers - i
 
--- The places that the answers look back to.
-abbrev at_clear₁ : tie.After-slice-known4 invariant-loop decreases-loop → tie.After-clear invariant-loop decreases-loop
-at_clear₁ c = c.before.before.before.before.before.before
-
-abbrev start₁ : tie.After-slice-known4 invariant-loop decreases-loop → tie.Start invariant-loop decreases-loop
-start₁ c = (at_clear₁ c).before.before.before.before.before.before.before
-
-abbrev at_loop₂ : tie.After-add-both-arg2 invariant-loop decreases-loop → tie.At-loop invariant-loop decreases-loop
-at_loop₂ c = c.before.before.before.before
-
-abbrev start₂ : tie.After-add-both-arg2 invariant-loop decreases-loop → tie.Start invariant-loop decreases-loop
-start₂ c = (at_loop₂ c).before.before.before.before.before.before.before.before.before.before.before.before.before.before
-
-abbrev at_add_both₃ : tie.After-slice-known6 invariant-loop decreases-loop → tie.After-add-both invariant-loop decreases-loop
-at_add_both₃ c = c.before.before.before.before
-
-abbrev at_loop_test₃ : tie.After-slice-known6 invariant-loop decreases-loop → tie.In-loop invariant-loop decreases-loop
-at_loop_test₃ c = (at_add_both₃ c).before.before.before.before
-
-abbrev at_loop₃ : tie.After-slice-known6 invariant-loop decreases-loop → tie.At-loop invariant-loop decreases-loop
-at_loop₃ c = (at_loop_test₃ c).before
-
-abbrev start₃ : tie.After-slice-known6 invariant-loop decreases-loop → tie.Start invariant-loop decreases-loop
-start₃ c = (at_loop₃ c).before.before.before.before.before.before.before.before.before.before.before.before.before.before
-
 pub sum_impulses_spec : {M : Type 1} → statement M
 sum_impulses_spec =
     tie.close
     (tie.spec invariant-loop decreases-loop
     (λ c κs. search loops)  -- clear-requires
     (λ c κs. search loops)  -- clear-requires-2
-    (λ c. (
-      search loops,
-      none_yet _ _ _ (start₁ c).args.impulses.now (start₁ c).requires.1.0.0 (at_clear₁ c).clear.ensures,
-      none_yet _ _ _ (start₁ c).args.size-impulses.now (start₁ c).requires.1.0.1
-          c.before.before.clear2.ensures,
-    ))  -- loop-holds
+    (λ c. (search loops, none_yet _ _ _ c.before.before.before.before.before.before.before.before.before.before.before.before.before.args.impulses.now c.before.before.before.before.before.before.before.before.before.before.before.before.before.requires.1.0.0 c.before.before.before.before.before.before.clear.ensures, none_yet _ _ _ c.before.before.before.before.before.before.before.before.before.before.before.before.before.args.size-impulses.now c.before.before.before.before.before.before.before.before.before.before.before.before.before.requires.1.0.1 c.before.before.clear2.ensures))  -- loop-holds
     (λ c. search loops)  -- mul-add-both
     (λ c. search loops)  -- shared-slice-read-add-both
-    (λ c κs. (
-      (search loops, search loops),
-      (
-        room (start₂ c).requires.1.1 _ c.before.before.before.loop-test.true
-            (at_loop₂ c).loop.invariant.1.long,
-        room (start₂ c).requires.1.1 _ c.before.before.before.loop-test.true
-            (at_loop₂ c).loop.invariant.2.long,
-      ),
-    ))  -- add-both-requires
+    (λ c κs. ((search loops, search loops), (room c.before.before.before.before.before.before.before.before.before.before.before.before.before.before.before.before.before.before.requires.1.1 _ c.before.before.before.loop-test.true c.before.before.before.before.loop.invariant.1.long, room c.before.before.before.before.before.before.before.before.before.before.before.before.before.before.before.before.before.before.requires.1.1 _ c.before.before.before.loop-test.true c.before.before.before.before.loop.invariant.2.long)))  -- add-both-requires
     (λ c. search loops)  -- add-i
     (λ c. search loops)  -- loop-less
-    (λ c. (
-      search loops,
-      one_more (at_loop₃ c).loop.invariant.1 (below_a (start₃ c).requires.1.1 _ (at_loop_test₃ c).loop-test.true)
-          (below_b (start₃ c).requires.1.1 _ (at_loop_test₃ c).loop-test.true)
-          (at_add_both₃ c).add-both.ensures.0,
-      one_more (at_loop₃ c).loop.invariant.2
-          (size_below_a (start₃ c).requires.1.1 _ (at_loop_test₃ c).loop-test.true)
-          (size_below_b (start₃ c).requires.1.1 _ (at_loop_test₃ c).loop-test.true)
-          (at_add_both₃ c).add-both.ensures.1,
-    ))  -- loop-again
+    (λ c. (search loops, one_more c.before.before.before.before.before.before.before.before.before.loop.invariant.1 (below_a c.before.before.before.before.before.before.before.before.before.before.before.before.before.before.before.before.before.before.before.before.before.before.before.requires.1.1 _ c.before.before.before.before.before.before.before.before.loop-test.true) (below_b c.before.before.before.before.before.before.before.before.before.before.before.before.before.before.before.before.before.before.before.before.before.before.before.requires.1.1 _ c.before.before.before.before.before.before.before.before.loop-test.true) c.before.before.before.before.add-both.ensures.0, one_more c.before.before.before.before.before.before.before.before.before.loop.invariant.2 (size_below_a c.before.before.before.before.before.before.before.before.before.before.before.before.before.before.before.before.before.before.before.before.before.before.before.requires.1.1 _ c.before.before.before.before.before.before.before.before.loop-test.true) (size_below_b c.before.before.before.before.before.before.before.before.before.before.before.before.before.before.before.before.before.before.before.before.before.before.before.requires.1.1 _ c.before.before.before.before.before.before.before.before.loop-test.true) c.before.before.before.before.add-both.ensures.1))  -- loop-again
     (λ c. search loops)  -- same-length
     (λ c. search loops)  -- same-length-2
-    (λ c. (
-      all_rows c.before.loop.invariant.1 c.before.loop.invariant.0 (search loops),
-      all_rows c.before.loop.invariant.2 c.before.loop.invariant.0 (search loops),
-    )))  -- returns
+    (λ c. (all_rows c.before.loop.invariant.1 c.before.loop.invariant.0 (search loops), all_rows c.before.loop.invariant.2 c.before.loop.invariant.0 (search loops))))  -- returns

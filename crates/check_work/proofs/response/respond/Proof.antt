@@ -8,8 +8,7 @@ use Rattle.check_work.proofs.response.respond.Statement.{statement}
 use Rattle.check_work.proofs.response.respond.Tie as tie
 
 abbrev invariant-loop : tie.invariant-loop
-invariant-loop masses bodies impulses₀ size-impulses₀ b₀ impulses size-impulses b = (b ≤ bodies) × Turned masses bodies b impulses₀ impulses ×
-    Turned (map absolute masses) bodies b size-impulses₀ size-impulses
+invariant-loop masses bodies impulses₀ size-impulses₀ b₀ impulses size-impulses b = (b ≤ bodies) × Turned masses bodies b impulses₀ impulses × Turned (map absolute masses) bodies b size-impulses₀ size-impulses
 
 abbrev decreases-loop : tie.decreases-loop
 decreases-loop masses bodies impulses₀ size-impulses₀ b₀ impulses size-impulses b = bodies - b

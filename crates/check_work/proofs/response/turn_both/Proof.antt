@@ -14,17 +14,4 @@ turn_both_spec =
     (λ c κs. search rules)  -- turn-requires-2
     (λ c. search rules)  -- same-length
     (λ c. search rules)  -- same-length-2
-    (λ c. (
-      rw (
-        c.before.before.before.before.before.before.before.turn.ensures,
-        c.before.before.before.before.before.before.before.before.before.mass_at.ensures,
-      ),
-      rw (
-        c.before.before.turn2.ensures,
-        c.before.before.before.before.mass_size.ensures,
-        c.before.before.before.before.before.before.before.before.before.mass_at.ensures,
-        mass_size
-            c.before.before.before.before.before.before.before.before.before.before.before.before.before.args.masses.now
-            c.before.before.before.before.before.before.before.before.before.before.before.before.before.args.b,
-      ),
-    )))  -- returns
+    (λ c. (rw (c.before.before.before.before.before.before.before.turn.ensures, c.before.before.before.before.before.before.before.before.before.mass_at.ensures), rw (c.before.before.turn2.ensures, c.before.before.before.before.mass_size.ensures, c.before.before.before.before.before.before.before.before.before.mass_at.ensures, mass_size c.before.before.before.before.before.before.before.before.before.before.before.before.before.args.masses.now c.before.before.before.before.before.before.before.before.before.before.before.before.before.args.b))))  -- returns

@@ -19,40 +19,19 @@ invariant-loop numbers words bodies responses size-responses values₀ sizes₀ 
 abbrev decreases-loop : tie.decreases-loop
 decreases-loop numbers words bodies responses size-responses values₀ sizes₀ i₀ values sizes i = length values₀ - i
 
--- The places that the answers look back to.
-abbrev start₁ : tie.After-slice-known2 invariant-loop decreases-loop → tie.Start invariant-loop decreases-loop
-start₁ c = c.before.before.before.before.before.before
-
-abbrev start₂ : tie.In-loop invariant-loop decreases-loop → tie.Start invariant-loop decreases-loop
-start₂ c = c.before.before.before.before.before.before.before.before
-
 pub fill_values_spec : {M : Type 1} → statement M
 fill_values_spec =
     tie.close
     (tie.spec invariant-loop decreases-loop
-    (λ c. (fills_none _ refl, fills_none _ (start₁ c).requires.0.2))  -- loop-holds
-    (λ c κs. (
-      (search fills, search fills),
-      (
-        room (start₂ c).requires.1.1 _ (omega (arith, c.before.loop.invariant.0.long)) (start₂ c).requires.1.0.0,
-        room (start₂ c).requires.1.1 _ (omega (arith, c.before.loop.invariant.0.long)) (start₂ c).requires.1.0.1,
-      ),
-    ))  -- value-at-requires
+    (λ c. (fills_none _ refl, fills_none _ c.before.before.before.before.before.before.requires.0.2))  -- loop-holds
+    (λ c κs. ((search fills, search fills), (room c.before.before.before.before.before.before.before.before.requires.1.1 _ (omega (arith, c.before.loop.invariant.0.long)) c.before.before.before.before.before.before.before.before.requires.1.0.0, room c.before.before.before.before.before.before.before.before.requires.1.1 _ (omega (arith, c.before.loop.invariant.0.long)) c.before.before.before.before.before.before.before.before.requires.1.0.1)))  -- value-at-requires
     (λ c. search fills)  -- mul-values
     (λ c. search fills)  -- slice-write-values
     (λ c. search fills)  -- mul-sizes
     (λ c. search fills)  -- slice-write-sizes
     (λ c. search fills)  -- add-i
     (λ c. search fills)  -- loop-less
-    (λ c. (
-      fills_put c.before.before.loop.invariant.0 (omega (arith, c.before.before.loop.invariant.0.long))
-          c.value-at.ensures.0 refl,
-      fills_put c.before.before.loop.invariant.1 (omega (arith, c.before.before.loop.invariant.0.long))
-          c.value-at.ensures.1 refl,
-    ))  -- loop-again
+    (λ c. (fills_put c.before.before.loop.invariant.0 (omega (arith, c.before.before.loop.invariant.0.long)) c.value-at.ensures.0 refl, fills_put c.before.before.loop.invariant.1 (omega (arith, c.before.before.loop.invariant.0.long)) c.value-at.ensures.1 refl))  -- loop-again
     (λ c. search fills)  -- same-length
     (λ c. search fills)  -- same-length-2
-    (λ c. (
-      filled_tabulate c.before.loop.invariant.0 (omega (arith, c.before.loop.invariant.0.long)),
-      filled_tabulate c.before.loop.invariant.1 (omega (arith, c.before.loop.invariant.0.long)),
-    )))  -- returns
+    (λ c. (filled_tabulate c.before.loop.invariant.0 (omega (arith, c.before.loop.invariant.0.long)), filled_tabulate c.before.loop.invariant.1 (omega (arith, c.before.loop.invariant.0.long)))))  -- returns

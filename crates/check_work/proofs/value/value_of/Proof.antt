@@ -18,14 +18,4 @@ value_of_spec =
     (λ c κs. search rules)  -- dot-requires-2
     (λ c κs. search rules)  -- dot-requires-3
     (λ c κs. search rules)  -- dot-requires-4
-    (λ c.
-    rw (
-      c.before.before.before.dot.ensures,
-      c.before.before.dot2.ensures,
-      c.before.dot3.ensures,
-      c.dot4.ensures,
-      c.before.before.before.before.before.before.paired_at.ensures,
-      c.before.before.before.before.before.before.before.wide.ensures,
-      c.before.before.before.before.paired-at2.ensures,
-      c.before.before.before.before.before.wide2.ensures,
-    )))  -- returns
+    (λ c. rw (c.before.before.before.dot.ensures, c.before.before.dot2.ensures, c.before.dot3.ensures, c.dot4.ensures, c.before.before.before.before.before.before.paired_at.ensures, c.before.before.before.before.before.before.before.wide.ensures, c.before.before.before.before.paired-at2.ensures, c.before.before.before.before.before.wide2.ensures)))  -- returns

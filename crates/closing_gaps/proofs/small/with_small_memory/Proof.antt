@@ -11,54 +11,20 @@ use Rattle.closing_gaps.proofs.OwnMemory.{gaps_alone}
 use Rattle.closing_gaps.proofs.small.with_small_memory.Statement.{statement}
 use Rattle.closing_gaps.proofs.small.with_small_memory.Tie as tie
 
--- The places that the answers look back to.
-abbrev start₁ : tie.After-slice-known2 → tie.Start
-start₁ c = c.before.before.before.before.before.before.before.before.before
-
-abbrev start₂ : tie.After-closing-gaps-arg2 → tie.Start
-start₂ c = c.before.before.before.before.before.before.before.before.before.before.before
-
-abbrev start₃ : tie.After-impulses → tie.Start
-start₃ c = c.before.before.before.before.before.before.before.before.before.before.before.before
-
-abbrev start₄ : tie.After-size-impulses → tie.Start
-start₄ c = c.before.before.before.before.before.before.before.before.before.before.before.before.before
-
-abbrev start₅ : tie.After-values → tie.Start
-start₅ c = c.before.before.before.before.before.before.before.before.before.before.before.before.before.before
-
-abbrev start₆ : tie.After-sizes → tie.Start
-start₆ c = c.before.before.before.before.before.before.before.before.before.before.before.before.before.before.before
-
-abbrev at_gaps₇ : tie.After-sizes2 → tie.After-gaps
-at_gaps₇ c = c.before.before.before.before.before
-
-abbrev at_rule_numbers₇ : tie.After-sizes2 → tie.After-rule-numbers
-at_rule_numbers₇ c = (at_gaps₇ c).before.before
-
-abbrev at_closing_gaps₇ : tie.After-sizes2 → tie.After-closing-gaps
-at_closing_gaps₇ c = (at_rule_numbers₇ c).before
-
-abbrev start₇ : tie.After-sizes2 → tie.Start
-start₇ c = (at_closing_gaps₇ c).before.before.before.before.before.before.before.before.before.before.before.before.before.before.before.before
-
 pub with_small_memory_spec : {M : Type 1} → statement M
 with_small_memory_spec =
     tie.close
     (tie.spec
-    (λ c. omega (arith, (start₁ c).requires.1))  -- mul-body-numbers
-    (λ c. omega (arith, (start₂ c).requires.1))  -- array-borrow-prefix-impulses
-    (λ c. sym (length-take-le _ _ (omega (arith, (start₃ c).requires.1))))  -- slice-aggregate-closing-gaps
-    (λ c. omega (arith, (start₃ c).requires.1))  -- array-borrow-prefix-size-impulses
-    (λ c. sym (length-take-le _ _ (omega (arith, (start₄ c).requires.1))))  -- slice-aggregate-closing-gaps-2
-    (λ c. omega (arith, (start₄ c).requires.1))  -- array-borrow-prefix-values
-    (λ c. sym (length-take-le _ _ (omega (arith, (start₅ c).requires.1))))  -- slice-aggregate-closing-gaps-3
-    (λ c. omega (arith, (start₅ c).requires.1))  -- array-borrow-prefix-sizes
-    (λ c. sym (length-take-le _ _ (omega (arith, (start₆ c).requires.1))))  -- slice-aggregate-closing-gaps-4
+    (λ c. omega (arith, c.before.before.before.before.before.before.before.before.before.requires.1))  -- mul-body-numbers
+    (λ c. omega (arith, c.before.before.before.before.before.before.before.before.before.before.before.requires.1))  -- array-borrow-prefix-impulses
+    (λ c. sym (length-take-le _ _ (omega (arith, c.before.before.before.before.before.before.before.before.before.before.before.before.requires.1))))  -- slice-aggregate-closing-gaps
+    (λ c. omega (arith, c.before.before.before.before.before.before.before.before.before.before.before.before.requires.1))  -- array-borrow-prefix-size-impulses
+    (λ c. sym (length-take-le _ _ (omega (arith, c.before.before.before.before.before.before.before.before.before.before.before.before.before.requires.1))))  -- slice-aggregate-closing-gaps-2
+    (λ c. omega (arith, c.before.before.before.before.before.before.before.before.before.before.before.before.before.requires.1))  -- array-borrow-prefix-values
+    (λ c. sym (length-take-le _ _ (omega (arith, c.before.before.before.before.before.before.before.before.before.before.before.before.before.before.requires.1))))  -- slice-aggregate-closing-gaps-3
+    (λ c. omega (arith, c.before.before.before.before.before.before.before.before.before.before.before.before.before.before.requires.1))  -- array-borrow-prefix-sizes
+    (λ c. sym (length-take-le _ _ (omega (arith, c.before.before.before.before.before.before.before.before.before.before.before.before.before.before.before.requires.1))))  -- slice-aggregate-closing-gaps-4
     (λ c κs. search rules)  -- closing-gaps-requires
-    (λ c. (at_rule_numbers₇ c).rule-numbers.given)  -- same-length
-    (λ c. (at_gaps₇ c).gaps.given)  -- same-length-2
-    (λ c.
-    gaps_alone Position (gaps_lent (start₇ c).args.n (length (start₇ c).args.gaps.now)) _ (start₇ c).requires.0
-    (taken 128 64 _ _ _ _ (start₇ c).requires.1.0 (start₇ c).requires.1.1 refl refl refl refl)
-    (at_closing_gaps₇ c).closing-gaps.ensures))  -- returns
+    (λ c. c.before.before.before.before.before.before.before.rule-numbers.given)  -- same-length
+    (λ c. c.before.before.before.before.before.gaps.given)  -- same-length-2
+    (λ c. gaps_alone Position (gaps_lent c.before.before.before.before.before.before.before.before.before.before.before.before.before.before.before.before.before.before.before.before.before.before.before.before.args.n (length c.before.before.before.before.before.before.before.before.before.before.before.before.before.before.before.before.before.before.before.before.before.before.before.before.args.gaps.now)) _ c.before.before.before.before.before.before.before.before.before.before.before.before.before.before.before.before.before.before.before.before.before.before.before.before.requires.0 (taken 128 64 _ _ _ _ c.before.before.before.before.before.before.before.before.before.before.before.before.before.before.before.before.before.before.before.before.before.before.before.before.requires.1.0 c.before.before.before.before.before.before.before.before.before.before.before.before.before.before.before.before.before.before.before.before.before.before.before.before.requires.1.1 refl refl refl refl) c.before.before.before.before.before.before.before.before.closing-gaps.ensures))  -- returns

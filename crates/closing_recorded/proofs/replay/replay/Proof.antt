@@ -4,10 +4,6 @@ use Rattle.closing_recorded.proofs.Forming.{formed_head, formed_of, replay_none,
 use Rattle.closing_recorded.proofs.replay.replay.Statement.{statement}
 use Rattle.closing_recorded.proofs.replay.replay.Tie as tie
 
--- The places that the answers look back to.
-abbrev at_well_formed : tie.After-read → tie.After-well-formed
-at_well_formed c = c.before.before.before.before
-
 pub replay_spec : {M : Type 1} → statement M
 replay_spec =
     tie.close
@@ -16,23 +12,8 @@ replay_spec =
     (λ c κs. search rules)  -- malformed-requires
     (λ c. replay_none _ c.before.before.well-formed-2.ensures c.before.if1.true c.malformed.ensures)  -- returns
     (λ c κs. omega (arith, formed_head _ c.before.well-formed-2.ensures c.if1.false))  -- word-requires
-    (λ c.
-    omega (
-      arith,
-      c.word.ensures,
-      (formed_of _ c.before.before.well-formed-2.ensures c.before.if1.false refl refl).rows,
-    ))  -- cast-read
+    (λ c. omega (arith, c.word.ensures, (formed_of _ c.before.before.well-formed-2.ensures c.before.if1.false refl refl).rows))  -- cast-read
     (λ c κs. omega (arith, formed_head _ c.before.before.well-formed-2.ensures c.before.if1.false))  -- word-requires-2
-    (λ c.
-    omega (
-      arith,
-      c.word2.ensures,
-      (formed_of _ c.before.before.before.well-formed-2.ensures c.before.before.if1.false refl refl
-          ).bodies,
-    ))  -- cast-read-2
-    (λ c κs.
-    formed_of _ c.before.before.before.well-formed-2.ensures c.before.before.if1.false
-    c.before.word.ensures c.word2.ensures)  -- read-requires
-    (λ c.
-    replay_seen _ (at_well_formed c).well-formed-2.ensures c.before.before.before.if1.false
-    c.before.before.word.ensures c.before.word2.ensures c.read.ensures))  -- returns_2
+    (λ c. omega (arith, c.word2.ensures, (formed_of _ c.before.before.before.well-formed-2.ensures c.before.before.if1.false refl refl).bodies))  -- cast-read-2
+    (λ c κs. formed_of _ c.before.before.before.well-formed-2.ensures c.before.before.if1.false c.before.word.ensures c.word2.ensures)  -- read-requires
+    (λ c. replay_seen _ c.before.before.before.before.well-formed-2.ensures c.before.before.before.if1.false c.before.before.word.ensures c.before.word2.ensures c.read.ensures))  -- returns_2

@@ -23,10 +23,4 @@ compact_at_spec =
     (λ c. search rules)  -- add-t16
     (λ c. search rules)  -- mul-t17
     (λ c. search rules)  -- shared-slice-read-t19
-    (λ c.
-    rw (
-      c.before.before.before.before.before.spread_at.ensures,
-      c.before.before.before.before.spread-at2.ensures,
-      c.before.before.before.spread-at3.ensures,
-      c.before.before.spread-at4.ensures,
-    )))  -- returns
+    (λ c. rw (c.before.before.before.before.before.spread_at.ensures, c.before.before.before.before.spread-at2.ensures, c.before.before.before.spread-at3.ensures, c.before.before.spread-at4.ensures)))  -- returns

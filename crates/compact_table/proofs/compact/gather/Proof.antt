@@ -15,16 +15,6 @@ decreases-loop numbers words rows jacobians₀ links₀ i₀ jacobians links i =
 
 ruleset known = (gathered_none, gathered_more, gathered_all, loops)
 
--- The places that the answers look back to.
-abbrev at_gather_at : tie.After-slice-known4 invariant-loop decreases-loop → tie.After-gather-at invariant-loop decreases-loop
-at_gather_at c = c.before.before.before.before
-
-abbrev at_loop : tie.After-slice-known4 invariant-loop decreases-loop → tie.At-loop invariant-loop decreases-loop
-at_loop c = (at_gather_at c).before.before.before.before
-
-abbrev start : tie.After-slice-known4 invariant-loop decreases-loop → tie.Start invariant-loop decreases-loop
-start c = (at_loop c).before.before.before.before.before
-
 pub gather_spec : {M : Type 1} → statement M
 gather_spec =
     tie.close
@@ -33,11 +23,7 @@ gather_spec =
     (λ c κs. search known)  -- gather-at-requires
     (λ c. search known)  -- add-i
     (λ c. search known)  -- loop-less
-    (λ c. (
-      search known,
-      gathered_more (start c).args.rows (at_loop c).loop.invariant.1 (search known) (search known) (search known)
-          (at_gather_at c).gather-at.ensures.0 (at_gather_at c).gather-at.ensures.1,
-    ))  -- loop-again
+    (λ c. (search known, gathered_more c.before.before.before.before.before.before.before.before.before.before.before.before.before.args.rows c.before.before.before.before.before.before.before.before.loop.invariant.1 (search known) (search known) (search known) c.before.before.before.before.gather-at.ensures.0 c.before.before.before.before.gather-at.ensures.1))  -- loop-again
     (λ c. search known)  -- same-length
     (λ c. search known)  -- same-length-2
     (λ c. search known))  -- returns

@@ -12,13 +12,4 @@ gather_at_spec =
     (λ c κs. search rules)  -- put-link-requires
     (λ c. search rules)  -- same-length
     (λ c. search rules)  -- same-length-2
-    (λ c. (
-      rw (
-        c.before.before.before.before.before.before.put-jacobian.ensures,
-        c.before.before.before.before.before.before.before.before.jacobian-at.ensures,
-      ),
-      rw (
-        c.before.before.put-link.ensures,
-        c.before.before.before.before.before.before.before.before.jacobian-at.ensures,
-      ),
-    )))  -- returns
+    (λ c. (rw (c.before.before.before.before.before.before.put-jacobian.ensures, c.before.before.before.before.before.before.before.before.jacobian-at.ensures), rw (c.before.before.put-link.ensures, c.before.before.before.before.before.before.before.before.jacobian-at.ensures))))  -- returns

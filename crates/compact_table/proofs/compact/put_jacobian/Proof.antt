@@ -18,10 +18,4 @@ put_jacobian_spec =
     (λ c. search rules)  -- add-put-spread-3
     (λ c κs. search rules)  -- put-spread-requires-4
     (λ c. search rules)  -- same-length
-    (λ c.
-    rw (
-      c.before.before.put-spread4.ensures,
-      c.before.before.before.before.before.before.put-spread3.ensures,
-      c.before.before.before.before.before.before.before.before.before.before.put-spread2.ensures,
-      c.before.before.before.before.before.before.before.before.before.before.before.before.before.before.put-spread.ensures,
-    )))  -- returns
+    (λ c. rw (c.before.before.put-spread4.ensures, c.before.before.before.before.before.before.put-spread3.ensures, c.before.before.before.before.before.before.before.before.before.before.put-spread2.ensures, c.before.before.before.before.before.before.before.before.before.before.before.before.before.before.put-spread.ensures)))  -- returns

@@ -2,6 +2,7 @@
 use Prim.Native.Nat.{◌+◌, ◌-◌}
 use lib.Dec.{eqb}
 use mathlib.Core.Path.{refl}
+use native.Mathlib.Omega.{arith}
 use Rattle.first_refusal.specs.Run.{owner_at}
 use Rattle.first_refusal.proofs.Led.{Led, led, led_none, led_more, led_stop, led_end}
 use Rattle.first_refusal.proofs.Runs.{run_is, owner_same, owner_other}
@@ -13,13 +14,6 @@ invariant-loop words rows start owner left k₀ k = Led (λ k. eqb (owner_at wor
 
 abbrev decreases-loop : tie.decreases-loop
 decreases-loop words rows start owner left k₀ k = rows - start - k
-
--- The places that the answers look back to.
-abbrev start₁ : tie.Then1 invariant-loop decreases-loop → tie.Start invariant-loop decreases-loop
-start₁ c = c.before.before.before.before.before
-
-abbrev start₂ : tie.Else1 invariant-loop decreases-loop → tie.Start invariant-loop decreases-loop
-start₂ c = c.before.before.before.before.before
 
 pub run_length_spec : {M : Type 1} → statement M
 run_length_spec =
@@ -36,15 +30,8 @@ run_length_spec =
     (λ c. search led)  -- add-if1-2
     (λ c. search led)  -- mul-if1-2
     (λ c. search led)  -- shared-slice-read-if1
-    (λ c.
-    run_is (start₁ c).args.words.now (start₁ c).args.start (start₁ c).args.rows
-    (led_stop c.before.before.before.loop.invariant c.before.before.loop-test.true
-    (owner_other (start₁ c).args.words.now (start₁ c).args.start _ c.if1.true) refl))  -- returns
+    (λ c. run_is c.before.before.before.before.before.args.words.now c.before.before.before.before.before.args.start c.before.before.before.before.before.args.rows (led_stop c.before.before.before.loop.invariant c.before.before.loop-test.true (owner_other c.before.before.before.before.before.args.words.now c.before.before.before.before.before.args.start _ c.if1.true) refl))  -- returns
     (λ c. search led)  -- add-k
     (λ c. search led)  -- loop-less
-    (λ c.
-    led_more c.before.before.before.loop.invariant c.before.before.loop-test.true
-    (owner_same (start₂ c).args.words.now (start₂ c).args.start _ c.if1.false) refl)  -- loop-again
-    (λ c.
-    run_is c.before.before.before.args.words.now c.before.before.before.args.start
-    c.before.before.before.args.rows (led_end c.before.loop.invariant c.loop-test.false)))  -- returns_2
+    (λ c. led_more c.before.before.before.loop.invariant c.before.before.loop-test.true (owner_same c.before.before.before.before.before.args.words.now c.before.before.before.before.before.args.start _ c.if1.false) refl)  -- loop-again
+    (λ c. run_is c.before.before.before.args.words.now c.before.before.before.args.start c.before.before.before.args.rows (led_end c.before.loop.invariant c.loop-test.false)))  -- returns_2

@@ -5,19 +5,6 @@ use Rattle.first_refusal.proofs.Judged.{opens_position, opens_velocity}
 use Rattle.first_refusal.proofs.tests.opens_at.Statement.{statement}
 use Rattle.first_refusal.proofs.tests.opens_at.Tie as tie
 
--- The places that the answers look back to.
-abbrev at_scalars_at₁ : tie.After-row-opens → tie.After-scalars-at
-at_scalars_at₁ c = c.before.before.before.before
-
-abbrev start₁ : tie.After-row-opens → tie.Start
-start₁ c = (at_scalars_at₁ c).before.before.before
-
-abbrev at_scalars_at₂ : tie.After-velocity-row-opens → tie.After-scalars-at
-at_scalars_at₂ c = c.before.before.before.before
-
-abbrev start₂ : tie.After-velocity-row-opens → tie.Start
-start₂ c = (at_scalars_at₂ c).before.before.before
-
 pub opens_at_spec : {M : Type 1} → statement M
 opens_at_spec =
     tie.close
@@ -31,11 +18,5 @@ opens_at_spec =
     (λ c κs. search rules)  -- row-opens-requires
     (λ c. search rules)  -- enum-told-2
     (λ c κs. search rules)  -- velocity-row-opens-requires
-    (λ c.
-    opens_position (start₁ c).args.numbers.now (start₁ c).args.words.now (start₁ c).args.i
-    (at_scalars_at₁ c).scalars-at.ensures c.before.before.before.words_at.ensures
-    c.before.enum_told.given.1 c.row_opens.ensures)  -- returns
-    (λ c.
-    opens_velocity (start₂ c).args.numbers.now (start₂ c).args.words.now (start₂ c).args.i
-    (at_scalars_at₂ c).scalars-at.ensures c.before.before.before.words_at.ensures
-    c.before.enum-told2.given.1 c.velocity-row-opens.ensures))  -- returns_2
+    (λ c. opens_position c.before.before.before.before.before.before.before.args.numbers.now c.before.before.before.before.before.before.before.args.words.now c.before.before.before.before.before.before.before.args.i c.before.before.before.before.scalars-at.ensures c.before.before.before.words_at.ensures c.before.enum_told.given.1 c.row_opens.ensures)  -- returns
+    (λ c. opens_velocity c.before.before.before.before.before.before.before.args.numbers.now c.before.before.before.before.before.before.before.args.words.now c.before.before.before.before.before.before.before.args.i c.before.before.before.before.scalars-at.ensures c.before.before.before.words_at.ensures c.before.enum-told2.given.1 c.velocity-row-opens.ensures))  -- returns_2

@@ -7,13 +7,6 @@ use Rattle.first_refusal.proofs.Parts.{rule_alone, part_long, rules_long}
 use Rattle.first_refusal.proofs.tests.rule_fits.Statement.{statement}
 use Rattle.first_refusal.proofs.tests.rule_fits.Tie as tie
 
--- The places that the answers look back to.
-abbrev start₁ : tie.After-rules-fit-arg2 → tie.Start
-start₁ c = c.before.before.before.before
-
-abbrev start₂ : tie.After-rules-fit → tie.Start
-start₂ c = c.before.before.before.before.before
-
 pub rule_fits_spec : {M : Type 1} → statement M
 rule_fits_spec =
     tie.close
@@ -29,14 +22,5 @@ rule_fits_spec =
     (λ c. search rules)  -- sub-rules-fit-2
     (λ c. search rules)  -- part-rules-fit-start-2
     (λ c. search rules)  -- part-rules-fit-end-2
-    (λ c κs.
-    rules_long (start₁ c).args.rule-words.now (start₁ c).args.rule-tolerances.now (start₁ c).args.r
-    {m = 3 * (start₁ c).args.r + 3 - 3 * (start₁ c).args.r}
-    {k = (start₁ c).args.r + 1 - (start₁ c).args.r} (omega arith) (omega arith)
-    (omega (arith, (start₁ c).requires.0, (start₁ c).requires.1)) (omega (arith, (start₁ c).requires.0)))  -- rules-fit-requires
-    (λ c.
-    c.rules_fit.ensures ∙ rule_alone (start₂ c).args.rule-words.now (start₂ c).args.rule-tolerances.now
-    (start₂ c).args.r {m = 3 * (start₂ c).args.r + 3 - 3 * (start₂ c).args.r}
-    {k = (start₂ c).args.r + 1 - (start₂ c).args.r} (omega arith) (omega arith)
-    (part_long 1 (start₂ c).args.r (start₂ c).args.rule-tolerances.now refl
-    (omega (arith, (start₂ c).requires.0)))))  -- returns
+    (λ c κs. rules_long c.before.before.before.before.args.rule-words.now c.before.before.before.before.args.rule-tolerances.now c.before.before.before.before.args.r {m = 3 * c.before.before.before.before.args.r + 3 - 3 * c.before.before.before.before.args.r} {k = c.before.before.before.before.args.r + 1 - c.before.before.before.before.args.r} (omega arith) (omega arith) (omega (arith, c.before.before.before.before.requires.0, c.before.before.before.before.requires.1)) (omega (arith, c.before.before.before.before.requires.0)))  -- rules-fit-requires
+    (λ c. c.rules_fit.ensures ∙ rule_alone c.before.before.before.before.before.args.rule-words.now c.before.before.before.before.before.args.rule-tolerances.now c.before.before.before.before.before.args.r {m = 3 * c.before.before.before.before.before.args.r + 3 - 3 * c.before.before.before.before.before.args.r} {k = c.before.before.before.before.before.args.r + 1 - c.before.before.before.before.before.args.r} (omega arith) (omega arith) (part_long 1 c.before.before.before.before.before.args.r c.before.before.before.before.before.args.rule-tolerances.now refl (omega (arith, c.before.before.before.before.before.requires.0)))))  -- returns

@@ -12,26 +12,12 @@ invariant-loop marks mark count width from to₀ b₀ to b = MarkedBelow nan wid
 abbrev decreases-loop : tie.decreases-loop
 decreases-loop marks mark count width from to₀ b₀ to b = count - b
 
--- The places that the answers look back to.
-abbrev start : tie.After-copy-marked-row-arg invariant-loop decreases-loop → tie.Start invariant-loop decreases-loop
-start c = c.before.before.before.before.before.before
-
 pub copy_marked_spec : {M : Type 1} → statement M
 copy_marked_spec =
     tie.close
     (tie.spec invariant-loop decreases-loop
     (λ c. search picks)  -- loop-holds
-    (λ c κs. (
-      omega (arith, (start c).requires.0),
-      row_fits (start c).args.width c.before.before.loop.b (start c).args.count _ (omega arith)
-          (start c).requires.1,
-      omega (
-        arith,
-        row_fits (start c).args.width c.before.before.loop.b (start c).args.count _ (omega arith)
-            (start c).requires.2,
-        c.before.before.loop.invariant.marked.long,
-      ),
-    ))  -- copy-marked-row-requires
+    (λ c κs. (omega (arith, c.before.before.before.before.before.before.requires.0), row_fits c.before.before.before.before.before.before.args.width c.before.before.loop.b c.before.before.before.before.before.before.args.count _ (omega arith) c.before.before.before.before.before.before.requires.1, omega (arith, row_fits c.before.before.before.before.before.before.args.width c.before.before.loop.b c.before.before.before.before.before.before.args.count _ (omega arith) c.before.before.before.before.before.before.requires.2, c.before.before.loop.invariant.marked.long)))  -- copy-marked-row-requires
     (λ c. search picks)  -- add-b
     (λ c. search picks)  -- loop-less
     (λ c. search picks)  -- loop-again

@@ -12,24 +12,12 @@ invariant-loop groups g rows width from to₀ k₀ i₀ to k i = Picking 0 width
 abbrev decreases-loop : tie.decreases-loop
 decreases-loop groups g rows width from to₀ k₀ i₀ to k i = rows - i
 
--- The places that the answers look back to.
-abbrev start : tie.After-pick-word-row-arg invariant-loop decreases-loop → tie.Start invariant-loop decreases-loop
-start c = c.before.before.before.before.before.before
-
 pub pick_words_spec : {M : Type 1} → statement M
 pick_words_spec =
     tie.close
     (tie.spec invariant-loop decreases-loop
     (λ c. search picks)  -- loop-holds
-    (λ c κs. (
-      (
-        omega (arith, (start c).requires.0),
-        row_fits (start c).args.width c.before.before.loop.i (start c).args.rows _ (omega arith)
-            (start c).requires.1,
-        c.before.before.loop.invariant.few,
-      ),
-      room_pick c.before.before.loop.invariant (omega arith) (start c).requires.2,
-    ))  -- pick-word-row-requires
+    (λ c κs. ((omega (arith, c.before.before.before.before.before.before.requires.0), row_fits c.before.before.before.before.before.before.args.width c.before.before.loop.i c.before.before.before.before.before.before.args.rows _ (omega arith) c.before.before.before.before.before.before.requires.1, c.before.before.loop.invariant.few), room_pick c.before.before.loop.invariant (omega arith) c.before.before.before.before.before.before.requires.2))  -- pick-word-row-requires
     (λ c. search picks)  -- add-i
     (λ c. search picks)  -- loop-less
     (λ c. search picks)  -- loop-again

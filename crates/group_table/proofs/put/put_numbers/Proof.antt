@@ -13,28 +13,12 @@ invariant-loop groups g rows width from to₀ k₀ i₀ to k i = Scattering nan 
 abbrev decreases-loop : tie.decreases-loop
 decreases-loop groups g rows width from to₀ k₀ i₀ to k i = rows - i
 
--- The places that the answers look back to.
-abbrev start : tie.After-put-number-row-arg invariant-loop decreases-loop → tie.Start invariant-loop decreases-loop
-start c = c.before.before.before.before.before.before
-
 pub put_numbers_spec : {M : Type 1} → statement M
 put_numbers_spec =
     tie.close
     (tie.spec invariant-loop decreases-loop
     (λ c. search picks)  -- loop-holds
-    (λ c κs. (
-      (
-        omega (arith, (start c).requires.0),
-        omega (
-          arith,
-          row_fits (start c).args.width c.before.before.loop.i (start c).args.rows _ (omega arith)
-              (start c).requires.2,
-          c.before.before.loop.invariant.scattered.long,
-        ),
-        c.before.before.loop.invariant.few,
-      ),
-      room_put c.before.before.loop.invariant (omega arith) (start c).requires.1,
-    ))  -- put-number-row-requires
+    (λ c κs. ((omega (arith, c.before.before.before.before.before.before.requires.0), omega (arith, row_fits c.before.before.before.before.before.before.args.width c.before.before.loop.i c.before.before.before.before.before.before.args.rows _ (omega arith) c.before.before.before.before.before.before.requires.2, c.before.before.loop.invariant.scattered.long), c.before.before.loop.invariant.few), room_put c.before.before.loop.invariant (omega arith) c.before.before.before.before.before.before.requires.1))  -- put-number-row-requires
     (λ c. search picks)  -- add-i
     (λ c. search picks)  -- loop-less
     (λ c. search picks)  -- loop-again

@@ -15,35 +15,13 @@ decreases-loop words masses rows bodies labels₀ i₀ labels i = rows - i
 
 ruleset known = (joining_none, joining_more, joining_end, linked_a, linked_b, loops)
 
--- The places that the answers look back to.
-abbrev at_own_labels : tie.After-join-row-arg invariant-loop decreases-loop → tie.After-own-labels invariant-loop decreases-loop
-at_own_labels c = c.before.before.before.before.before
-
-abbrev start : tie.After-join-row-arg invariant-loop decreases-loop → tie.Start invariant-loop decreases-loop
-start c = (at_own_labels c).before.before.before.before.before
-
 pub join_rows_spec : {M : Type 1} → statement M
 join_rows_spec =
     tie.close
     (tie.spec invariant-loop decreases-loop
     (λ c κs. search known)  -- own-labels-requires
     (λ c. search known)  -- loop-holds
-    (λ c κs. (
-      (
-        omega (arith, (start c).requires.0.0),
-        omega (arith, (start c).requires.0.1),
-        omega (
-          arith,
-          (start c).requires.0.2,
-          c.before.before.loop.invariant.long,
-          (at_own_labels c).own-labels.ensures.long,
-        ),
-      ),
-      (
-        linked_a _ c.before.before.loop.invariant.linked (omega arith),
-        linked_b _ c.before.before.loop.invariant.linked (omega arith),
-      ),
-    ))  -- join-row-requires
+    (λ c κs. ((omega (arith, c.before.before.before.before.before.before.before.before.before.before.requires.0.0), omega (arith, c.before.before.before.before.before.before.before.before.before.before.requires.0.1), omega (arith, c.before.before.before.before.before.before.before.before.before.before.requires.0.2, c.before.before.loop.invariant.long, c.before.before.before.before.before.own-labels.ensures.long)), (linked_a _ c.before.before.loop.invariant.linked (omega arith), linked_b _ c.before.before.loop.invariant.linked (omega arith))))  -- join-row-requires
     (λ c. search known)  -- add-i
     (λ c. search known)  -- loop-less
     (λ c. search known)  -- loop-again

@@ -7,19 +7,6 @@ use Rattle.groups.proofs.group.key.Tie as tie
 
 ruleset known = (key_a, key_b, key_own, rules)
 
--- The places that the answers look back to.
-abbrev at_if1 : tie.Else2 → tie.Else1
-at_if1 c = c.before.before.before.before
-
-abbrev at_is_massless : tie.Else2 → tie.After-is-massless
-at_is_massless c = (at_if1 c).before
-
-abbrev at_wide : tie.Else2 → tie.After-wide
-at_wide c = (at_is_massless c).before
-
-abbrev start : tie.Else2 → tie.Start
-start c = (at_wide c).before.before.before.before.before
-
 pub key_spec : {M : Type 1} → statement M
 key_spec =
     tie.close
@@ -43,7 +30,4 @@ key_spec =
     (λ c. search known)  -- returns_2
     (λ c. search known)  -- add-result
     (λ c. search known)  -- cast-result
-    (λ c.
-    key_own (links_in (start c).args.words.now) (start c).args.masses.now _ _ _ _ _
-    (at_wide c).wide.ensures _ (at_is_massless c).is-massless.ensures (at_if1 c).if1.false
-    c.before.before.wide2.ensures _ c.before.is-massless2.ensures c.if2.false))  -- returns-3
+    (λ c. key_own (links_in c.before.before.before.before.before.before.before.before.before.before.before.args.words.now) c.before.before.before.before.before.before.before.before.before.before.before.args.masses.now _ _ _ _ _ c.before.before.before.before.before.before.wide.ensures _ c.before.before.before.before.before.is-massless.ensures c.before.before.before.before.if1.false c.before.before.wide2.ensures _ c.before.is-massless2.ensures c.if2.false))  -- returns-3

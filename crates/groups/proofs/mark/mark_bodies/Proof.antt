@@ -15,28 +15,12 @@ decreases-loop words masses rows bodies count groups marks₀ i₀ marks i = row
 
 ruleset known = (telling_none, telling_more, telling_end, telling_a, telling_b, telling_number, loops)
 
--- The places that the answers look back to.
-abbrev start : tie.After-mark-row-arg invariant-loop decreases-loop → tie.Start invariant-loop decreases-loop
-start c = c.before.before.before.before.before.before.before
-
 pub mark_bodies_spec : {M : Type 1} → statement M
 mark_bodies_spec =
     tie.close
     (tie.spec invariant-loop decreases-loop
     (λ c. search known)  -- loop-holds
-    (λ c κs. (
-      (
-        omega (arith, (start c).requires.0.0),
-        omega (arith, (start c).requires.0.1),
-        omega (arith, (start c).requires.0.2),
-        omega (arith, (start c).requires.0.3, c.before.before.loop.invariant.long),
-      ),
-      (
-        telling_a c.before.before.loop.invariant (omega arith),
-        telling_b c.before.before.loop.invariant (omega arith),
-        omega (arith, telling_number c.before.before.loop.invariant (omega arith), (start c).requires.0.4),
-      ),
-    ))  -- mark-row-requires
+    (λ c κs. ((omega (arith, c.before.before.before.before.before.before.before.requires.0.0), omega (arith, c.before.before.before.before.before.before.before.requires.0.1), omega (arith, c.before.before.before.before.before.before.before.requires.0.2), omega (arith, c.before.before.before.before.before.before.before.requires.0.3, c.before.before.loop.invariant.long)), (telling_a c.before.before.loop.invariant (omega arith), telling_b c.before.before.loop.invariant (omega arith), omega (arith, telling_number c.before.before.loop.invariant (omega arith), c.before.before.before.before.before.before.before.requires.0.4))))  -- mark-row-requires
     (λ c. search known)  -- add-i
     (λ c. search known)  -- loop-less
     (λ c. search known)  -- loop-again

@@ -8,19 +8,6 @@ use Rattle.job_converter.proofs.Reading.{centres_read}
 use Rattle.job_converter.proofs.judge.file_centres_fit.Statement.{statement}
 use Rattle.job_converter.proofs.judge.file_centres_fit.Tie as tie
 
--- The places that the answers look back to.
-abbrev start₁ : tie.After-centres → tie.Start
-start₁ c = c.before.before.before.before
-
-abbrev start₂ : tie.After-read-centre-bits-arg → tie.Start
-start₂ c = c.before.before.before.before.before
-
-abbrev at_read_centre_bits₃ : tie.After-lent3 → tie.After-read-centre-bits
-at_read_centre_bits₃ c = c.before.before.before.before.before
-
-abbrev start₃ : tie.After-lent3 → tie.Start
-start₃ c = (at_read_centre_bits₃ c).before.before.before.before.before.before
-
 pub file_centres_fit_spec : {M : Type 1} → statement M
 file_centres_fit_spec =
     tie.close
@@ -29,9 +16,7 @@ file_centres_fit_spec =
     (λ c. search loops)  -- cast-mass-offset
     (λ c. omega (arith, c.before.before.before.requires.few_bodies))  -- mul-centres
     (λ c. omega (arith, c.before.before.before.requires.few_bodies))  -- array-borrow-prefix-centres
-    (λ c. sym (length-take-le _ _ (omega (arith, (start₁ c).requires.few_bodies))))  -- slice-aggregate-lent
-    (λ c κs. ((start₂ c).requires.masses_inside, length-take-le _ _ (omega (arith, (start₂ c).requires.few_bodies))))  -- read-centre-bits-requires
+    (λ c. sym (length-take-le _ _ (omega (arith, c.before.before.before.before.requires.few_bodies))))  -- slice-aggregate-lent
+    (λ c κs. (c.before.before.before.before.before.requires.masses_inside, length-take-le _ _ (omega (arith, c.before.before.before.before.before.requires.few_bodies))))  -- read-centre-bits-requires
     (λ c κs. search loops)  -- centres-fit-requires
-    (λ c.
-    c.before.centres_fit_lem.ensures ∙ ap (λ l. centres_fit l (start₃ c).args.layout)
-    (centres_read (start₃ c).requires (at_read_centre_bits₃ c).read-centre-bits.ensures)))  -- returns
+    (λ c. c.before.centres_fit_lem.ensures ∙ ap (λ l. centres_fit l c.before.before.before.before.before.before.before.before.before.before.before.args.layout) (centres_read c.before.before.before.before.before.before.before.before.before.before.before.requires c.before.before.before.before.before.read-centre-bits.ensures)))  -- returns

@@ -5,19 +5,6 @@ use Rattle.job_converter.proofs.Ways.{keys_same, last_4, last_24, last_none}
 use Rattle.job_converter.proofs.judge.judge_last.Statement.{statement}
 use Rattle.job_converter.proofs.judge.judge_last.Tie as tie
 
--- The places that the answers look back to.
-abbrev start₁ : tie.Then1 → tie.Start
-start₁ c = c.before.before.before.before.before
-
-abbrev start₂ : tie.Else1 → tie.Start
-start₂ c = c.before.before.before.before.before
-
-abbrev start₃ : tie.Then2 → tie.Start
-start₃ c = c.before.before.before.before.before.before.before
-
-abbrev start₄ : tie.Else2 → tie.Start
-start₄ c = c.before.before.before.before.before.before.before
-
 pub judge_last_spec : {M : Type 1} → statement M
 judge_last_spec =
     tie.close
@@ -25,15 +12,7 @@ judge_last_spec =
     (λ c. search loops)  -- cast-keys-fit
     (λ c. search loops)  -- cast-keys-fit-2
     (λ c κs. c.before.before.before.requires.rows_inside)  -- keys-fit-requires
-    (λ c. last_4 _ _ (failed (keys_same (start₁ c).requires c.before.keys-fit.ensures) c.if1.true))  -- returns
-    (λ c κs. (start₂ c).requires)  -- file-centres-fit-requires
-    (λ c.
-    last_24 _ _
-    (held (keys_same (start₃ c).requires c.before.before.before.keys-fit.ensures)
-    c.before.before.if1.false)
-    (failed c.before.file-centres-fit.ensures c.if2.true))  -- returns_2
-    (λ c.
-    last_none _ _
-    (held (keys_same (start₄ c).requires c.before.before.before.keys-fit.ensures)
-    c.before.before.if1.false)
-    (held c.before.file-centres-fit.ensures c.if2.false)))  -- returns-3
+    (λ c. last_4 _ _ (failed (keys_same c.before.before.before.before.before.requires c.before.keys-fit.ensures) c.if1.true))  -- returns
+    (λ c κs. c.before.before.before.before.before.requires)  -- file-centres-fit-requires
+    (λ c. last_24 _ _ (held (keys_same c.before.before.before.before.before.before.before.requires c.before.before.before.keys-fit.ensures) c.before.before.if1.false) (failed c.before.file-centres-fit.ensures c.if2.true))  -- returns_2
+    (λ c. last_none _ _ (held (keys_same c.before.before.before.before.before.before.before.requires c.before.before.before.keys-fit.ensures) c.before.before.if1.false) (held c.before.file-centres-fit.ensures c.if2.false)))  -- returns-3

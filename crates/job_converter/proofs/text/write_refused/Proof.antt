@@ -6,22 +6,6 @@ use Rattle.job_converter.proofs.Printing.{convert_name_lem}
 use Rattle.job_converter.proofs.text.write_refused.Statement.{statement}
 use Rattle.job_converter.proofs.text.write_refused.Tie as tie
 
--- The places that the answers look back to.
-abbrev start₁ : tie.After-put-number-arg → tie.Start
-start₁ c = c.before.before.before.before.before.before.before
-
-abbrev at_put_text₂ : tie.After-put-byte-arg → tie.After-put-text
-at_put_text₂ c = c.before.before.before.before.before.before.before
-
-abbrev start₂ : tie.After-put-byte-arg → tie.Start
-start₂ c = (at_put_text₂ c).before.before.before.before
-
-abbrev at_put_number₃ : tie.After-slice-known4 → tie.After-put-number
-at_put_number₃ c = c.before.before.before.before.before.before
-
-abbrev at_put_text₃ : tie.After-slice-known4 → tie.After-put-text
-at_put_text₃ c = (at_put_number₃ c).before.before.before.before
-
 pub write_refused_spec : {M : Type 1} → statement M
 unfolding refused_line
 write_refused_spec =
@@ -29,21 +13,7 @@ write_refused_spec =
     (tie.spec
     (λ c. search loops)  -- slice-aggregate-put-text
     (λ c κs. room_as convert_name_lem (room_first _ (room_first _ c.before.before.before.requires)))  -- put-text-requires
-    (λ c κs.
-    room_rest (room_first _ (start₁ c).requires)
-    (wrote_as convert_name_lem c.before.before.before.put-text.ensures))  -- put-number-requires
-    (λ c κs.
-    room_rest (start₂ c).requires
-    (wrote_join (wrote_as convert_name_lem (at_put_text₂ c).put-text.ensures)
-    c.before.before.before.put-number.ensures))  -- put-byte-requires
-    (λ c.
-    length_wrote
-    (wrote_join
-    (wrote_join (wrote_as convert_name_lem (at_put_text₃ c).put-text.ensures)
-    (at_put_number₃ c).put-number.ensures)
-    c.before.before.put_byte.ensures))  -- same-length
-    (λ c.
-    wrote_join
-    (wrote_join (wrote_as convert_name_lem (at_put_text₃ c).put-text.ensures)
-    (at_put_number₃ c).put-number.ensures)
-    c.before.before.put_byte.ensures))  -- returns
+    (λ c κs. room_rest (room_first _ c.before.before.before.before.before.before.before.requires) (wrote_as convert_name_lem c.before.before.before.put-text.ensures))  -- put-number-requires
+    (λ c κs. room_rest c.before.before.before.before.before.before.before.before.before.before.before.requires (wrote_join (wrote_as convert_name_lem c.before.before.before.before.before.before.before.put-text.ensures) c.before.before.before.put-number.ensures))  -- put-byte-requires
+    (λ c. length_wrote (wrote_join (wrote_join (wrote_as convert_name_lem c.before.before.before.before.before.before.before.before.before.before.put-text.ensures) c.before.before.before.before.before.before.put-number.ensures) c.before.before.put_byte.ensures))  -- same-length
+    (λ c. wrote_join (wrote_join (wrote_as convert_name_lem c.before.before.before.before.before.before.before.before.before.before.put-text.ensures) c.before.before.before.before.before.before.put-number.ensures) c.before.before.put_byte.ensures))  -- returns

@@ -79,9 +79,7 @@ word = ty_int w64
 abbrev file_ty : Ty
 file_ty = slice_ty (ty_ref (named 0) imm (ty_int w8))
 
-module _ {M : Type 1} {𝓤 : Ura M} (𝓛 : Logic 𝓤) (mem : Memory → SProp 𝓤) (run : Routine → Fun 𝓤) (κ : Lft)
-    (q : Share) (s : Bor (List ℕ)) (offset rows : ℕ) (ok : rows_end offset rows ≤ length s.now) (o : offset < 2 ^ 64) (n : rows < 2 ^ 64)
-    (p : Is (ShrSlice (named 0) κ u8) s (file_val s ∷ [])) where
+module _ {M : Type 1} {𝓤 : Ura M} (𝓛 : Logic 𝓤) (mem : Memory → SProp 𝓤) (run : Routine → Fun 𝓤) (κ : Lft) (q : Share) (s : Bor (List ℕ)) (offset rows : ℕ) (ok : rows_end offset rows ≤ length s.now) (o : offset < 2 ^ 64) (n : rows < 2 ^ 64) (p : Is (ShrSlice (named 0) κ u8) s (file_val s ∷ [])) where
   -- the reader at row i
   open 𝓛 use {H}
 
@@ -110,13 +108,8 @@ module _ {M : Type 1} {𝓤 : Ura M} (𝓛 : Logic 𝓤) (mem : Memory → SProp
 
     goes_keys : i < rows → ent 𝓤 (⋆ 𝓛 (‵ (flft κ q) ∷ ‵ (FileOwn κ s) ∷ [])) (sep 𝓤 ((Keys 𝓛 mem run).pre to_keys) (sem 𝓛 (FileOwn κ s)))
     goes_keys less =
-        qed 𝓛 (‵ (flft κ q) ∷ ‵ (FileOwn κ s) ∷ []) ∵ move ! (1 ∷ []) $ use1 𝓛 (‵ (Own κ (d i)) ⊛ ‵ (FileOwn κ s))
-        (stands 𝓛 κ s offset rows o n i f) $ split ! $ nothing ! $ move ! (1 ∷ 0 ∷ []) $ fjoin ! $ nothing ! $ move ! (3 ∷ 0 ∷ [])
-        $ join ! $
-        use2 𝓛 (raw ((Keys 𝓛 mem run).pre to_keys))
-        (qed 𝓛 ((‵ (flft κ q) ⊛ ‵ ftrue) ∷ ‵ (owns (B (κ, tt) ∷ []) (d i, tt) (m i ∷ [], tt)) ∷ []) ∵ says ! (ok, less) $ frame ! $ done
-        !)
-        $ frame ! $ done !
+        qed 𝓛 (‵ (flft κ q) ∷ ‵ (FileOwn κ s) ∷ []) ∵ move ! (1 ∷ []) $ use1 𝓛 (‵ (Own κ (d i)) ⊛ ‵ (FileOwn κ s)) (stands 𝓛 κ s offset rows o n i f) $ split ! $ nothing ! $ move ! (1 ∷ 0 ∷ []) $ fjoin ! $ nothing ! $ move ! (3 ∷ 0 ∷ []) $ join ! $
+        use2 𝓛 (raw ((Keys 𝓛 mem run).pre to_keys)) (qed 𝓛 ((‵ (flft κ q) ⊛ ‵ ftrue) ∷ ‵ (owns (B (κ, tt) ∷ []) (d i, tt) (m i ∷ [], tt)) ∷ []) ∵ says ! (ok, less) $ frame ! $ done !) $ frame ! $ done !
 
     keys_said : (b : Bool) → ent 𝓤 (ensured 𝓛 keys-here.ended (keys-here.clauses 𝓛 mem run) (κ, tt) (d i, tt) tt b) (fact 𝓤 (b ≡ keys_here (d i)))
     keys_said b = ex_e 𝓤 _ (λ ws. snd∗ 𝓤 (sem 𝓛 (lasts keys-here.ended (κ, tt) (d i, tt) ws)) (fact 𝓤 (b ≡ keys_here (d i))))
@@ -124,13 +117,9 @@ module _ {M : Type 1} {𝓤 : Ura M} (𝓛 : Logic 𝓤) (mem : Memory → SProp
   -- ---- the exit
   exits : (b : Bool) → b ≡ keys_fit s.now offset rows → ent 𝓤 (⋆ 𝓛 (‵ (flft κ q) ∷ ‵ (FileOwn κ s) ∷ [])) (Post (vbool b))
   exits b e =
-      qed 𝓛 (‵ (flft κ q) ∷ ‵ (FileOwn κ s) ∷ []) ∵ suffices ! _
-      (ends_at 𝓛 judge.ended stayed (judge.clauses 𝓛 mem run) (((κ, tt), (q, tt), tt, args, at), tt) (vbool b) b
-      (tt, (tt, (tt, tt))) (tt, (tt, (tt, tt))))
-      $
+      qed 𝓛 (‵ (flft κ q) ∷ ‵ (FileOwn κ s) ∷ []) ∵ suffices ! _ (ends_at 𝓛 judge.ended stayed (judge.clauses 𝓛 mem run) (((κ, tt), (q, tt), tt, args, at), tt) (vbool b) b (tt, (tt, (tt, tt))) (tt, (tt, (tt, tt)))) $
       says ! e $ nothing ! $ move ! (1 ∷ 0 ∷ []) $ join ! $ frame ! $
-      nothing ! $ owned ! usize (Is usize) (uint_Makes 𝓛 w64) rows _ (refl, n) $ fjoin ! $ owned ! usize (Is usize)
-      (uint_Makes 𝓛 w64) offset _ (refl, o) $ fjoin ! $ move ! (1 ∷ 0 ∷ []) $ fjoin ! $
+      nothing ! $ owned ! usize (Is usize) (uint_Makes 𝓛 w64) rows _ (refl, n) $ fjoin ! $ owned ! usize (Is usize) (uint_Makes 𝓛 w64) offset _ (refl, o) $ fjoin ! $ move ! (1 ∷ 0 ∷ []) $ fjoin ! $
       owned ! bool (Is bool) (bool_Makes 𝓛) b (vbool b ∷ []) refl $ move ! (1 ∷ 0 ∷ []) $ done !
 
   -- ---- the loop
@@ -150,9 +139,7 @@ module _ {M : Type 1} {𝓤 : Ura M} (𝓛 : Logic 𝓤) (mem : Memory → SProp
     -- the rows before the one that is reached are judged
     abbrev At : Reached rows → List (Item 𝓤)
     At t = ‵ (froom reader_ty l₁₀ 0) ∷ ‵ (fdies reader_ty l₁₀) ∷ ‵ (froom reader_ty l₉ 0) ∷ ‵ (fdies reader_ty l₉) ∷ ‵ (froom ty_bool l₈ 0) ∷ ‵ (fdies ty_bool l₈) ∷ ‵ (froom word l₇ 0) ∷ ‵ (fdies word l₇)
-        ∷ ‵ (froom word l₆ 0) ∷ ‵ (fdies word l₆) ∷ ‵ (fat full_share reader_ty l₅ 0 (m t.row)) ∷ ‵ (fdies reader_ty l₅) ∷ ‵
-        (fat full_share ty_bool l₄ 0 (vbool (keys_fit s.now offset t.row))) ∷ ‵ (fdies ty_bool l₄) ∷ ‵
-        (fat full_share word l₃ 0 (vint w64 rows)) ∷ ‵ (fdies word l₃)
+        ∷ ‵ (froom word l₆ 0) ∷ ‵ (fdies word l₆) ∷ ‵ (fat full_share reader_ty l₅ 0 (m t.row)) ∷ ‵ (fdies reader_ty l₅) ∷ ‵ (fat full_share ty_bool l₄ 0 (vbool (keys_fit s.now offset t.row))) ∷ ‵ (fdies ty_bool l₄) ∷ ‵ (fat full_share word l₃ 0 (vint w64 rows)) ∷ ‵ (fdies word l₃)
         ∷ ‵ (fat full_share word l₂ 0 (vint w64 offset)) ∷ ‵ (fdies word l₂) ∷ ‵ (fat full_share file_ty l₁ 0 (file_val s)) ∷ ‵ (fdies file_ty l₁) ∷ ‵ (froom ty_bool l₀ 0) ∷ ‵ (fdies ty_bool l₀)
         ∷ ‵ (flft κ q) ∷ ‵ (FileOwn κ s) ∷ []
 
@@ -175,11 +162,8 @@ module _ {M : Type 1} {𝓤 : Ura M} (𝓛 : Logic 𝓤) (mem : Memory → SProp
         assigns ! (bin ! (load ! (from ! (stop !)) (look ! 8 refl)) (load ! (from ! (stop !)) (look ! 6 refl)) tt) (from ! (stop !)) (init ! 4 refl (tt, tt)) $
         rewrite ! 4 (λ (z : Bool). ‵ (fat full_share ty_bool l₈ 0 (vbool z))) e refl $ leaves_loop ! (load ! (from ! (stop !)) (look ! 4 refl)) $ exec ! C Λ En body.t-4 (at_ret En Post) $
         assigns ! (of_opd ! (load ! (from ! (stop !)) (look ! 12 refl))) (from ! (stop !)) (init ! 20 refl (tt, tt)) $
-        returns ! (look ! 20 refl) $ forget ! 20 refl $ forget ! 18 refl $ forget ! 16 refl $ forget ! 14 refl $ forget ! 12 refl $ forget !
-        10 refl $ forget ! 8 refl $ forget ! 6 refl $ forget ! 4 refl $
-        move ! (20 ∷ 21 ∷ []) $ free1 ! $ move ! (18 ∷ 19 ∷ []) $ free1 ! $ move ! (16 ∷ 17 ∷ []) $ free1 ! $ move ! (14 ∷ 15 ∷ []) $ free1
-        ! $ move ! (12 ∷ 13 ∷ []) $ free1 ! $ move ! (10 ∷ 11 ∷ []) $ free1 ! $ move ! (8 ∷ 9 ∷ []) $ free1 ! $ move ! (6 ∷ 7 ∷ []) $
-        free1 ! $ move ! (4 ∷ 5 ∷ []) $ free1 ! $ move ! (2 ∷ 3 ∷ []) $ free1 ! $ move ! (0 ∷ 1 ∷ []) $ free1 ! $ free0 ! $
+        returns ! (look ! 20 refl) $ forget ! 20 refl $ forget ! 18 refl $ forget ! 16 refl $ forget ! 14 refl $ forget ! 12 refl $ forget ! 10 refl $ forget ! 8 refl $ forget ! 6 refl $ forget ! 4 refl $
+        move ! (20 ∷ 21 ∷ []) $ free1 ! $ move ! (18 ∷ 19 ∷ []) $ free1 ! $ move ! (16 ∷ 17 ∷ []) $ free1 ! $ move ! (14 ∷ 15 ∷ []) $ free1 ! $ move ! (12 ∷ 13 ∷ []) $ free1 ! $ move ! (10 ∷ 11 ∷ []) $ free1 ! $ move ! (8 ∷ 9 ∷ []) $ free1 ! $ move ! (6 ∷ 7 ∷ []) $ free1 ! $ move ! (4 ∷ 5 ∷ []) $ free1 ! $ move ! (2 ∷ 3 ∷ []) $ free1 ! $ move ! (0 ∷ 1 ∷ []) $ free1 ! $ free0 ! $
         by ! (exits (keys_fit s.now offset t.row) (at_end t (ltb-false t.row rows e)))
 
     onward : (t : Reached rows) → t.row < rows → t.row + 1 ≤ rows
@@ -205,18 +189,12 @@ module _ {M : Type 1} {𝓤 : Ura M} (𝓛 : Logic 𝓤) (mem : Memory → SProp
         assigns ! (bin ! (load ! (from ! (stop !)) (look ! 15 refl)) (load ! (from ! (stop !)) (look ! 7 refl)) tt) (from ! (stop !)) (store ! 15 refl (tt, tt)) $
         rewrite ! 15 (λ (z : Bool). ‵ (fat full_share ty_bool l₄ 0 (vbool z))) (keys_next s.now offset t.row here) refl $
         assigns ! (of_opd ! (load ! (from ! (stop !)) (look ! 13 refl))) (from ! (stop !)) (init ! 3 refl (typed 𝓛 κ s offset rows o n p t.row (row_fits t))) $
-        move ! (0 ∷ 2 ∷ []) $ use2 𝓛
-        (raw ((Next 𝓛 mem run).pre (to_next 𝓛 κ s offset rows o n mem run q t.row (row_fits t))) ⊛ ‵ (FileOwn κ s))
-        (goes_next 𝓛 κ s offset rows o n mem run q t.row (row_fits t) less) $ split ! $
+        move ! (0 ∷ 2 ∷ []) $ use2 𝓛 (raw ((Next 𝓛 mem run).pre (to_next 𝓛 κ s offset rows o n mem run q t.row (row_fits t))) ⊛ ‵ (FileOwn κ s)) (goes_next 𝓛 κ s offset rows o n mem run q t.row (row_fits t) less) $ split ! $
         calls_at_last ! fm (Next 𝓛 mem run) known_next (to_next 𝓛 κ s offset rows o n mem run q t.row (row_fits t)) (and_then ! (load ! (from ! (stop !)) (look ! 3 refl)) (no_more !)) (λ v.
         use1 𝓛 (later (some (λ (r : Reader). ((‵ (flft κ q) ⊛ ‵ ftrue) ⊛ ‵ ((B (κ, tt)).own r (v ∷ []))) ⊛ raw (ensured 𝓛 next_row.ended (next_row.clauses 𝓛 mem run) (κ, tt) (d t.row, tt) tt r)))) (id⊢ 𝓤 _) $ await ! tt $ pick ! (λ r.
         split ! $ move ! (1 ∷ []) $ use1 𝓛 (raw (fact 𝓤 (r ≡ d (t.row + 1)))) (next_said 𝓛 κ s offset rows o n mem run q t.row (row_fits t) r) $ heard ! (r ≡ d (t.row + 1)) (λ on. split ! $ rewrite ! 1 (λ (h : Reader). ‵ ((B (κ, tt)).own h (v ∷ []))) on refl $ move ! (1 ∷ []) $
         peeks ! (B (κ, tt)) (Is (B (κ, tt))) (shows 𝓛 (B (κ, tt))) (d (t.row + 1)) (v ∷ []) (λ is'.
-        land_last ! (from ! (stop !))
-        (store ! 14 refl
-        (subst (λ (z : Val). Holds (has_ty reader_ty z) × WT z) (sym (lowers κ s offset rows (t.row + 1) v is'))
-        (typed 𝓛 κ s offset rows o n p (t.row + 1) fits)))
-        $
+        land_last ! (from ! (stop !)) (store ! 14 refl (subst (λ (z : Val). Holds (has_ty reader_ty z) × WT z) (sym (lowers κ s offset rows (t.row + 1) v is')) (typed 𝓛 κ s offset rows o n p (t.row + 1) fits))) $
         rewrite ! 14 (λ (z : Val). ‵ (fat full_share reader_ty l₅ 0 z)) (lowers κ s offset rows (t.row + 1) v is') refl $ drop ! $ split ! $
         -- [the token; true; what the file owns; true; _10; …; room for _0; …]
         forget ! 12 refl $ forget ! 10 refl $ forget ! 8 refl $ forget ! 6 refl $ forget ! 4 refl $
@@ -231,15 +209,11 @@ module _ {M : Type 1} {𝓤 : Ura M} (𝓛 : Logic 𝓤) (mem : Memory → SProp
   walk : (𝓣 : Tables 𝓤 H) → Triple 𝓤 (𝓣.C #reader-at) (Make 𝓛 mem run) → Triple 𝓤 (𝓣.C #keys-here) (Keys 𝓛 mem run) → Triple 𝓤 (𝓣.C #next-row) (Next 𝓛 mem run)
       → ent 𝓤 (on_entry 𝓛 judge.signature (κ, tt) (q, tt) args at) (WpFn 𝓤 H 𝓣.C 𝓣.Λ code.function (file_val s ∷ vint w64 offset ∷ vint w64 rows ∷ []) Post)
   walk 𝓣 known-make known-keys known_next =
-      qed 𝓛 ((‵ (flft κ q) ⊛ ‵ ftrue) ∷ ‵ (owns (ShrSlice (named 0) κ u8 ∷ usize ∷ usize ∷ []) args at) ∷ []) ∵ enter ! 𝓣.C 𝓣.Λ
-      code.function (file_val s ∷ vint w64 offset ∷ vint w64 rows ∷ []) _ $
+      qed 𝓛 ((‵ (flft κ q) ⊛ ‵ ftrue) ∷ ‵ (owns (ShrSlice (named 0) κ u8 ∷ usize ∷ usize ∷ []) args at) ∷ []) ∵ enter ! 𝓣.C 𝓣.Λ code.function (file_val s ∷ vint w64 offset ∷ vint w64 rows ∷ []) _ $
       alloc1 ! (λ l₀. alloc1 ! (λ l₁. alloc1 ! (λ l₂. alloc1 ! (λ l₃. alloc1 ! (λ l₄. alloc1 ! (λ l₅. alloc1 ! (λ l₆. alloc1 ! (λ l₇. alloc1 ! (λ l₈. alloc1 ! (λ l₉. alloc1 ! (λ l₁₀. alloc0 ! $ params1 ! $
-      pass1 ! (init ! 18 refl ((shr_slice_Lawful 𝓛 (named 0) κ u8).typed s (file_val s ∷ []) p).0) $ pass1 !
-      (init ! 16 refl (tt, record { fits = o })) $ pass1 ! (init ! 14 refl (tt, record { fits = n })) $ pass0 ! $
+      pass1 ! (init ! 18 refl ((shr_slice_Lawful 𝓛 (named 0) κ u8).typed s (file_val s ∷ []) p).0) $ pass1 ! (init ! 16 refl (tt, record { fits = o })) $ pass1 ! (init ! 14 refl (tt, record { fits = n })) $ pass0 ! $
       assigns ! (of_opd ! (true_lit !)) (from ! (stop !)) (init ! 12 refl (tt, tt)) $
-      move ! (22 ∷ []) $ split ! $ move ! (24 ∷ []) $ fsplit ! $ move ! (2 ∷ 0 ∷ []) $ use2 𝓛
-      (raw ((Make 𝓛 mem run).pre (to_make 𝓛 κ s offset rows o n mem run q)) ⊛ ‵ (FileOwn κ s))
-      (goes_make 𝓛 κ s offset rows o n mem run q) $ split ! $
+      move ! (22 ∷ []) $ split ! $ move ! (24 ∷ []) $ fsplit ! $ move ! (2 ∷ 0 ∷ []) $ use2 𝓛 (raw ((Make 𝓛 mem run).pre (to_make 𝓛 κ s offset rows o n mem run q)) ⊛ ‵ (FileOwn κ s)) (goes_make 𝓛 κ s offset rows o n mem run q) $ split ! $
       -- [what the callee asks; what the file owns; what the numbers own; true; _10; …; room for _0; …]
       calls_at ! (fm_of 𝓤 H 𝓛.laws 𝓣) (Make 𝓛 mem run) known-make (to_make 𝓛 κ s offset rows o n mem run q) (and_then ! (load ! (from ! (stop !)) (look ! 22 refl)) (and_then ! (load ! (from ! (stop !)) (look ! 20 refl)) (and_then ! (load ! (from ! (stop !)) (look ! 18 refl)) (and_then ! (lit ! tt) (no_more !))))) (λ u.
       use1 𝓛 (later (some (λ (r : Reader). ((‵ (flft κ q) ⊛ ‵ ftrue) ⊛ ‵ ((B (κ, tt)).own r (u ∷ []))) ⊛ raw (ensured 𝓛 reader_at.ended (reader_at.clauses 𝓛 mem run) (κ, tt) (made_of κ s offset rows) tt r)))) (id⊢ 𝓤 _) $ await ! tt $ pick ! (λ r.
@@ -252,26 +226,17 @@ module _ {M : Type 1} {𝓤 : Ura M} (𝓛 : Logic 𝓤) (mem : Memory → SProp
       keep ! (5 ∷ 6 ∷ 7 ∷ 8 ∷ 9 ∷ 10 ∷ 11 ∷ 12 ∷ 13 ∷ 14 ∷ 15 ∷ 16 ∷ 17 ∷ 18 ∷ 19 ∷ 20 ∷ 21 ∷ 22 ∷ 23 ∷ 24 ∷ 25 ∷ 26 ∷ 0 ∷ 2 ∷ []) $
       first ! $ blocks ! $ loops ! 𝓣 (Nearer row_of rows) (nearer_wf row_of rows) (At 𝓣 known-keys known_next l₀ l₁ l₂ l₃ l₄ l₅ l₆ l₇ l₈ l₉ l₁₀) (λ t. turn_of 𝓣 known-keys known_next l₀ l₁ l₂ l₃ l₄ l₅ l₆ l₇ l₈ l₉ l₁₀ t (ltb t.row rows) refl) (record { row = 0; within = omega arith }))))))))))))))))
 
-module _ {M : Type 1} {𝓤 : Ura M} (𝓛 : Logic 𝓤) (mem : Memory → SProp 𝓤) (run : Routine → Fun 𝓤)
-    (𝓣 : Tables 𝓤 𝓛.H) (known-make : Triple 𝓤 (𝓣.C #reader-at) (Make 𝓛 mem run))
-    (known-keys : Triple 𝓤 (𝓣.C #keys-here) (Keys 𝓛 mem run)) (known_next : Triple 𝓤 (𝓣.C #next-row) (Next 𝓛 mem run)) where
+module _ {M : Type 1} {𝓤 : Ura M} (𝓛 : Logic 𝓤) (mem : Memory → SProp 𝓤) (run : Routine → Fun 𝓤) (𝓣 : Tables 𝓤 𝓛.H) (known-make : Triple 𝓤 (𝓣.C #reader-at) (Make 𝓛 mem run)) (known-keys : Triple 𝓤 (𝓣.C #keys-here) (Keys 𝓛 mem run)) (known_next : Triple 𝓤 (𝓣.C #next-row) (Next 𝓛 mem run)) where
   open 𝓛 use {H}
 
   walks : Walks 𝓛 judge.ended stayed (WpFn 𝓤 H 𝓣.C 𝓣.Λ code.function) (judge.clauses 𝓛 mem run)
-  walks = walked 𝓛 judge.ended stayed (judge.clauses 𝓛 mem run) (WpFn 𝓤 H 𝓣.C 𝓣.Λ code.function)
-      (λ κs. (shr_slice_vals, (uint_vals w64, (uint_vals w64, tt))))
-      (λ κs. (shr_slice_Tells (named 0) κs.0 u8, (uint_Tells w64, (uint_Tells w64, tt))))
-      (λ κs qs bounds a g are.
-      needs 𝓤 (rows_end a.1.0 a.1.1.0 ≤ length a.0.now) _
-      (λ ok.
-      walk 𝓛 mem run κs.0 qs.0 a.0 a.1.0 a.1.1.0 ok are.1.0.1 are.1.1.0.1 are.0 𝓣 known-make
-      known-keys known_next))
+  walks = walked 𝓛 judge.ended stayed (judge.clauses 𝓛 mem run) (WpFn 𝓤 H 𝓣.C 𝓣.Λ code.function) (λ κs. (shr_slice_vals, (uint_vals w64, (uint_vals w64, tt)))) (λ κs. (shr_slice_Tells (named 0) κs.0 u8, (uint_Tells w64, (uint_Tells w64, tt))))
+      (λ κs qs bounds a g are. needs 𝓤 (rows_end a.1.0 a.1.1.0 ≤ length a.0.now) _ (λ ok. walk 𝓛 mem run κs.0 qs.0 a.0 a.1.0 a.1.1.0 ok are.1.0.1 are.1.1.0.1 are.0 𝓣 known-make known-keys known_next))
 
   meets : Meets 𝓛 judge.signature (WpFn 𝓤 H 𝓣.C 𝓣.Λ code.function) (judge.spec 𝓛 mem run)
   meets =
       let number = Goes-none 𝓛 1 (λ _. usize) yes (λ κs x f. refl) in
-      walk_Meets 𝓛 judge.ended stayed (Goes-none_slice 𝓛 1 (0 ∷ []) tt (plain (λ _. u8)) yes, (number, (number, tt)))
-      (judge.clauses 𝓛 mem run) (WpFn 𝓤 H 𝓣.C 𝓣.Λ code.function) (WpFn-mono 𝓤 H 𝓛.laws 𝓣 code.function) walks
+      walk_Meets 𝓛 judge.ended stayed (Goes-none_slice 𝓛 1 (0 ∷ []) tt (plain (λ _. u8)) yes, (number, (number, tt))) (judge.clauses 𝓛 mem run) (WpFn 𝓤 H 𝓣.C 𝓣.Λ code.function) (WpFn-mono 𝓤 H 𝓛.laws 𝓣 code.function) walks
 
 pub keys_fit_spec : {M : Type 1} → stated.statement M
 unfolding code.routine tables_of

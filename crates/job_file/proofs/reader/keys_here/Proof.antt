@@ -120,15 +120,13 @@ module _ {M : Type 1} {𝓤 : Ura M} (𝓛 : Logic 𝓤) (mem : Memory → SProp
 module _ {M : Type 1} {𝓤 : Ura M} (𝓛 : Logic 𝓤) (mem : Memory → SProp 𝓤) (run : Routine → Fun 𝓤) where
   open 𝓛 use {H}
 
-  walks : (C : Calls 𝓤 H) (Λ : Loops 𝓤 H) → FmC 𝓤 H 𝓛.laws C → Triple 𝓤 (C #row-keys) (Decode 𝓛 mem run) → Walks 𝓛 here.ended
-      stayed (WpFn 𝓤 H C Λ code.function) (here.clauses 𝓛 mem run)
+  walks : (C : Calls 𝓤 H) (Λ : Loops 𝓤 H) → FmC 𝓤 H 𝓛.laws C → Triple 𝓤 (C #row-keys) (Decode 𝓛 mem run) → Walks 𝓛 here.ended stayed (WpFn 𝓤 H C Λ code.function) (here.clauses 𝓛 mem run)
   walks C Λ fm known = walked 𝓛 here.ended stayed (here.clauses 𝓛 mem run) (WpFn 𝓤 H C Λ code.function) (λ κs. (LL.vals (D κs) (L κs), tt)) (λ κs. (LL.tells (D κs) (L κs), tt))
       (λ κs qs bounds a g are. needs 𝓤 (Standing a.0) _ (λ ok. walk 𝓛 mem run κs.0 qs.0 a.0 ok C Λ fm known ((LL.lawful (D κs) (L κs) 𝓛).typed a.0 _ are.0).0))
 
   meets : (𝓣 : Tables 𝓤 H) → Triple 𝓤 (𝓣.C #row-keys) (Decode 𝓛 mem run) → Meets 𝓛 here.signature (WpFn 𝓤 H 𝓣.C 𝓣.Λ code.function) (here.spec 𝓛 mem run)
   meets 𝓣 known =
-      walk_Meets 𝓛 here.ended stayed (Goes-none 𝓛 1 B yes (λ κs x f. refl), tt) (here.clauses 𝓛 mem run)
-      (WpFn 𝓤 H 𝓣.C 𝓣.Λ code.function) (WpFn-mono 𝓤 H 𝓛.laws 𝓣 code.function)
+      walk_Meets 𝓛 here.ended stayed (Goes-none 𝓛 1 B yes (λ κs x f. refl), tt) (here.clauses 𝓛 mem run) (WpFn 𝓤 H 𝓣.C 𝓣.Λ code.function) (WpFn-mono 𝓤 H 𝓛.laws 𝓣 code.function)
       (walks 𝓣.C 𝓣.Λ (fm_of 𝓤 H 𝓛.laws 𝓣) known)
 
 pub keys_here_spec : {M : Type 1} → stated.statement M

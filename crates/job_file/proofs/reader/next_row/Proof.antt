@@ -51,10 +51,7 @@ module _ {M : Type 1} {𝓤 : Ura M} (𝓛 : Logic 𝓤) (mem : Memory → SProp
   exits : d.offset < 2 ^ 64 → d.rows < 2 ^ 64 → d.row + 1 < 2 ^ 64 → ent 𝓤 (on_entry 𝓛 next_row.signature (κ, tt) (q, tt) (d, tt) (mach ∷ [], tt)) (Post (T'.lowered (stepped d)))
   exits o n i =
       qed 𝓛 ((‵ (flft κ q) ⊛ ‵ ftrue) ∷ ‵ (owns (B (κ, tt) ∷ []) (d, tt) (mach ∷ [], tt)) ∷ []) ∵
-      suffices ! _
-      (ends_at 𝓛 next_row.ended stayed (next_row.clauses 𝓛 mem run) (((κ, tt), (q, tt), tt, (d, tt), (mach ∷ [], tt)), tt)
-      (T'.lowered (stepped d)) (stepped d) (tt, tt) (tt, tt))
-      $ says ! refl $
+      suffices ! _ (ends_at 𝓛 next_row.ended stayed (next_row.clauses 𝓛 mem run) (((κ, tt), (q, tt), tt, (d, tt), (mach ∷ [], tt)), tt) (T'.lowered (stepped d)) (stepped d) (tt, tt) (tt, tt)) $ says ! refl $
       frame ! $ fsplit ! $ use1 𝓛 (‵ (FileOwn κ d.file) ⊛ ‵ (Own κ d)) (lends 𝓛 κ d) $ split ! $ move ! (1 ∷ 2 ∷ []) $ fjoin ! $ frame ! $
       by ! (makes 𝓛 κ d.file d.offset d.rows (d.row + 1) o n i)
 
@@ -72,15 +69,10 @@ module _ {M : Type 1} {𝓤 : Ura M} (𝓛 : Logic 𝓤) (mem : Memory → SProp
         assigns ! (of_opd ! (load ! (from ! (fld ! refl (stop !))) (look_in ! 10 (sub ! 2 refl (whole !))))) (from ! (stop !)) (init ! 4 refl (tt, wt.1.1.1.0)) $
         assigns ! (of_opd ! (load ! (from ! (fld ! refl (stop !))) (look_in ! 10 (sub ! 3 refl (whole !))))) (from ! (stop !)) (init ! 2 refl (tt, wt.1.1.1.1.0)) $
         assigns ! (bin ! (load ! (from ! (stop !)) (look ! 2 refl)) (lit ! tt) (record { fits = i })) (from ! (stop !)) (init ! 0 refl (tt, record { fits = i })) $
-        assigns !
-        (agg !
-        (and_then ! (load ! (from ! (stop !)) (look ! 8 refl))
-        (and_then ! (load ! (from ! (stop !)) (look ! 6 refl))
-        (and_then ! (load ! (from ! (stop !)) (look ! 4 refl)) (and_then ! (load ! (from ! (stop !)) (look ! 0 refl)) (no_more !))))))
+        assigns ! (agg ! (and_then ! (load ! (from ! (stop !)) (look ! 8 refl)) (and_then ! (load ! (from ! (stop !)) (look ! 6 refl)) (and_then ! (load ! (from ! (stop !)) (look ! 4 refl)) (and_then ! (load ! (from ! (stop !)) (look ! 0 refl)) (no_more !))))))
         (from ! (stop !)) (init ! 12 refl (tt, (wt.1.0, (wt.1.1.0, (wt.1.1.1.0, (record { fits = i }, tt)))))) $
         returns ! (look ! 12 refl) $ forget ! 0 refl $ forget ! 2 refl $ forget ! 4 refl $ forget ! 6 refl $ forget ! 8 refl $ forget ! 10 refl $ forget ! 12 refl $
-        move ! (12 ∷ 13 ∷ []) $ free1 ! $ move ! (10 ∷ 11 ∷ []) $ free1 ! $ move ! (8 ∷ 9 ∷ []) $ free1 ! $ move ! (6 ∷ 7 ∷ []) $ free1 ! $
-        move ! (4 ∷ 5 ∷ []) $ free1 ! $ move ! (2 ∷ 3 ∷ []) $ free1 ! $ free1 ! $ free0 ! $
+        move ! (12 ∷ 13 ∷ []) $ free1 ! $ move ! (10 ∷ 11 ∷ []) $ free1 ! $ move ! (8 ∷ 9 ∷ []) $ free1 ! $ move ! (6 ∷ 7 ∷ []) $ free1 ! $ move ! (4 ∷ 5 ∷ []) $ free1 ! $ move ! (2 ∷ 3 ∷ []) $ free1 ! $ free1 ! $ free0 ! $
         by ! (exits wt.1.1.0.fits wt.1.1.1.0.fits i))))))))
 
 module _ {M : Type 1} {𝓤 : Ura M} (𝓛 : Logic 𝓤) (mem : Memory → SProp 𝓤) (run : Routine → Fun 𝓤) where
@@ -91,8 +83,7 @@ module _ {M : Type 1} {𝓤 : Ura M} (𝓛 : Logic 𝓤) (mem : Memory → SProp
       (λ κs qs bounds a g are. needs 𝓤 (a.0.row < a.0.rows) _ (λ ok. walk 𝓛 mem run κs.0 qs.0 a.0 ok C Λ ((LL.lawful (D κs) (L κs) 𝓛).typed a.0 _ are.0).0))
 
   meets : (𝓣 : Tables 𝓤 H) → Meets 𝓛 next_row.signature (WpFn 𝓤 H 𝓣.C 𝓣.Λ code.function) (next_row.spec 𝓛 mem run)
-  meets 𝓣 = walk_Meets 𝓛 next_row.ended stayed (Goes-none 𝓛 1 B yes (λ κs x f. refl), tt) (next_row.clauses 𝓛 mem run)
-      (WpFn 𝓤 H 𝓣.C 𝓣.Λ code.function) (WpFn-mono 𝓤 H 𝓛.laws 𝓣 code.function) (walks 𝓣.C 𝓣.Λ)
+  meets 𝓣 = walk_Meets 𝓛 next_row.ended stayed (Goes-none 𝓛 1 B yes (λ κs x f. refl), tt) (next_row.clauses 𝓛 mem run) (WpFn 𝓤 H 𝓣.C 𝓣.Λ code.function) (WpFn-mono 𝓤 H 𝓛.laws 𝓣 code.function) (walks 𝓣.C 𝓣.Λ)
 
 pub next_row_spec : {M : Type 1} → stated.statement M
 unfolding code.routine tables_of

@@ -69,13 +69,7 @@ use Rattle.job_file.proofs.reader.read_rows.Code as code
 use Rattle.job_file.proofs.reader.read_rows.Code.Mir as body
 
 abbrev stayed : Stays (read.ended).signature.params (read.ended).kept
-stayed = (
-  stay_none_slice (0 ∷ []) tt (plain (λ _. u8)) yes,
-  (
-    stay_none (λ _. usize) yes,
-    (stay_none (λ _. usize) yes, (stay_slice (1 ∷ []) tt (plain (λ _. f64)), (stay_slice (2 ∷ []) tt (plain (λ _. u32)), tt))),
-  ),
-)
+stayed = (stay_none_slice (0 ∷ []) tt (plain (λ _. u8)) yes, (stay_none (λ _. usize) yes, (stay_none (λ _. usize) yes, (stay_slice (1 ∷ []) tt (plain (λ _. f64)), (stay_slice (2 ∷ []) tt (plain (λ _. u32)), tt)))))
 
 module _ {M : Type 1} {𝓤 : Ura M} (𝓛 : Logic 𝓤) (mem : Memory → SProp 𝓤) (run : Routine → Fun 𝓤) where
   -- the contract that the proof cites, beside those of the walk
@@ -101,11 +95,7 @@ numbers_ty = slice_ty (ty_ref (named 1) mut (ty_float binary64))
 abbrev words_ty : Ty
 words_ty = slice_ty (ty_ref (named 2) mut (ty_int w32))
 
-module _ {M : Type 1} {𝓤 : Ura M} (𝓛 : Logic 𝓤) (mem : Memory → SProp 𝓤) (run : Routine → Fun 𝓤)
-    (κ κ₁ κ₂ : Lft) (q q₁ q₂ : Share) (s : Bor (List ℕ)) (offset rows : ℕ) (b₁ o₁ : ℕ) (γ₁ : GName) (xs : List Float) (b₂ o₂ : ℕ)
-    (γ₂ : GName) (ys : List ℕ) (ok : (rows_end offset rows ≤ length s.now) × (length xs ≡ 27 * rows) × (length ys ≡ 8 * rows))
-    (o : offset < 2 ^ 64) (n : rows < 2 ^ 64) (p : Is (ShrSlice (named 0) κ u8) s (file_val s ∷ [])) (room₁ : Room f64 (length xs))
-    (room₂ : Room u32 (length ys)) where
+module _ {M : Type 1} {𝓤 : Ura M} (𝓛 : Logic 𝓤) (mem : Memory → SProp 𝓤) (run : Routine → Fun 𝓤) (κ κ₁ κ₂ : Lft) (q q₁ q₂ : Share) (s : Bor (List ℕ)) (offset rows : ℕ) (b₁ o₁ : ℕ) (γ₁ : GName) (xs : List Float) (b₂ o₂ : ℕ) (γ₂ : GName) (ys : List ℕ) (ok : (rows_end offset rows ≤ length s.now) × (length xs ≡ 27 * rows) × (length ys ≡ 8 * rows)) (o : offset < 2 ^ 64) (n : rows < 2 ^ 64) (p : Is (ShrSlice (named 0) κ u8) s (file_val s ∷ [])) (room₁ : Room f64 (length xs)) (room₂ : Room u32 (length ys)) where
   open 𝓛 use {H}
 
   abbrev κs : Lfts 3
@@ -200,32 +190,20 @@ module _ {M : Type 1} {𝓤 : Ura M} (𝓛 : Logic 𝓤) (mem : Memory → SProp
         nothing ! $ move ! (7 ∷ 0 ∷ []) $ fjoin ! $ move ! (6 ∷ 0 ∷ []) $ fjoin ! $ move ! (1 ∷ 0 ∷ []) $ fjoin ! $
         nothing ! $ move ! (3 ∷ 4 ∷ 5 ∷ 0 ∷ []) $ group ! 4 $
         use2 𝓛 (raw ((Row 𝓛 mem run).pre (to_row ν₁ ν₂ δ₁ δ₂)))
-        (qed 𝓛
-        (Tokens ν₁ ν₂ ∷ ‵
-        (owns (B (κ, tt) ∷ MutSlice (named 1) (ν₁ ∷ []) f64 ∷ MutSlice (named 2) (ν₂ ∷ []) u32 ∷ []) (row_of δ₁ δ₂)
-        (m t.row ∷ [], (s₁ ∷ [], (s₂ ∷ [], tt))))
-        ∷ [])
-        ∵ says ! asked $ frame ! $ done !)
-        $ frame ! $ done !
+        (qed 𝓛 (Tokens ν₁ ν₂ ∷ ‵ (owns (B (κ, tt) ∷ MutSlice (named 1) (ν₁ ∷ []) f64 ∷ MutSlice (named 2) (ν₂ ∷ []) u32 ∷ []) (row_of δ₁ δ₂) (m t.row ∷ [], (s₁ ∷ [], (s₂ ∷ [], tt)))) ∷ []) ∵ says ! asked $ frame ! $ done !) $ frame ! $ done !
 
   -- ---- the exit
   exits : (t : Walk) → rows ≤ t.row → ent 𝓤 (⋆ 𝓛 (‵ (flft κ q) ∷ ‵ (flft κ₁ q₁) ∷ ‵ (flft κ₂ q₂) ∷ ‵ (FileOwn κ s) ∷ Xs t.numbers ∷ Ys t.words ∷ [])) (Post vunit)
   exits t e =
       qed 𝓛 (‵ (flft κ q) ∷ ‵ (flft κ₁ q₁) ∷ ‵ (flft κ₂ q₂) ∷ ‵ (FileOwn κ s) ∷ Xs t.numbers ∷ Ys t.words ∷ []) ∵
-      suffices ! _
-      (ends_at 𝓛 read.ended stayed (read.clauses 𝓛 mem run) ((κs, qs, tt, args, at), tt) vunit tt
-      (tt, (tt, (tt, (t.numbers, (t.words, tt)))))
-      (tt, (tt, (tt, (t.of_numbers.long ∙ sym ok.1, (t.of_words.long ∙ sym ok.2, tt))))))
-      $
+      suffices ! _ (ends_at 𝓛 read.ended stayed (read.clauses 𝓛 mem run) ((κs, qs, tt, args, at), tt) vunit tt (tt, (tt, (tt, (t.numbers, (t.words, tt))))) (tt, (tt, (tt, (t.of_numbers.long ∙ sym ok.1, (t.of_words.long ∙ sym ok.2, tt)))))) $
       says ! (over s.now offset rows t e) $ nothing ! $ move ! (1 ∷ 2 ∷ 3 ∷ 0 ∷ []) $ group ! 4 $ frame ! $
       -- [what the file owns; the numbers; the words]
-      nothing ! $ move ! (3 ∷ 0 ∷ []) $ fjoin ! $ move ! (2 ∷ 0 ∷ []) $ fjoin ! $ owned ! usize (Is usize) (uint_Makes 𝓛 w64) rows _
-      (refl, n) $ fjoin ! $ owned ! usize (Is usize) (uint_Makes 𝓛 w64) offset _ (refl, o) $ fjoin ! $
+      nothing ! $ move ! (3 ∷ 0 ∷ []) $ fjoin ! $ move ! (2 ∷ 0 ∷ []) $ fjoin ! $ owned ! usize (Is usize) (uint_Makes 𝓛 w64) rows _ (refl, n) $ fjoin ! $ owned ! usize (Is usize) (uint_Makes 𝓛 w64) offset _ (refl, o) $ fjoin ! $
       move ! (1 ∷ 0 ∷ []) $ fjoin ! $ feq_i ! (List Val) (vunit ∷ []) (vunit ∷ []) refl $ move ! (1 ∷ 0 ∷ []) $ done !
 
   -- ---- the loop
-  module _ (𝓣 : Tables 𝓤 H) (known-row : Triple 𝓤 (𝓣.C #row-here) (Row 𝓛 mem run))
-      (known_next : Triple 𝓤 (𝓣.C #next-row) (Next 𝓛 mem run)) (l₀ l₁ l₂ l₃ l₄ l₅ l₆ l₇ l₈ l₉ l₁₀ l₁₁ l₁₂ l₁₃ l₁₄ l₁₅ l₁₆ : ℕ) where
+  module _ (𝓣 : Tables 𝓤 H) (known-row : Triple 𝓤 (𝓣.C #row-here) (Row 𝓛 mem run)) (known_next : Triple 𝓤 (𝓣.C #next-row) (Next 𝓛 mem run)) (l₀ l₁ l₂ l₃ l₄ l₅ l₆ l₇ l₈ l₉ l₁₀ l₁₁ l₁₂ l₁₃ l₁₄ l₁₅ l₁₆ : ℕ) where
     abbrev C : Calls 𝓤 H
     C = 𝓣.C
 
@@ -236,21 +214,14 @@ module _ {M : Type 1} {𝓤 : Ura M} (𝓛 : Logic 𝓤) (mem : Memory → SProp
     fm = fm_of 𝓤 H 𝓛.laws 𝓣
 
     abbrev En : Env 𝓤 H
-    En = (ty_unit, l₀) ∷ (file_ty, l₁) ∷ (word, l₂) ∷ (word, l₃) ∷ (numbers_ty, l₄) ∷ (words_ty, l₅) ∷ (reader_ty, l₆) ∷ (word, l₇) ∷ (word, l₈)
-        ∷ (ty_bool, l₉) ∷ (ty_unit, l₁₀) ∷ (reader_ty, l₁₁) ∷ (numbers_ref, l₁₂) ∷ (slice_ty numbers_ref, l₁₃) ∷ (words_ref, l₁₄) ∷
-        (slice_ty words_ref, l₁₅) ∷ (reader_ty, l₁₆) ∷ []
+    En = (ty_unit, l₀) ∷ (file_ty, l₁) ∷ (word, l₂) ∷ (word, l₃) ∷ (numbers_ty, l₄) ∷ (words_ty, l₅) ∷ (reader_ty, l₆) ∷ (word, l₇) ∷ (word, l₈) ∷ (ty_bool, l₉) ∷ (ty_unit, l₁₀) ∷ (reader_ty, l₁₁) ∷ (numbers_ref, l₁₂) ∷ (slice_ty numbers_ref, l₁₃) ∷ (words_ref, l₁₄) ∷ (slice_ty words_ref, l₁₅) ∷ (reader_ty, l₁₆) ∷ []
 
     -- between two rows
     abbrev At : Walk → List (Item 𝓤)
-    At t = ‵ (froom reader_ty l₁₆ 0) ∷ ‵ (fdies reader_ty l₁₆) ∷ ‵ (froom (slice_ty words_ref) l₁₅ 0) ∷ ‵ (fdies (slice_ty words_ref) l₁₅) ∷ ‵
-        (froom words_ref l₁₄ 0) ∷ ‵ (fdies words_ref l₁₄) ∷ ‵ (froom (slice_ty numbers_ref) l₁₃ 0) ∷ ‵ (fdies (slice_ty numbers_ref) l₁₃)
-        ∷ ‵ (froom numbers_ref l₁₂ 0) ∷ ‵ (fdies numbers_ref l₁₂) ∷ ‵ (froom reader_ty l₁₁ 0) ∷ ‵ (fdies reader_ty l₁₁) ∷ ‵ (froom ty_unit l₁₀ 0)
-        ∷ ‵ (fdies ty_unit l₁₀) ∷ ‵ (froom ty_bool l₉ 0) ∷ ‵ (fdies ty_bool l₉)
-        ∷ ‵ (froom word l₈ 0) ∷ ‵ (fdies word l₈) ∷ ‵ (froom word l₇ 0) ∷ ‵ (fdies word l₇) ∷ ‵ (fat full_share reader_ty l₆ 0 (m t.row)) ∷
-        ‵ (fdies reader_ty l₆) ∷ ‵ (fat full_share words_ty l₅ 0 s₂) ∷ ‵ (fdies words_ty l₅)
-        ∷ ‵ (fat full_share numbers_ty l₄ 0 s₁) ∷ ‵ (fdies numbers_ty l₄) ∷ ‵ (fat full_share word l₃ 0 (vint w64 rows)) ∷ ‵ (fdies word l₃) ∷ ‵
-        (fat full_share word l₂ 0 (vint w64 offset)) ∷ ‵ (fdies word l₂) ∷ ‵ (fat full_share file_ty l₁ 0 (file_val s)) ∷ ‵
-        (fdies file_ty l₁)
+    At t = ‵ (froom reader_ty l₁₆ 0) ∷ ‵ (fdies reader_ty l₁₆) ∷ ‵ (froom (slice_ty words_ref) l₁₅ 0) ∷ ‵ (fdies (slice_ty words_ref) l₁₅) ∷ ‵ (froom words_ref l₁₄ 0) ∷ ‵ (fdies words_ref l₁₄) ∷ ‵ (froom (slice_ty numbers_ref) l₁₃ 0) ∷ ‵ (fdies (slice_ty numbers_ref) l₁₃)
+        ∷ ‵ (froom numbers_ref l₁₂ 0) ∷ ‵ (fdies numbers_ref l₁₂) ∷ ‵ (froom reader_ty l₁₁ 0) ∷ ‵ (fdies reader_ty l₁₁) ∷ ‵ (froom ty_unit l₁₀ 0) ∷ ‵ (fdies ty_unit l₁₀) ∷ ‵ (froom ty_bool l₉ 0) ∷ ‵ (fdies ty_bool l₉)
+        ∷ ‵ (froom word l₈ 0) ∷ ‵ (fdies word l₈) ∷ ‵ (froom word l₇ 0) ∷ ‵ (fdies word l₇) ∷ ‵ (fat full_share reader_ty l₆ 0 (m t.row)) ∷ ‵ (fdies reader_ty l₆) ∷ ‵ (fat full_share words_ty l₅ 0 s₂) ∷ ‵ (fdies words_ty l₅)
+        ∷ ‵ (fat full_share numbers_ty l₄ 0 s₁) ∷ ‵ (fdies numbers_ty l₄) ∷ ‵ (fat full_share word l₃ 0 (vint w64 rows)) ∷ ‵ (fdies word l₃) ∷ ‵ (fat full_share word l₂ 0 (vint w64 offset)) ∷ ‵ (fdies word l₂) ∷ ‵ (fat full_share file_ty l₁ 0 (file_val s)) ∷ ‵ (fdies file_ty l₁)
         ∷ ‵ (froom ty_unit l₀ 0) ∷ ‵ (fdies ty_unit l₀)
         ∷ ‵ (flft κ q) ∷ ‵ (flft κ₁ q₁) ∷ ‵ (flft κ₂ q₂) ∷ ‵ (FileOwn κ s) ∷ Xs t.numbers ∷ Ys t.words ∷ []
 
@@ -270,13 +241,8 @@ module _ {M : Type 1} {𝓤 : Ura M} (𝓛 : Logic 𝓤) (mem : Memory → SProp
         assigns ! (bin ! (load ! (from ! (stop !)) (look ! 18 refl)) (load ! (from ! (stop !)) (look ! 16 refl)) tt) (from ! (stop !)) (init ! 14 refl (tt, tt)) $
         rewrite ! 14 (λ (z : Bool). ‵ (fat full_share ty_bool l₉ 0 (vbool z))) e refl $ leaves_loop ! (load ! (from ! (stop !)) (look ! 14 refl)) $ exec ! C Λ En body.t-3 (at_ret En Post) $
         assigns ! (of_opd ! (unit_lit !)) (from ! (stop !)) (init ! 32 refl (tt, tt)) $
-        returns ! (look ! 32 refl) $ forget ! 32 refl $ forget ! 30 refl $ forget ! 28 refl $ forget ! 26 refl $ forget ! 24 refl $ forget !
-        22 refl $ forget ! 20 refl $ forget ! 18 refl $ forget ! 16 refl $ forget ! 14 refl $
-        move ! (32 ∷ 33 ∷ []) $ free1 ! $ move ! (30 ∷ 31 ∷ []) $ free1 ! $ move ! (28 ∷ 29 ∷ []) $ free1 ! $ move ! (26 ∷ 27 ∷ []) $ free1
-        ! $ move ! (24 ∷ 25 ∷ []) $ free1 ! $ move ! (22 ∷ 23 ∷ []) $ free1 ! $ move ! (20 ∷ 21 ∷ []) $ free1 ! $ move ! (18 ∷ 19 ∷ [])
-        $ free1 ! $ move ! (16 ∷ 17 ∷ []) $ free1 ! $ move ! (14 ∷ 15 ∷ []) $ free1 ! $ move ! (12 ∷ 13 ∷ []) $ free1 ! $ move !
-        (10 ∷ 11 ∷ []) $ free1 ! $ move ! (8 ∷ 9 ∷ []) $ free1 ! $ move ! (6 ∷ 7 ∷ []) $ free1 ! $ move ! (4 ∷ 5 ∷ []) $ free1 ! $ move
-        ! (2 ∷ 3 ∷ []) $ free1 ! $ move ! (0 ∷ 1 ∷ []) $ free1 ! $ free0 ! $
+        returns ! (look ! 32 refl) $ forget ! 32 refl $ forget ! 30 refl $ forget ! 28 refl $ forget ! 26 refl $ forget ! 24 refl $ forget ! 22 refl $ forget ! 20 refl $ forget ! 18 refl $ forget ! 16 refl $ forget ! 14 refl $
+        move ! (32 ∷ 33 ∷ []) $ free1 ! $ move ! (30 ∷ 31 ∷ []) $ free1 ! $ move ! (28 ∷ 29 ∷ []) $ free1 ! $ move ! (26 ∷ 27 ∷ []) $ free1 ! $ move ! (24 ∷ 25 ∷ []) $ free1 ! $ move ! (22 ∷ 23 ∷ []) $ free1 ! $ move ! (20 ∷ 21 ∷ []) $ free1 ! $ move ! (18 ∷ 19 ∷ []) $ free1 ! $ move ! (16 ∷ 17 ∷ []) $ free1 ! $ move ! (14 ∷ 15 ∷ []) $ free1 ! $ move ! (12 ∷ 13 ∷ []) $ free1 ! $ move ! (10 ∷ 11 ∷ []) $ free1 ! $ move ! (8 ∷ 9 ∷ []) $ free1 ! $ move ! (6 ∷ 7 ∷ []) $ free1 ! $ move ! (4 ∷ 5 ∷ []) $ free1 ! $ move ! (2 ∷ 3 ∷ []) $ free1 ! $ move ! (0 ∷ 1 ∷ []) $ free1 ! $ free0 ! $
         by ! (exits t (ltb-false t.row rows e))
 
     -- a turn at a row
@@ -289,17 +255,9 @@ module _ {M : Type 1} {𝓤 : Ura M} (𝓛 : Logic 𝓤) (mem : Memory → SProp
         rewrite ! 14 (λ (z : Bool). ‵ (fat full_share ty_bool l₉ 0 (vbool z))) e refl $ stays ! (load ! (from ! (stop !)) (look ! 14 refl)) $
         assigns ! (of_opd ! (load ! (from ! (stop !)) (look ! 20 refl))) (from ! (stop !)) (init ! 10 refl (typed 𝓛 κ s offset rows o n p t.row (row_fits t))) $
         assigns ! (addr ! (from ! (fld ! refl (hop ! (look_in ! 24 (sub ! 0 refl (whole !))) (stop !))))) (from ! (stop !)) (init ! 8 refl (tt, tt)) $
-        assigns !
-        (agg !
-        (and_then ! (load ! (from ! (stop !)) (look ! 8 refl))
-        (and_then ! (load ! (from ! (fld ! refl (stop !))) (look_in ! 24 (sub ! 1 refl (whole !)))) (no_more !))))
-        (from ! (stop !)) (init ! 6 refl (tt, (tt, (record { fits = room₁.0 }, tt)))) $
+        assigns ! (agg ! (and_then ! (load ! (from ! (stop !)) (look ! 8 refl)) (and_then ! (load ! (from ! (fld ! refl (stop !))) (look_in ! 24 (sub ! 1 refl (whole !)))) (no_more !)))) (from ! (stop !)) (init ! 6 refl (tt, (tt, (record { fits = room₁.0 }, tt)))) $
         assigns ! (addr ! (from ! (fld ! refl (hop ! (look_in ! 22 (sub ! 0 refl (whole !))) (stop !))))) (from ! (stop !)) (init ! 4 refl (tt, tt)) $
-        assigns !
-        (agg !
-        (and_then ! (load ! (from ! (stop !)) (look ! 4 refl))
-        (and_then ! (load ! (from ! (fld ! refl (stop !))) (look_in ! 22 (sub ! 1 refl (whole !)))) (no_more !))))
-        (from ! (stop !)) (init ! 2 refl (tt, (tt, (record { fits = room₂.0 }, tt)))) $
+        assigns ! (agg ! (and_then ! (load ! (from ! (stop !)) (look ! 4 refl)) (and_then ! (load ! (from ! (fld ! refl (stop !))) (look_in ! 22 (sub ! 1 refl (whole !)))) (no_more !)))) (from ! (stop !)) (init ! 2 refl (tt, (tt, (record { fits = room₂.0 }, tt)))) $
         -- the lists are lent again, for lifetimes of the call
         lft_new ! tt (λ ν₁. move ! (39 ∷ 36 ∷ []) $
         use2 𝓛 (later (some (λ (δ : GName). Xs_lent t less ν₁ δ ⊛ ‵ (LentAgain f64 κ₁ (ν₁ ∷ []) q₁ γ₁ b₁ o₁ δ t.numbers)))) (lends_at f64 κ₁ (ν₁ ∷ []) q₁ γ₁ b₁ o₁ 𝓛 (named 1) (named 1) t.numbers (long₁ t less)) $ await ! tt $ pick ! (λ δ₁. split ! $
@@ -318,31 +276,20 @@ module _ {M : Type 1} {𝓤 : Ura M} (𝓛 : Logic 𝓤) (mem : Memory → SProp
         split ! $ move ! (1 ∷ []) $ split ! $ lft_end ! tt $ move ! (0 ∷ 8 ∷ 5 ∷ []) $
         use3 𝓛 (later (Xs zs.1.0 ⊛ ‵ (flft κ₁ q₁))) (back_at f64 κ₁ (ν₁ ∷ []) q₁ γ₁ b₁ o₁ 𝓛 (named 1) (named 1) t.numbers (long₁ t less) δ₁ zs.1.0 room₁ m₁) $ await ! tt $ split ! $
         move ! (2 ∷ []) $ split ! $ lft_end ! tt $ move ! (0 ∷ 8 ∷ 5 ∷ []) $
-        use3 𝓛 (later (Ys zs.1.1.0 ⊛ ‵ (flft κ₂ q₂)))
-        (back_at u32 κ₂ (ν₂ ∷ []) q₂ γ₂ b₂ o₂ 𝓛 (named 2) (named 2) t.words (long₂ t less) δ₂ zs.1.1.0 room₂ m₂) $ await !
-        tt $ split ! $
+        use3 𝓛 (later (Ys zs.1.1.0 ⊛ ‵ (flft κ₂ q₂))) (back_at u32 κ₂ (ν₂ ∷ []) q₂ γ₂ b₂ o₂ 𝓛 (named 2) (named 2) t.words (long₂ t less) δ₂ zs.1.1.0 room₂ m₂) $ await ! tt $ split ! $
         -- [the words; their token; true; the numbers; their token; the file's token; true; what the file owns; _16; …; room for _0; …]
         assigns ! (of_opd ! (load ! (from ! (stop !)) (look ! 28 refl))) (from ! (stop !)) (init ! 8 refl (typed 𝓛 κ s offset rows o n p t.row (row_fits t))) $
-        move ! (5 ∷ 7 ∷ []) $ use2 𝓛
-        (raw ((Next 𝓛 mem run).pre (to_next 𝓛 κ s offset rows o n mem run q t.row (row_fits t))) ⊛ ‵ (FileOwn κ s))
-        (goes_next 𝓛 κ s offset rows o n mem run q t.row (row_fits t) less) $ split ! $
+        move ! (5 ∷ 7 ∷ []) $ use2 𝓛 (raw ((Next 𝓛 mem run).pre (to_next 𝓛 κ s offset rows o n mem run q t.row (row_fits t))) ⊛ ‵ (FileOwn κ s)) (goes_next 𝓛 κ s offset rows o n mem run q t.row (row_fits t) less) $ split ! $
         calls_at_last ! fm (Next 𝓛 mem run) known_next (to_next 𝓛 κ s offset rows o n mem run q t.row (row_fits t)) (and_then ! (load ! (from ! (stop !)) (look ! 8 refl)) (no_more !)) (λ v.
         use1 𝓛 (later (some (λ (r' : Reader). ((‵ (flft κ q) ⊛ ‵ ftrue) ⊛ ‵ ((B (κ, tt)).own r' (v ∷ []))) ⊛ raw (ensured 𝓛 next_row.ended (next_row.clauses 𝓛 mem run) (κ, tt) (d t.row, tt) tt r')))) (id⊢ 𝓤 _) $ await ! tt $ pick ! (λ r'.
         split ! $ move ! (1 ∷ []) $ use1 𝓛 (raw (fact 𝓤 (r' ≡ d (t.row + 1)))) (next_said 𝓛 κ s offset rows o n mem run q t.row (row_fits t) r') $ heard ! (r' ≡ d (t.row + 1)) (λ stands. split ! $ rewrite ! 1 (λ (h : Reader). ‵ ((B (κ, tt)).own h (v ∷ []))) stands refl $ move ! (1 ∷ []) $
         peeks ! (B (κ, tt)) (Is (B (κ, tt))) (shows 𝓛 (B (κ, tt))) (d (t.row + 1)) (v ∷ []) (λ is'.
         let u = onward s.now offset rows t less done-row.0 done-row.1 in
-        land_last ! (from ! (stop !))
-        (store ! 29 refl
-        (subst (λ (z : Val). Holds (has_ty reader_ty z) × WT z) (sym (lowers κ s offset rows (t.row + 1) v is'))
-        (typed 𝓛 κ s offset rows o n p (t.row + 1) (row_fits u))))
-        $
+        land_last ! (from ! (stop !)) (store ! 29 refl (subst (λ (z : Val). Holds (has_ty reader_ty z) × WT z) (sym (lowers κ s offset rows (t.row + 1) v is')) (typed 𝓛 κ s offset rows o n p (t.row + 1) (row_fits u)))) $
         rewrite ! 29 (λ (z : Val). ‵ (fat full_share reader_ty l₆ 0 z)) (lowers κ s offset rows (t.row + 1) v is') refl $ drop ! $ split ! $
         -- [the token; true; what the file owns; the words; their token; true; the numbers; their token; true; _16; …; room for _0; …]
         forget ! 27 refl $ forget ! 25 refl $ forget ! 23 refl $ forget ! 21 refl $ forget ! 19 refl $ forget ! 17 refl $ forget ! 15 refl $ forget ! 13 refl $ forget ! 11 refl $ forget ! 9 refl $
-        keep !
-        (9 ∷ 10 ∷ 11 ∷ 12 ∷ 13 ∷ 14 ∷ 15 ∷ 16 ∷ 17 ∷ 18 ∷ 19 ∷ 20 ∷ 21 ∷ 22 ∷ 23 ∷ 24 ∷ 25 ∷ 26 ∷ 27 ∷ 28 ∷ 29 ∷ 30 ∷ 31 ∷ 32 ∷ 33 ∷ 34
-        ∷ 35 ∷ 36 ∷ 37 ∷ 38 ∷ 39 ∷ 40 ∷ 41 ∷ 42 ∷ 0 ∷ 7 ∷ 4 ∷ 2 ∷ 6 ∷ 3 ∷ [])
-        $
+        keep ! (9 ∷ 10 ∷ 11 ∷ 12 ∷ 13 ∷ 14 ∷ 15 ∷ 16 ∷ 17 ∷ 18 ∷ 19 ∷ 20 ∷ 21 ∷ 22 ∷ 23 ∷ 24 ∷ 25 ∷ 26 ∷ 27 ∷ 28 ∷ 29 ∷ 30 ∷ 31 ∷ 32 ∷ 33 ∷ 34 ∷ 35 ∷ 36 ∷ 37 ∷ 38 ∷ 39 ∷ 40 ∷ 41 ∷ 42 ∷ 0 ∷ 7 ∷ 4 ∷ 2 ∷ 6 ∷ 3 ∷ []) $
         again ! (Nearer row_of_walk rows) At t u (nearer rows t.row less))))))))))))))))
 
     turn_of : (t : Walk) (z : Bool) → ltb t.row rows ≡ z → Sq 𝓛 (At t) (runs C Λ En body.turn-1 (any_q (Turned t)))
@@ -353,17 +300,12 @@ module _ {M : Type 1} {𝓤 : Ura M} (𝓛 : Logic 𝓤) (mem : Memory → SProp
   walk : (𝓣 : Tables 𝓤 H) → Triple 𝓤 (𝓣.C #reader-at) (Make 𝓛 mem run) → Triple 𝓤 (𝓣.C #row-here) (Row 𝓛 mem run) → Triple 𝓤 (𝓣.C #next-row) (Next 𝓛 mem run)
       → ent 𝓤 (on_entry 𝓛 read.signature κs qs args at) (WpFn 𝓤 H 𝓣.C 𝓣.Λ code.function (file_val s ∷ vint w64 offset ∷ vint w64 rows ∷ s₁ ∷ s₂ ∷ []) Post)
   walk 𝓣 known-make known-row known_next =
-      qed 𝓛
-      ((‵ (flft κ q) ⊛ ‵ (flft κ₁ q₁) ⊛ ‵ (flft κ₂ q₂) ⊛ ‵ ftrue) ∷ ‵
-      (owns (ShrSlice (named 0) κ u8 ∷ usize ∷ usize ∷ MutSlice (named 1) κ₁ f64 ∷ MutSlice (named 2) κ₂ u32 ∷ []) args at) ∷ [])
-      ∵
+      qed 𝓛 ((‵ (flft κ q) ⊛ ‵ (flft κ₁ q₁) ⊛ ‵ (flft κ₂ q₂) ⊛ ‵ ftrue) ∷ ‵ (owns (ShrSlice (named 0) κ u8 ∷ usize ∷ usize ∷ MutSlice (named 1) κ₁ f64 ∷ MutSlice (named 2) κ₂ u32 ∷ []) args at) ∷ []) ∵
       enter ! 𝓣.C 𝓣.Λ code.function (file_val s ∷ vint w64 offset ∷ vint w64 rows ∷ s₁ ∷ s₂ ∷ []) _ $
       alloc1 ! (λ l₀. alloc1 ! (λ l₁. alloc1 ! (λ l₂. alloc1 ! (λ l₃. alloc1 ! (λ l₄. alloc1 ! (λ l₅. alloc1 ! (λ l₆. alloc1 ! (λ l₇. alloc1 ! (λ l₈. alloc1 ! (λ l₉. alloc1 ! (λ l₁₀. alloc1 ! (λ l₁₁. alloc1 ! (λ l₁₂. alloc1 ! (λ l₁₃. alloc1 ! (λ l₁₄. alloc1 ! (λ l₁₅. alloc1 ! (λ l₁₆. alloc0 ! $ params1 ! $
-      pass1 ! (init ! 30 refl ((shr_slice_Lawful 𝓛 (named 0) κ u8).typed s (file_val s ∷ []) p).0) $ pass1 !
-      (init ! 28 refl (tt, record { fits = o })) $ pass1 ! (init ! 26 refl (tt, record { fits = n })) $
+      pass1 ! (init ! 30 refl ((shr_slice_Lawful 𝓛 (named 0) κ u8).typed s (file_val s ∷ []) p).0) $ pass1 ! (init ! 28 refl (tt, record { fits = o })) $ pass1 ! (init ! 26 refl (tt, record { fits = n })) $
       pass1 ! (init ! 24 refl (tt, (tt, (record { fits = room₁.0 }, tt)))) $ pass1 ! (init ! 22 refl (tt, (tt, (record { fits = room₂.0 }, tt)))) $ pass0 ! $
-      move ! (34 ∷ []) $ split ! $ move ! (1 ∷ []) $ split ! $ move ! (1 ∷ []) $ split ! $ move ! (38 ∷ []) $ fsplit ! $ move ! (1 ∷ []) $
-      fsplit ! $ drop ! $ fsplit ! $ drop ! $ fsplit ! $ move ! (1 ∷ []) $ fsplit ! $
+      move ! (34 ∷ []) $ split ! $ move ! (1 ∷ []) $ split ! $ move ! (1 ∷ []) $ split ! $ move ! (38 ∷ []) $ fsplit ! $ move ! (1 ∷ []) $ fsplit ! $ drop ! $ fsplit ! $ drop ! $ fsplit ! $ move ! (1 ∷ []) $ fsplit ! $
       -- [the words; true; the numbers; what the file owns; the words' token; true; the numbers' token; the file's token; _16; …; room for _0; …]
       move ! (7 ∷ 3 ∷ []) $ use2 𝓛 (raw ((Make 𝓛 mem run).pre (to_make 𝓛 κ s offset rows o n mem run q)) ⊛ ‵ (FileOwn κ s)) (goes_make 𝓛 κ s offset rows o n mem run q) $ split ! $
       calls_at ! (fm_of 𝓤 H 𝓛.laws 𝓣) (Make 𝓛 mem run) known-make (to_make 𝓛 κ s offset rows o n mem run q) (and_then ! (load ! (from ! (stop !)) (look ! 38 refl)) (and_then ! (load ! (from ! (stop !)) (look ! 36 refl)) (and_then ! (load ! (from ! (stop !)) (look ! 34 refl)) (and_then ! (lit ! tt) (no_more !))))) (λ u.
@@ -373,15 +315,10 @@ module _ {M : Type 1} {𝓤 : Ura M} (𝓛 : Logic 𝓤) (mem : Memory → SProp
       land ! (from ! (stop !)) (init ! 29 refl (subst (λ (z : Val). Holds (has_ty reader_ty z) × WT z) (sym (lowers κ s offset rows 0 u is)) (typed 𝓛 κ s offset rows o n p 0 (lit< tt)))) $
       rewrite ! 29 (λ (z : Val). ‵ (fat full_share reader_ty l₆ 0 z)) (lowers κ s offset rows 0 u is) refl $ drop ! $ split ! $
       -- [the token; true; what the file owns; the words; true; the numbers; their tokens; _16; …; room for _0; …]
-      keep !
-      (9 ∷ 10 ∷ 11 ∷ 12 ∷ 13 ∷ 14 ∷ 15 ∷ 16 ∷ 17 ∷ 18 ∷ 19 ∷ 20 ∷ 21 ∷ 22 ∷ 23 ∷ 24 ∷ 25 ∷ 26 ∷ 27 ∷ 28 ∷ 29 ∷ 30 ∷ 31 ∷ 32 ∷ 33 ∷ 34 ∷
-      35 ∷ 36 ∷ 37 ∷ 38 ∷ 39 ∷ 40 ∷ 41 ∷ 42 ∷ 0 ∷ 8 ∷ 6 ∷ 2 ∷ 5 ∷ 3 ∷ [])
-      $
+      keep ! (9 ∷ 10 ∷ 11 ∷ 12 ∷ 13 ∷ 14 ∷ 15 ∷ 16 ∷ 17 ∷ 18 ∷ 19 ∷ 20 ∷ 21 ∷ 22 ∷ 23 ∷ 24 ∷ 25 ∷ 26 ∷ 27 ∷ 28 ∷ 29 ∷ 30 ∷ 31 ∷ 32 ∷ 33 ∷ 34 ∷ 35 ∷ 36 ∷ 37 ∷ 38 ∷ 39 ∷ 40 ∷ 41 ∷ 42 ∷ 0 ∷ 8 ∷ 6 ∷ 2 ∷ 5 ∷ 3 ∷ []) $
       first ! $ blocks ! $ loops ! 𝓣 (Nearer row_of_walk rows) (nearer_wf row_of_walk rows) (At 𝓣 known-row known_next l₀ l₁ l₂ l₃ l₄ l₅ l₆ l₇ l₈ l₉ l₁₀ l₁₁ l₁₂ l₁₃ l₁₄ l₁₅ l₁₆) (λ t. turn_of 𝓣 known-row known_next l₀ l₁ l₂ l₃ l₄ l₅ l₆ l₇ l₈ l₉ l₁₀ l₁₁ l₁₂ l₁₃ l₁₄ l₁₅ l₁₆ t (ltb t.row rows) refl) (begun s.now offset rows xs ys ok.1 ok.2))))))))))))))))))))))
 
-module _ {M : Type 1} {𝓤 : Ura M} (𝓛 : Logic 𝓤) (mem : Memory → SProp 𝓤) (run : Routine → Fun 𝓤)
-    (𝓣 : Tables 𝓤 𝓛.H) (known-make : Triple 𝓤 (𝓣.C #reader-at) (Make 𝓛 mem run))
-    (known-row : Triple 𝓤 (𝓣.C #row-here) (Row 𝓛 mem run)) (known_next : Triple 𝓤 (𝓣.C #next-row) (Next 𝓛 mem run)) where
+module _ {M : Type 1} {𝓤 : Ura M} (𝓛 : Logic 𝓤) (mem : Memory → SProp 𝓤) (run : Routine → Fun 𝓤) (𝓣 : Tables 𝓤 𝓛.H) (known-make : Triple 𝓤 (𝓣.C #reader-at) (Make 𝓛 mem run)) (known-row : Triple 𝓤 (𝓣.C #row-here) (Row 𝓛 mem run)) (known_next : Triple 𝓤 (𝓣.C #next-row) (Next 𝓛 mem run)) where
   open 𝓛 use {H}
 
   walks : Walks 𝓛 read.ended stayed (WpFn 𝓤 H 𝓣.C 𝓣.Λ code.function) (read.clauses 𝓛 mem run)
@@ -390,17 +327,13 @@ module _ {M : Type 1} {𝓤 : Ura M} (𝓛 : Logic 𝓤) (mem : Memory → SProp
       (λ κs. (shr_slice_Tells (named 0) κs.0 u8, (uint_Tells w64, (uint_Tells w64, (mut_slice_Tells (named 1) κs.1.0 f64, (mut_slice_Tells (named 2) κs.1.1.0 u32, tt))))))
       (λ κs qs bounds a g are. needs 𝓤 ((rows_end a.1.0 a.1.1.0 ≤ length a.0.now) × (length a.1.1.1.0.now ≡ 27 * a.1.1.0) × (length a.1.1.1.1.0.now ≡ 8 * a.1.1.0)) _
       (λ ok. let x = a.1.1.1.0 in let y = a.1.1.1.1.0 in
-      walk 𝓛 mem run κs.0 κs.1.0 κs.1.1.0 qs.0 qs.1.0 qs.1.1.0 a.0 a.1.0 a.1.1.0 x.ptr.0
-      x.ref_ptr.1 x.ghost_name x.now y.ref_ptr.0 y.ref_ptr.1 y.ghost_name y.now
+      walk 𝓛 mem run κs.0 κs.1.0 κs.1.1.0 qs.0 qs.1.0 qs.1.1.0 a.0 a.1.0 a.1.1.0 x.ref_ptr.0 x.ref_ptr.1 x.ghost_name x.now y.ref_ptr.0 y.ref_ptr.1 y.ghost_name y.now
       ok are.1.0.1 are.1.1.0.1 are.0 are.1.1.1.0.0.1 are.1.1.1.1.0.0.1 𝓣 known-make known-row known_next))
 
   meets : Meets 𝓛 read.signature (WpFn 𝓤 H 𝓣.C 𝓣.Λ code.function) (read.spec 𝓛 mem run)
   meets =
       let number = Goes-none 𝓛 3 (λ _. usize) yes (λ κs x f. refl) in
-      walk_Meets 𝓛 read.ended stayed (
-        Goes-none_slice 𝓛 3 (0 ∷ []) tt (plain (λ _. u8)) yes,
-        (number, (number, (Goes-slice 𝓛 3 1 tt (plain (λ _. f64)), (Goes-slice 𝓛 3 2 tt (plain (λ _. u32)), tt)))),
-      )
+      walk_Meets 𝓛 read.ended stayed (Goes-none_slice 𝓛 3 (0 ∷ []) tt (plain (λ _. u8)) yes, (number, (number, (Goes-slice 𝓛 3 1 tt (plain (λ _. f64)), (Goes-slice 𝓛 3 2 tt (plain (λ _. u32)), tt)))))
       (read.clauses 𝓛 mem run) (WpFn 𝓤 H 𝓣.C 𝓣.Λ code.function) (WpFn-mono 𝓤 H 𝓛.laws 𝓣 code.function) walks
 
 pub read_rows_spec : {M : Type 1} → stated.statement M

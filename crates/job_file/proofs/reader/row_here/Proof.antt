@@ -64,9 +64,7 @@ module _ {M : Type 1} {𝓤 : Ura M} (𝓛 : Logic 𝓤) (mem : Memory → SProp
   abbrev Put : Contract 𝓤
   Put = triple_of 𝓛 put-row.signature (put-row.spec 𝓛 mem run)
 
-module _ {M : Type 1} {𝓤 : Ura M} (𝓛 : Logic 𝓤) (mem : Memory → SProp 𝓤) (run : Routine → Fun 𝓤)
-    (κ κ₁ κ₂ : Lft) (q q₁ q₂ : Share) (d : Reader) (x : MutBor (List Float)) (y : MutBor (List ℕ))
-    (ok : Standing d × (27 * (d.row + 1) ≤ length x.now) × (8 * (d.row + 1) ≤ length y.now)) where
+module _ {M : Type 1} {𝓤 : Ura M} (𝓛 : Logic 𝓤) (mem : Memory → SProp 𝓤) (run : Routine → Fun 𝓤) (κ κ₁ κ₂ : Lft) (q q₁ q₂ : Share) (d : Reader) (x : MutBor (List Float)) (y : MutBor (List ℕ)) (ok : Standing d × (27 * (d.row + 1) ≤ length x.now) × (8 * (d.row + 1) ≤ length y.now)) where
   open 𝓛 use {H}
 
   abbrev κs : Lfts 3
@@ -131,8 +129,7 @@ module _ {M : Type 1} {𝓤 : Ura M} (𝓛 : Logic 𝓤) (mem : Memory → SProp
       nothing ! $ move ! (3 ∷ 0 ∷ []) $ fjoin ! $ move ! (2 ∷ 0 ∷ []) $ fjoin ! $ move ! (1 ∷ 0 ∷ []) $ fjoin ! $ feq_i ! (List Val) (vunit ∷ []) (vunit ∷ []) refl $ move ! (1 ∷ 0 ∷ []) $ done !
 
   module _ (C : Calls 𝓤 H) (Λ : Loops 𝓤 H) (fm : FmC 𝓤 H 𝓛.laws C) (known : Triple 𝓤 (C #put-row) (Put 𝓛 mem run)) where
-    walk : Holds (has_ty (T'.mir (named 0)) mach) × WT mach → Room f64 (length x.now) → Room u32 (length y.now) → ent 𝓤
-        (on_entry 𝓛 here.signature κs qs args at) (WpFn 𝓤 H C Λ code.function (mach ∷ s₁ ∷ s₂ ∷ []) Post)
+    walk : Holds (has_ty (T'.mir (named 0)) mach) × WT mach → Room f64 (length x.now) → Room u32 (length y.now) → ent 𝓤 (on_entry 𝓛 here.signature κs qs args at) (WpFn 𝓤 H C Λ code.function (mach ∷ s₁ ∷ s₂ ∷ []) Post)
     walk wt room₁ room₂ =
         qed 𝓛 (raw (on_entry 𝓛 here.signature κs qs args at) ∷ []) ∵ enter ! C Λ code.function (mach ∷ s₁ ∷ s₂ ∷ []) _ $
         alloc1 ! (λ l₀. alloc1 ! (λ l₁. alloc1 ! (λ l₂. alloc1 ! (λ l₃. alloc1 ! (λ l₄. alloc1 ! (λ l₅. alloc1 ! (λ l₆. alloc1 ! (λ l₇. alloc1 ! (λ l₈. alloc1 ! (λ l₉. alloc1 ! (λ l₁₀. alloc1 ! (λ l₁₁. alloc0 ! $ params1 ! $
@@ -141,17 +138,9 @@ module _ {M : Type 1} {𝓤 : Ura M} (𝓛 : Logic 𝓤) (mem : Memory → SProp
         assigns ! (of_opd ! (load ! (from ! (fld ! refl (stop !))) (look_in ! 20 (sub ! 1 refl (whole !))))) (from ! (stop !)) (init ! 10 refl (tt, wt.1.1.0)) $
         assigns ! (of_opd ! (load ! (from ! (fld ! refl (stop !))) (look_in ! 20 (sub ! 3 refl (whole !))))) (from ! (stop !)) (init ! 8 refl (tt, wt.1.1.1.1.0)) $
         assigns ! (addr ! (from ! (fld ! refl (hop ! (look_in ! 18 (sub ! 0 refl (whole !))) (stop !))))) (from ! (stop !)) (init ! 6 refl (tt, tt)) $
-        assigns !
-        (agg !
-        (and_then ! (load ! (from ! (stop !)) (look ! 6 refl))
-        (and_then ! (load ! (from ! (fld ! refl (stop !))) (look_in ! 18 (sub ! 1 refl (whole !)))) (no_more !))))
-        (from ! (stop !)) (init ! 4 refl (tt, (tt, (record { fits = room₁.0 }, tt)))) $
+        assigns ! (agg ! (and_then ! (load ! (from ! (stop !)) (look ! 6 refl)) (and_then ! (load ! (from ! (fld ! refl (stop !))) (look_in ! 18 (sub ! 1 refl (whole !)))) (no_more !)))) (from ! (stop !)) (init ! 4 refl (tt, (tt, (record { fits = room₁.0 }, tt)))) $
         assigns ! (addr ! (from ! (fld ! refl (hop ! (look_in ! 16 (sub ! 0 refl (whole !))) (stop !))))) (from ! (stop !)) (init ! 2 refl (tt, tt)) $
-        assigns !
-        (agg !
-        (and_then ! (load ! (from ! (stop !)) (look ! 2 refl))
-        (and_then ! (load ! (from ! (fld ! refl (stop !))) (look_in ! 16 (sub ! 1 refl (whole !)))) (no_more !))))
-        (from ! (stop !)) (init ! 0 refl (tt, (tt, (record { fits = room₂.0 }, tt)))) $
+        assigns ! (agg ! (and_then ! (load ! (from ! (stop !)) (look ! 2 refl)) (and_then ! (load ! (from ! (fld ! refl (stop !))) (look_in ! 16 (sub ! 1 refl (whole !)))) (no_more !)))) (from ! (stop !)) (init ! 0 refl (tt, (tt, (record { fits = room₂.0 }, tt)))) $
         move ! (24 ∷ []) $ use1 𝓛 (raw ((Put 𝓛 mem run).pre to) ⊛ ‵ (Own κ d)) (apart wt.1.1.0.fits wt.1.1.1.1.0.fits) $ split ! $
         -- [what the callee asks; what the reader owns; _11; …; _10; …; … _1; …; room for _0; …]
         calls_at ! fm (Put 𝓛 mem run) known to (and_then ! (load ! (from ! (stop !)) (look ! 14 refl)) (and_then ! (load ! (from ! (stop !)) (look ! 12 refl)) (and_then ! (load ! (from ! (stop !)) (look ! 10 refl)) (and_then ! (load ! (from ! (stop !)) (look ! 6 refl)) (and_then ! (load ! (from ! (stop !)) (look ! 2 refl)) (no_more !)))))) (λ u.
@@ -165,12 +154,9 @@ module _ {M : Type 1} {𝓤 : Ura M} (𝓛 : Logic 𝓤) (mem : Memory → SProp
         -- [the tokens; the last words; true; the last numbers; what the reader owns; _11; …; room for _0; …]
         land ! (from ! (stop !)) (init ! 19 refl (subst (λ (z : Val). Holds (has_ty ty_unit z) × WT z) (sym (ap only is)) (tt, tt))) $
         assigns ! (of_opd ! (unit_lit !)) (from ! (stop !)) (init ! 27 refl (tt, tt)) $
-        returns ! (look ! 27 refl) $ forget ! 5 refl $ forget ! 7 refl $ forget ! 9 refl $ forget ! 11 refl $ forget ! 13 refl $ forget ! 15
-        refl $ forget ! 17 refl $ forget ! 19 refl $ forget ! 21 refl $ forget ! 23 refl $ forget ! 25 refl $ forget ! 27 refl $
-        move ! (27 ∷ 28 ∷ []) $ free1 ! $ move ! (25 ∷ 26 ∷ []) $ free1 ! $ move ! (23 ∷ 24 ∷ []) $ free1 ! $ move ! (21 ∷ 22 ∷ []) $ free1
-        ! $ move ! (19 ∷ 20 ∷ []) $ free1 ! $ move ! (17 ∷ 18 ∷ []) $ free1 ! $
-        move ! (15 ∷ 16 ∷ []) $ free1 ! $ move ! (13 ∷ 14 ∷ []) $ free1 ! $ move ! (11 ∷ 12 ∷ []) $ free1 ! $ move ! (9 ∷ 10 ∷ []) $ free1 !
-        $ move ! (7 ∷ 8 ∷ []) $ free1 ! $ move ! (5 ∷ 6 ∷ []) $ free1 ! $ free0 ! $
+        returns ! (look ! 27 refl) $ forget ! 5 refl $ forget ! 7 refl $ forget ! 9 refl $ forget ! 11 refl $ forget ! 13 refl $ forget ! 15 refl $ forget ! 17 refl $ forget ! 19 refl $ forget ! 21 refl $ forget ! 23 refl $ forget ! 25 refl $ forget ! 27 refl $
+        move ! (27 ∷ 28 ∷ []) $ free1 ! $ move ! (25 ∷ 26 ∷ []) $ free1 ! $ move ! (23 ∷ 24 ∷ []) $ free1 ! $ move ! (21 ∷ 22 ∷ []) $ free1 ! $ move ! (19 ∷ 20 ∷ []) $ free1 ! $ move ! (17 ∷ 18 ∷ []) $ free1 ! $
+        move ! (15 ∷ 16 ∷ []) $ free1 ! $ move ! (13 ∷ 14 ∷ []) $ free1 ! $ move ! (11 ∷ 12 ∷ []) $ free1 ! $ move ! (9 ∷ 10 ∷ []) $ free1 ! $ move ! (7 ∷ 8 ∷ []) $ free1 ! $ move ! (5 ∷ 6 ∷ []) $ free1 ! $ free0 ! $
         keep ! (0 ∷ 4 ∷ 3 ∷ 1 ∷ []) $ by ! (exits zs.1.1.1.0 zs.1.1.1.1.0 e m₁ m₂))))))))))))))))))))
 
 module _ {M : Type 1} {𝓤 : Ura M} (𝓛 : Logic 𝓤) (mem : Memory → SProp 𝓤) (run : Routine → Fun 𝓤) where
@@ -186,10 +172,7 @@ module _ {M : Type 1} {𝓤 : Ura M} (𝓛 : Logic 𝓤) (mem : Memory → SProp
 
   meets : (𝓣 : Tables 𝓤 H) → Triple 𝓤 (𝓣.C #put-row) (Put 𝓛 mem run) → Meets 𝓛 here.signature (WpFn 𝓤 H 𝓣.C 𝓣.Λ code.function) (here.spec 𝓛 mem run)
   meets 𝓣 known =
-      walk_Meets 𝓛 here.ended stayed (
-        Goes-none 𝓛 3 (λ κs. T.the_row (named_lft 3 0 tt κs)) yes (λ κs x f. refl),
-        (Goes-gave_slice 𝓛 3 1 tt (plain (λ _. f64)), (Goes-gave_slice 𝓛 3 2 tt (plain (λ _. u32)), tt)),
-      )
+      walk_Meets 𝓛 here.ended stayed (Goes-none 𝓛 3 (λ κs. T.the_row (named_lft 3 0 tt κs)) yes (λ κs x f. refl), (Goes-gave_slice 𝓛 3 1 tt (plain (λ _. f64)), (Goes-gave_slice 𝓛 3 2 tt (plain (λ _. u32)), tt)))
       (here.clauses 𝓛 mem run) (WpFn 𝓤 H 𝓣.C 𝓣.Λ code.function) (WpFn-mono 𝓤 H 𝓛.laws 𝓣 code.function) (walks 𝓣.C 𝓣.Λ (fm_of 𝓤 H 𝓛.laws 𝓣) known)
 
 pub row_here_spec : {M : Type 1} → stated.statement M

@@ -17,14 +17,4 @@ row_words_spec =
     (λ c κs. search loops)  -- row-word-requires-6
     (λ c κs. search loops)  -- row-word-requires-7
     (λ c κs. search loops)  -- row-word-requires-8
-    (λ c.
-    rw (
-      c.before.before.before.before.before.before.before.row_word.ensures,
-      c.before.before.before.before.before.before.row-word2.ensures,
-      c.before.before.before.before.before.row-word3.ensures,
-      c.before.before.before.before.row-word4.ensures,
-      c.before.before.before.row-word5.ensures,
-      c.before.before.row-word6.ensures,
-      c.before.row-word7.ensures,
-      c.row-word8.ensures,
-    )))  -- returns
+    (λ c. rw (c.before.before.before.before.before.before.before.row_word.ensures, c.before.before.before.before.before.before.row-word2.ensures, c.before.before.before.before.before.row-word3.ensures, c.before.before.before.before.row-word4.ensures, c.before.before.before.row-word5.ensures, c.before.before.row-word6.ensures, c.before.row-word7.ensures, c.row-word8.ensures)))  -- returns

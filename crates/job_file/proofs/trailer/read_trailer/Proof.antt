@@ -29,16 +29,4 @@ read_trailer_spec =
     (λ c κs. search loops)  -- half-requires-7
     (λ c. search loops)  -- add-half-7
     (λ c κs. search loops)  -- half-requires-8
-    (λ c.
-    rw (
-      c.before.before.before.before.before.before.before.before.before.half.ensures,
-      c.before.before.before.before.before.before.before.before.half2.ensures,
-      c.before.before.before.before.before.before.before.half3.ensures,
-      c.before.before.before.before.before.before.half4.ensures,
-      c.before.before.before.before.before.half5.ensures,
-      c.before.before.before.before.half6.ensures,
-      c.before.before.before.double.ensures,
-      c.before.before.double2.ensures,
-      c.before.half7.ensures,
-      c.half8.ensures,
-    )))  -- returns
+    (λ c. rw (c.before.before.before.before.before.before.before.before.before.half.ensures, c.before.before.before.before.before.before.before.before.half2.ensures, c.before.before.before.before.before.before.before.half3.ensures, c.before.before.before.before.before.before.half4.ensures, c.before.before.before.before.before.half5.ensures, c.before.before.before.before.half6.ensures, c.before.before.before.double.ensures, c.before.before.double2.ensures, c.before.half7.ensures, c.half8.ensures)))  -- returns

@@ -26,14 +26,6 @@ move_down_spec =
     (λ c. search rules)  -- slice-write-space
     (λ c. search rules)  -- add-j
     (λ c. search rules)  -- loop-less
-    (λ c. (
-      search rules,
-      search rules,
-      moved_more c.before.before.before.args.space.now c.before.before.before.args.from
-          c.before.before.loop.j c.before.before.loop.invariant.2 (omega (arith, c.before.before.before.requires)),
-    ))  -- loop-again
+    (λ c. (search rules, search rules, moved_more c.before.before.before.args.space.now c.before.before.before.args.from c.before.before.loop.j c.before.before.loop.invariant.2 (omega (arith, c.before.before.before.requires))))  -- loop-again
     (λ c. search rules)  -- same-length
-    (λ c.
-    moved_all c.before.before.args.space.now c.before.before.args.from c.before.loop.j
-    (c.before.before.args.to - c.before.before.args.from) c.before.loop.invariant.2 (search rules)
-    (search rules)))  -- returns
+    (λ c. moved_all c.before.before.args.space.now c.before.before.args.from c.before.loop.j (c.before.before.args.to - c.before.before.args.from) c.before.loop.invariant.2 (search rules) (search rules)))  -- returns

@@ -15,16 +15,6 @@ invariant-loop space₀ text₀ number₀ kept₀ passed₀ left₀ t11 space te
 abbrev decreases-loop : tie.decreases-loop
 decreases-loop space₀ text₀ number₀ kept₀ passed₀ left₀ t11 space text number kept passed left = left
 
--- The places that the answers look back to.
-abbrev at_read₁ : tie.After-print-more-arg2 invariant-loop decreases-loop → tie.After-read invariant-loop decreases-loop
-at_read₁ c = c.before.before.before.before
-
-abbrev at_read_some₁ : tie.After-print-more-arg2 invariant-loop decreases-loop → tie.After-read-some invariant-loop decreases-loop
-at_read_some₁ c = (at_read₁ c).before.before.before.before
-
-abbrev at_print_more₂ : tie.After-known-told2 invariant-loop decreases-loop → tie.After-print-more invariant-loop decreases-loop
-at_print_more₂ c = c.before.before.before.before.before.before.before
-
 pub print_stream_spec : {M : Type 1} → statement M
 print_stream_spec =
     tie.close
@@ -46,9 +36,7 @@ print_stream_spec =
     (λ c. search rules)  -- same-length-3
     (λ c. search rules)  -- same-length-4
     (λ c. search rules)  -- returns_2
-    (λ c κs.
-    let h = filled_within (at_read_some₁ c).read_Some.ensures (at_read₁ c).read.given.1 in
-    (search rules, search rules))  -- print-more-requires
+    (λ c κs. let h = filled_within c.before.before.before.before.before.before.before.before.read_Some.ensures c.before.before.before.before.read.given.1 in (search rules, search rules))  -- print-more-requires
     (λ c. search rules)  -- enum-known-printed
     (λ c. search rules)  -- enum-told-2
     (λ c. search rules)  -- same-length-5
@@ -56,8 +44,7 @@ print_stream_spec =
     (λ c. search rules)  -- returns-3
     (λ c. search rules)  -- sub-left
     (λ c. search rules)  -- loop-less
-    (λ c.
-    (moves_few (at_print_more₂ c).print-more.ensures c.before.printed.given.1, search rules, search rules))  -- loop-again
+    (λ c. (moves_few c.before.before.before.before.before.before.before.print-more.ensures c.before.printed.given.1, search rules, search rules))  -- loop-again
     (λ c. search rules)  -- same-length-7
     (λ c. search rules)  -- same-length-8
     (λ c. search rules))  -- returns-4

@@ -19,13 +19,4 @@ is_valid_at_spec =
     (λ c κs. search rules)  -- jacobians-finite-at-requires
     (λ c κs. search rules)  -- scalars-finite-requires
     (λ c κs. search rules)  -- scalars-in-range-requires
-    (λ c.
-    rw (
-      c.before.before.before.bodies-below.ensures,
-      c.before.before.jacobians-finite-at.ensures
-          c.before.before.before.before.before.before.before.before.args.words.now,
-      c.before.scalars-finite.ensures,
-      c.scalars-in-range.ensures,
-      c.before.before.before.before.words_at.ensures,
-      c.before.before.before.before.before.scalars-at.ensures,
-    )))  -- returns
+    (λ c. rw (c.before.before.before.bodies-below.ensures, c.before.before.jacobians-finite-at.ensures c.before.before.before.before.before.before.before.before.args.words.now, c.before.scalars-finite.ensures, c.scalars-in-range.ensures, c.before.before.before.before.words_at.ensures, c.before.before.before.before.before.scalars-at.ensures)))  -- returns

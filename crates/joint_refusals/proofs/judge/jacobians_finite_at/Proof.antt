@@ -20,11 +20,4 @@ jacobians_finite_at_spec =
     (λ c κs. search rules)  -- vec-finite-at-requires-4
     (λ c. search rules)  -- add-vec-finite-at-4
     (λ c κs. search rules)  -- vec-finite-at-requires-5
-    (λ c words.
-    rw (
-      c.before.before.before.before.vec-finite-at.ensures,
-      c.before.before.before.vec-finite-at2.ensures,
-      c.before.before.vec-finite-at3.ensures,
-      c.before.vec-finite-at4.ensures,
-      c.vec-finite-at5.ensures,
-    )))  -- returns
+    (λ c words. rw (c.before.before.before.before.vec-finite-at.ensures, c.before.before.before.vec-finite-at2.ensures, c.before.before.vec-finite-at3.ensures, c.before.vec-finite-at4.ensures, c.vec-finite-at5.ensures)))  -- returns

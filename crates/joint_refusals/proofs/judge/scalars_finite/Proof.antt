@@ -17,14 +17,4 @@ scalars_finite_spec =
     (λ c κs. search rules)  -- is-finite-requires-6
     (λ c κs. search rules)  -- is-finite-requires-7
     (λ c κs. search rules)  -- is-finite-requires-8
-    (λ c.
-    rw (
-      c.before.before.before.before.before.before.before.is_finite_lem.ensures,
-      c.before.before.before.before.before.before.is-finite2.ensures,
-      c.before.before.before.before.before.is-finite3.ensures,
-      c.before.before.before.before.is-finite4.ensures,
-      c.before.before.before.is-finite5.ensures,
-      c.before.before.is-finite6.ensures,
-      c.before.is-finite7.ensures,
-      c.is-finite8.ensures,
-    )))  -- returns
+    (λ c. rw (c.before.before.before.before.before.before.before.is_finite_lem.ensures, c.before.before.before.before.before.before.is-finite2.ensures, c.before.before.before.before.before.is-finite3.ensures, c.before.before.before.before.is-finite4.ensures, c.before.before.before.is-finite5.ensures, c.before.before.is-finite6.ensures, c.before.is-finite7.ensures, c.is-finite8.ensures)))  -- returns

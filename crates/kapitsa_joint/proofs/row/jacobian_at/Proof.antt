@@ -24,10 +24,4 @@ jacobian_at_spec =
     (λ c. search rules)  -- add-t17
     (λ c. search rules)  -- mul-t18
     (λ c. search rules)  -- shared-slice-read-t20
-    (λ c.
-    rw (
-      c.before.before.before.before.before.vec-at.ensures,
-      c.before.before.before.before.vec-at2.ensures,
-      c.before.before.before.vec-at3.ensures,
-      c.before.before.vec-at4.ensures,
-    )))  -- returns
+    (λ c. rw (c.before.before.before.before.before.vec-at.ensures, c.before.before.before.before.vec-at2.ensures, c.before.before.before.vec-at3.ensures, c.before.before.vec-at4.ensures)))  -- returns

@@ -23,13 +23,4 @@ row_at_spec =
     (λ c κs. search rules)  -- scalars-at-requires
     (λ c. search rules)  -- mul-words-at
     (λ c κs. search rules)  -- words-at-requires
-    (λ c.
-    rw (
-      c.before.before.before.before.before.before.vec-at.ensures,
-      c.before.before.before.before.before.vec-at2.ensures,
-      c.before.before.before.before.vec-at3.ensures,
-      c.before.before.before.vec-at4.ensures,
-      c.before.before.vec-at5.ensures,
-      c.before.scalars-at.ensures,
-      c.words_at.ensures,
-    )))  -- returns
+    (λ c. rw (c.before.before.before.before.before.before.vec-at.ensures, c.before.before.before.before.before.vec-at2.ensures, c.before.before.before.before.vec-at3.ensures, c.before.before.before.vec-at4.ensures, c.before.before.vec-at5.ensures, c.before.scalars-at.ensures, c.words_at.ensures)))  -- returns

@@ -1,50 +1,10 @@
 -- `kapitsa_margins_c::margins::kapitsa_velocity_closing_margins` meets its contract. Assumes nothing.
 use borrow.Author.Rules.{rules}
 use Rattle.kapitsa_joint.specs.declared.kind.Kind.TheVariants as kinds
-use Rattle.kapitsa_check_c.proofs.Verdicts.{told_lengths}
+use Rattle.kapitsa_c.proofs.Verdicts.{told_lengths}
 use Rattle.kapitsa_margins_c.proofs.Listed.{listed_on, unlisted}
 use Rattle.kapitsa_margins_c.proofs.margins.kapitsa_velocity_closing_margins.Statement.{statement}
 use Rattle.kapitsa_margins_c.proofs.margins.kapitsa_velocity_closing_margins.Tie as tie
-
--- The places that the answers look back to.
-abbrev at_if1₁ : tie.After-tell-verdict-arg2 → tie.Else1
-at_if1₁ c = c.before.before.before.before.before.before.before.before.before.before.before.before.before.before.before.before.before.before.before.before.before.before.before.before
-
-abbrev at_verdict_fits₁ : tie.After-tell-verdict-arg2 → tie.After-verdict-fits
-at_verdict_fits₁ c = (at_if1₁ c).before
-
-abbrev at_tell_verdict₂ : tie.After-slice-known18 → tie.After-tell-verdict
-at_tell_verdict₂ c = c.before.before.before.before
-
-abbrev at_sizes₂ : tie.After-slice-known18 → tie.After-sizes
-at_sizes₂ c = (at_tell_verdict₂ c).before.before.before.before
-
-abbrev at_values₂ : tie.After-slice-known18 → tie.After-values
-at_values₂ c = (at_sizes₂ c).before.before
-
-abbrev at_size_impulses₂ : tie.After-slice-known18 → tie.After-size-impulses
-at_size_impulses₂ c = (at_values₂ c).before.before
-
-abbrev at_impulses₂ : tie.After-slice-known18 → tie.After-impulses
-at_impulses₂ c = (at_size_impulses₂ c).before.before
-
-abbrev at_margins₂ : tie.After-slice-known18 → tie.After-margins
-at_margins₂ c = (at_impulses₂ c).before.before
-
-abbrev at_margin_rows₂ : tie.After-slice-known18 → tie.After-margin-rows
-at_margin_rows₂ c = (at_margins₂ c).before.before
-
-abbrev at_rule_numbers₂ : tie.After-slice-known18 → tie.After-rule-numbers
-at_rule_numbers₂ c = (at_margin_rows₂ c).before.before
-
-abbrev at_velocity_closing_margins₂ : tie.After-slice-known18 → tie.After-velocity-closing-margins
-at_velocity_closing_margins₂ c = (at_rule_numbers₂ c).before
-
-abbrev at_if1₂ : tie.After-slice-known18 → tie.Else1
-at_if1₂ c = (at_velocity_closing_margins₂ c).before.before.before.before.before.before.before.before
-
-abbrev at_verdict_fits₂ : tie.After-slice-known18 → tie.After-verdict-fits
-at_verdict_fits₂ c = (at_if1₂ c).before
 
 pub kapitsa_velocity_closing_margins_spec : {M : Type 1} → statement M
 kapitsa_velocity_closing_margins_spec =
@@ -55,17 +15,19 @@ kapitsa_velocity_closing_margins_spec =
     (λ c. search rules)  -- same-length-2
     (λ c. unlisted kinds.Velocity _ _ _ _ _ _ _ _ _ _ _ _ c.before.verdict-fits.ensures c.if1.true)  -- returns
     (λ c κs. search rules)  -- velocity-closing-margins-requires
-    (λ c κs. told_lengths _ _ (at_verdict_fits₁ c).verdict-fits.ensures (at_if1₁ c).if1.false)  -- tell-verdict-requires
-    (λ c. (at_rule_numbers₂ c).rule-numbers.given)  -- same-length-3
-    (λ c. (at_margin_rows₂ c).margin-rows.given)  -- same-length-4
-    (λ c. (at_margins₂ c).margins.given)  -- same-length-5
+    (λ c κs. told_lengths _ _ c.before.before.before.before.before.before.before.before.before.before.before.before.before.before.before.before.before.before.before.before.before.before.before.before.before.verdict-fits.ensures c.before.before.before.before.before.before.before.before.before.before.before.before.before.before.before.before.before.before.before.before.before.before.before.before.if1.false)  -- tell-verdict-requires
+    (λ c. c.before.before.before.before.before.before.before.before.before.before.before.before.before.before.before.before.before.before.before.before.rule-numbers.given)  -- same-length-3
+    (λ c. c.before.before.before.before.before.before.before.before.before.before.before.before.before.before.before.before.before.before.margin-rows.given)  -- same-length-4
+    (λ c. c.before.before.before.before.before.before.before.before.before.before.before.before.before.before.before.before.margins.given)  -- same-length-5
     (λ c. c.before.before.before.verdict.given)  -- same-length-6
     (λ c. c.before.gap.given)  -- same-length-7
-    (λ c. (at_impulses₂ c).impulses.given)  -- same-length-8
-    (λ c. (at_size_impulses₂ c).size-impulses.given)  -- same-length-9
-    (λ c. (at_values₂ c).values.given)  -- same-length-10
-    (λ c. (at_sizes₂ c).sizes.given)  -- same-length-11
+    (λ c. c.before.before.before.before.before.before.before.before.before.before.before.before.before.before.impulses.given)  -- same-length-8
+    (λ c. c.before.before.before.before.before.before.before.before.before.before.before.before.size-impulses.given)  -- same-length-9
+    (λ c. c.before.before.before.before.before.before.before.before.before.before.values.given)  -- same-length-10
+    (λ c. c.before.before.before.before.before.before.before.before.sizes.given)  -- same-length-11
     (λ c.
-    listed_on kinds.Velocity _ _ _ _ _ _ _ _ _ _ _ _ (at_verdict_fits₂ c).verdict-fits.ensures
-    (at_if1₂ c).if1.false (at_velocity_closing_margins₂ c).velocity-closing-margins.ensures
-    (at_tell_verdict₂ c).tell-verdict.ensures))  -- returns_2
+    listed_on kinds.Velocity _ _ _ _ _ _ _ _ _ _ _ _
+    c.before.before.before.before.before.before.before.before.before.before.before.before.before.before.before.before.before.before.before.before.before.before.before.before.before.before.before.before.before.before.verdict-fits.ensures
+    c.before.before.before.before.before.before.before.before.before.before.before.before.before.before.before.before.before.before.before.before.before.before.before.before.before.before.before.before.before.if1.false
+    c.before.before.before.before.before.before.before.before.before.before.before.before.before.before.before.before.before.before.before.before.before.velocity-closing-margins.ensures
+    c.before.before.before.before.tell-verdict.ensures))  -- returns_2

@@ -34,16 +34,6 @@ pub +put_decimal_spec : {M : Type 1} → statement M
     (λ c. length_wrote c.before.before.put_byte.ensures)  -- same-length
     (λ c. wrote_small c.before.before.before.before.before.decimal_digit.ensures (omega arith) c.before.before.put_byte.ensures)  -- returns
     (λ c κs. (omega arith, room_tenth c.before.before.decimal_digit.ensures (omega arith) c.before.before.before.before.requires.1))  -- put-decimal-requires
-    (λ c κs.
-    room_last c.before.before.before.before.before.before.decimal_digit.ensures (omega arith)
-    c.before.before.before.put-decimal.ensures
-    c.before.before.before.before.before.before.before.before.requires.1)  -- put-byte-requires-2
-    (λ c.
-    length_wrote
-    (wrote_last c.before.before.before.before.before.before.before.before.before.decimal_digit.ensures
-    (omega arith) c.before.before.before.before.before.before.put-decimal.ensures
-    c.before.before.put-byte2.ensures))  -- same-length-2
-    (λ c.
-    wrote_last c.before.before.before.before.before.before.before.before.before.decimal_digit.ensures
-    (omega arith) c.before.before.before.before.before.before.put-decimal.ensures
-    c.before.before.put-byte2.ensures))  -- returns_2
+    (λ c κs. room_last c.before.before.before.before.before.before.decimal_digit.ensures (omega arith) c.before.before.before.put-decimal.ensures c.before.before.before.before.before.before.before.before.requires.1)  -- put-byte-requires-2
+    (λ c. length_wrote (wrote_last c.before.before.before.before.before.before.before.before.before.decimal_digit.ensures (omega arith) c.before.before.before.before.before.before.put-decimal.ensures c.before.before.put-byte2.ensures))  -- same-length-2
+    (λ c. wrote_last c.before.before.before.before.before.before.before.before.before.decimal_digit.ensures (omega arith) c.before.before.before.before.before.before.put-decimal.ensures c.before.before.put-byte2.ensures))  -- returns_2

@@ -6,16 +6,6 @@ use Rattle.listing.proofs.Joined.{room_first, room_rest, wrote_join, length_wrot
 use Rattle.listing.proofs.digits.put_double.Statement.{statement}
 use Rattle.listing.proofs.digits.put_double.Tie as tie
 
--- The places that the answers look back to.
-abbrev at_put_byte₁ : tie.After-to-bits → tie.After-put-byte
-at_put_byte₁ c = c.before.before.before.before
-
-abbrev start₁ : tie.After-to-bits → tie.Start
-start₁ c = (at_put_byte₁ c).before.before.before
-
-abbrev at_put_byte₂ : tie.After-slice-known3 → tie.After-put-byte
-at_put_byte₂ c = c.before.before.before.before.before.before.before
-
 pub put_double_spec : {M : Type 1} → statement M
 unfolding double
 put_double_spec =
@@ -23,12 +13,6 @@ put_double_spec =
     (tie.spec
     (λ c κs. room_first {a = 32 ∷ []} _ c.before.before.requires)  -- put-byte-requires
     (λ c κs. search loops)  -- to-bits-requires
-    (λ c κs.
-    rw c.to-bits.ensures.0 (room_rest {a = 32 ∷ []} (start₁ c).requires (at_put_byte₁ c).put_byte.ensures))  -- put-hexadecimal-requires
-    (λ c.
-    length_wrote
-    (wrote_join (at_put_byte₂ c).put_byte.ensures
-    (rw c.before.before.before.to-bits.ensures.0 at c.before.before.put-hexadecimal.ensures)))  -- same-length
-    (λ c.
-    wrote_join (at_put_byte₂ c).put_byte.ensures
-    (rw c.before.before.before.to-bits.ensures.0 at c.before.before.put-hexadecimal.ensures)))  -- returns
+    (λ c κs. rw c.to-bits.ensures.0 (room_rest {a = 32 ∷ []} c.before.before.before.before.before.before.before.requires c.before.before.before.before.put_byte.ensures))  -- put-hexadecimal-requires
+    (λ c. length_wrote (wrote_join c.before.before.before.before.before.before.before.put_byte.ensures (rw c.before.before.before.to-bits.ensures.0 at c.before.before.put-hexadecimal.ensures)))  -- same-length
+    (λ c. wrote_join c.before.before.before.before.before.before.before.put_byte.ensures (rw c.before.before.before.to-bits.ensures.0 at c.before.before.put-hexadecimal.ensures)))  -- returns

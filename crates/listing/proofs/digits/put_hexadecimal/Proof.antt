@@ -16,13 +16,6 @@ invariant-loop out₀ at bits next₀ k₀ out next k = Writing out₀ at (λ k.
 abbrev decreases-loop : tie.decreases-loop
 decreases-loop out₀ at bits next₀ k₀ out next k = 16 - k
 
--- The places that the answers look back to.
-abbrev at_hexadecimal_digit : tie.After-slice-known2 invariant-loop decreases-loop → tie.After-hexadecimal-digit invariant-loop decreases-loop
-at_hexadecimal_digit c = c.before.before.before.before
-
-abbrev at_loop : tie.After-slice-known2 invariant-loop decreases-loop → tie.At-loop invariant-loop decreases-loop
-at_loop c = (at_hexadecimal_digit c).before.before
-
 pub put_hexadecimal_spec : {M : Type 1} → statement M
 unfolding hexadecimal
 put_hexadecimal_spec =
@@ -37,8 +30,6 @@ put_hexadecimal_spec =
     (λ c κs. room_byte _ (writing_room c.before.before.before.loop.invariant (omega arith)))  -- put-byte-requires
     (λ c. search loops)  -- add-k
     (λ c. search loops)  -- loop-less
-    (λ c.
-    writing_more (at_loop c).loop.invariant (omega arith)
-    (wrote_byte (at_hexadecimal_digit c).hexadecimal-digit.ensures c.before.before.put_byte.ensures))  -- loop-again
+    (λ c. writing_more c.before.before.before.before.before.before.loop.invariant (omega arith) (wrote_byte c.before.before.before.before.hexadecimal-digit.ensures c.before.before.put_byte.ensures))  -- loop-again
     (λ c. writing_length c.before.loop.invariant)  -- same-length
     (λ c. writing_end c.before.loop.invariant (omega arith)))  -- returns

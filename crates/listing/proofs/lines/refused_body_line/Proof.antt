@@ -6,37 +6,6 @@ use Rattle.listing.proofs.Names.{refused_name_lem, of_body_name}
 use Rattle.listing.proofs.lines.refused_body_line.Statement.{statement}
 use Rattle.listing.proofs.lines.refused_body_line.Tie as tie
 
--- The places that the answers look back to.
-abbrev at_put_text₁ : tie.After-put-text-arg4 → tie.After-put-text
-at_put_text₁ c = c.before.before.before.before
-
-abbrev start₁ : tie.After-put-text-arg4 → tie.Start
-start₁ c = (at_put_text₁ c).before.before.before.before
-
-abbrev at_put_text₂ : tie.After-put-number-arg → tie.After-put-text
-at_put_text₂ c = c.before.before.before.before.before.before.before.before
-
-abbrev start₂ : tie.After-put-number-arg → tie.Start
-start₂ c = (at_put_text₂ c).before.before.before.before
-
-abbrev at_put_text2₃ : tie.After-put-byte-arg → tie.After-put-text2
-at_put_text2₃ c = c.before.before.before.before.before.before.before
-
-abbrev at_put_text₃ : tie.After-put-byte-arg → tie.After-put-text
-at_put_text₃ c = (at_put_text2₃ c).before.before.before.before.before
-
-abbrev start₃ : tie.After-put-byte-arg → tie.Start
-start₃ c = (at_put_text₃ c).before.before.before.before
-
-abbrev at_put_number₄ : tie.After-slice-known5 → tie.After-put-number
-at_put_number₄ c = c.before.before.before.before.before.before
-
-abbrev at_put_text2₄ : tie.After-slice-known5 → tie.After-put-text2
-at_put_text2₄ c = (at_put_number₄ c).before.before.before.before
-
-abbrev at_put_text₄ : tie.After-slice-known5 → tie.After-put-text
-at_put_text₄ c = (at_put_text2₄ c).before.before.before.before.before
-
 pub refused_body_line_spec : {M : Type 1} → statement M
 unfolding refused_body_line
 refused_body_line_spec =
@@ -45,32 +14,8 @@ refused_body_line_spec =
     (λ c. search loops)  -- slice-aggregate-put-text
     (λ c κs. room_as refused_name_lem (room_first _ (room_first _ (room_first _ c.before.before.before.requires))))  -- put-text-requires
     (λ c. search loops)  -- slice-aggregate-put-text-2
-    (λ c κs.
-    room_as of_body_name
-    (room_rest (room_first _ (room_first _ (start₁ c).requires))
-    (wrote_as refused_name_lem (at_put_text₁ c).put-text.ensures)))  -- put-text-requires-2
-    (λ c κs.
-    room_rest (room_first _ (start₂ c).requires)
-    (wrote_join (wrote_as refused_name_lem (at_put_text₂ c).put-text.ensures)
-    (wrote_as of_body_name c.before.before.before.put-text2.ensures)))  -- put-number-requires
-    (λ c κs.
-    room_rest (start₃ c).requires
-    (wrote_join
-    (wrote_join (wrote_as refused_name_lem (at_put_text₃ c).put-text.ensures)
-    (wrote_as of_body_name (at_put_text2₃ c).put-text2.ensures))
-    c.before.before.before.put-number.ensures))  -- put-byte-requires
-    (λ c.
-    length_wrote
-    (wrote_join
-    (wrote_join
-    (wrote_join (wrote_as refused_name_lem (at_put_text₄ c).put-text.ensures)
-    (wrote_as of_body_name (at_put_text2₄ c).put-text2.ensures))
-    (at_put_number₄ c).put-number.ensures)
-    c.before.before.put_byte.ensures))  -- same-length
-    (λ c.
-    wrote_join
-    (wrote_join
-    (wrote_join (wrote_as refused_name_lem (at_put_text₄ c).put-text.ensures)
-    (wrote_as of_body_name (at_put_text2₄ c).put-text2.ensures))
-    (at_put_number₄ c).put-number.ensures)
-    c.before.before.put_byte.ensures))  -- returns
+    (λ c κs. room_as of_body_name (room_rest (room_first _ (room_first _ c.before.before.before.before.before.before.before.before.requires)) (wrote_as refused_name_lem c.before.before.before.before.put-text.ensures)))  -- put-text-requires-2
+    (λ c κs. room_rest (room_first _ c.before.before.before.before.before.before.before.before.before.before.before.before.requires) (wrote_join (wrote_as refused_name_lem c.before.before.before.before.before.before.before.before.put-text.ensures) (wrote_as of_body_name c.before.before.before.put-text2.ensures)))  -- put-number-requires
+    (λ c κs. room_rest c.before.before.before.before.before.before.before.before.before.before.before.before.before.before.before.before.requires (wrote_join (wrote_join (wrote_as refused_name_lem c.before.before.before.before.before.before.before.before.before.before.before.before.put-text.ensures) (wrote_as of_body_name c.before.before.before.before.before.before.before.put-text2.ensures)) c.before.before.before.put-number.ensures))  -- put-byte-requires
+    (λ c. length_wrote (wrote_join (wrote_join (wrote_join (wrote_as refused_name_lem c.before.before.before.before.before.before.before.before.before.before.before.before.before.before.before.put-text.ensures) (wrote_as of_body_name c.before.before.before.before.before.before.before.before.before.before.put-text2.ensures)) c.before.before.before.before.before.before.put-number.ensures) c.before.before.put_byte.ensures))  -- same-length
+    (λ c. wrote_join (wrote_join (wrote_join (wrote_as refused_name_lem c.before.before.before.before.before.before.before.before.before.before.before.before.before.before.before.put-text.ensures) (wrote_as of_body_name c.before.before.before.before.before.before.before.before.before.before.put-text2.ensures)) c.before.before.before.before.before.before.put-number.ensures) c.before.before.put_byte.ensures))  -- returns

@@ -6,25 +6,6 @@ use Rattle.listing.proofs.Names.{refused_name_lem, of_limit_name}
 use Rattle.listing.proofs.lines.refused_limit_line.Statement.{statement}
 use Rattle.listing.proofs.lines.refused_limit_line.Tie as tie
 
--- The places that the answers look back to.
-abbrev at_put_text₁ : tie.After-put-text-arg4 → tie.After-put-text
-at_put_text₁ c = c.before.before.before.before
-
-abbrev start₁ : tie.After-put-text-arg4 → tie.Start
-start₁ c = (at_put_text₁ c).before.before.before.before
-
-abbrev at_put_text₂ : tie.After-put-byte-arg → tie.After-put-text
-at_put_text₂ c = c.before.before.before.before.before.before.before.before
-
-abbrev start₂ : tie.After-put-byte-arg → tie.Start
-start₂ c = (at_put_text₂ c).before.before.before.before
-
-abbrev at_put_text2₃ : tie.After-slice-known4 → tie.After-put-text2
-at_put_text2₃ c = c.before.before.before.before.before.before
-
-abbrev at_put_text₃ : tie.After-slice-known4 → tie.After-put-text
-at_put_text₃ c = (at_put_text2₃ c).before.before.before.before.before
-
 pub refused_limit_line_spec : {M : Type 1} → statement M
 unfolding refused_limit_line
 refused_limit_line_spec =
@@ -33,21 +14,7 @@ refused_limit_line_spec =
     (λ c. search loops)  -- slice-aggregate-put-text
     (λ c κs. room_as refused_name_lem (room_first _ (room_first _ c.before.before.before.requires)))  -- put-text-requires
     (λ c. search loops)  -- slice-aggregate-put-text-2
-    (λ c κs.
-    room_as of_limit_name
-    (room_rest (room_first _ (start₁ c).requires) (wrote_as refused_name_lem (at_put_text₁ c).put-text.ensures)))  -- put-text-requires-2
-    (λ c κs.
-    room_rest (start₂ c).requires
-    (wrote_join (wrote_as refused_name_lem (at_put_text₂ c).put-text.ensures)
-    (wrote_as of_limit_name c.before.before.before.put-text2.ensures)))  -- put-byte-requires
-    (λ c.
-    length_wrote
-    (wrote_join
-    (wrote_join (wrote_as refused_name_lem (at_put_text₃ c).put-text.ensures)
-    (wrote_as of_limit_name (at_put_text2₃ c).put-text2.ensures))
-    c.before.before.put_byte.ensures))  -- same-length
-    (λ c.
-    wrote_join
-    (wrote_join (wrote_as refused_name_lem (at_put_text₃ c).put-text.ensures)
-    (wrote_as of_limit_name (at_put_text2₃ c).put-text2.ensures))
-    c.before.before.put_byte.ensures))  -- returns
+    (λ c κs. room_as of_limit_name (room_rest (room_first _ c.before.before.before.before.before.before.before.before.requires) (wrote_as refused_name_lem c.before.before.before.before.put-text.ensures)))  -- put-text-requires-2
+    (λ c κs. room_rest c.before.before.before.before.before.before.before.before.before.before.before.before.requires (wrote_join (wrote_as refused_name_lem c.before.before.before.before.before.before.before.before.put-text.ensures) (wrote_as of_limit_name c.before.before.before.put-text2.ensures)))  -- put-byte-requires
+    (λ c. length_wrote (wrote_join (wrote_join (wrote_as refused_name_lem c.before.before.before.before.before.before.before.before.before.before.before.put-text.ensures) (wrote_as of_limit_name c.before.before.before.before.before.before.put-text2.ensures)) c.before.before.put_byte.ensures))  -- same-length
+    (λ c. wrote_join (wrote_join (wrote_as refused_name_lem c.before.before.before.before.before.before.before.before.before.before.before.put-text.ensures) (wrote_as of_limit_name c.before.before.before.before.before.before.put-text2.ensures)) c.before.before.put_byte.ensures))  -- returns

@@ -6,95 +6,16 @@ use Rattle.listing.proofs.Names.{solve_name_lem}
 use Rattle.listing.proofs.lines.solve_line.Statement.{statement}
 use Rattle.listing.proofs.lines.solve_line.Tie as tie
 
--- The places that the answers look back to.
-abbrev start₁ : tie.After-put-number-arg → tie.Start
-start₁ c = c.before.before.before.before.before.before.before
-
-abbrev at_put_text₂ : tie.After-put-number-arg2 → tie.After-put-text
-at_put_text₂ c = c.before.before.before.before.before.before.before
-
-abbrev start₂ : tie.After-put-number-arg2 → tie.Start
-start₂ c = (at_put_text₂ c).before.before.before.before
-
-abbrev at_put_number₃ : tie.After-put-number-arg3 → tie.After-put-number
-at_put_number₃ c = c.before.before.before.before.before.before.before
-
-abbrev at_put_text₃ : tie.After-put-number-arg3 → tie.After-put-text
-at_put_text₃ c = (at_put_number₃ c).before.before.before.before
-
-abbrev start₃ : tie.After-put-number-arg3 → tie.Start
-start₃ c = (at_put_text₃ c).before.before.before.before
-
-abbrev at_put_number2₄ : tie.After-put-byte-arg → tie.After-put-number2
-at_put_number2₄ c = c.before.before.before.before.before.before.before
-
-abbrev at_put_number₄ : tie.After-put-byte-arg → tie.After-put-number
-at_put_number₄ c = (at_put_number2₄ c).before.before.before.before
-
-abbrev at_put_text₄ : tie.After-put-byte-arg → tie.After-put-text
-at_put_text₄ c = (at_put_number₄ c).before.before.before.before
-
-abbrev start₄ : tie.After-put-byte-arg → tie.Start
-start₄ c = (at_put_text₄ c).before.before.before.before
-
-abbrev at_put_number3₅ : tie.After-slice-known6 → tie.After-put-number3
-at_put_number3₅ c = c.before.before.before.before.before.before
-
-abbrev at_put_number2₅ : tie.After-slice-known6 → tie.After-put-number2
-at_put_number2₅ c = (at_put_number3₅ c).before.before.before.before
-
-abbrev at_put_number₅ : tie.After-slice-known6 → tie.After-put-number
-at_put_number₅ c = (at_put_number2₅ c).before.before.before.before
-
-abbrev at_put_text₅ : tie.After-slice-known6 → tie.After-put-text
-at_put_text₅ c = (at_put_number₅ c).before.before.before.before
-
 pub solve_line_spec : {M : Type 1} → statement M
 unfolding solve_line
 solve_line_spec =
     tie.close
     (tie.spec
     (λ c. search loops)  -- slice-aggregate-put-text
-    (λ c κs.
-    room_as solve_name_lem
-    (room_first _ (room_first _ (room_first _ (room_first _ c.before.before.before.requires)))))  -- put-text-requires
-    (λ c κs.
-    room_rest (room_first _ (room_first _ (room_first _ (start₁ c).requires)))
-    (wrote_as solve_name_lem c.before.before.before.put-text.ensures))  -- put-number-requires
-    (λ c κs.
-    room_rest (room_first _ (room_first _ (start₂ c).requires))
-    (wrote_join (wrote_as solve_name_lem (at_put_text₂ c).put-text.ensures)
-    c.before.before.before.put-number.ensures))  -- put-number-requires-2
-    (λ c κs.
-    room_rest (room_first _ (start₃ c).requires)
-    (wrote_join
-    (wrote_join (wrote_as solve_name_lem (at_put_text₃ c).put-text.ensures)
-    (at_put_number₃ c).put-number.ensures)
-    c.before.before.before.put-number2.ensures))  -- put-number-requires-3
-    (λ c κs.
-    room_rest (start₄ c).requires
-    (wrote_join
-    (wrote_join
-    (wrote_join (wrote_as solve_name_lem (at_put_text₄ c).put-text.ensures)
-    (at_put_number₄ c).put-number.ensures)
-    (at_put_number2₄ c).put-number2.ensures)
-    c.before.before.before.put-number3.ensures))  -- put-byte-requires
-    (λ c.
-    length_wrote
-    (wrote_join
-    (wrote_join
-    (wrote_join
-    (wrote_join (wrote_as solve_name_lem (at_put_text₅ c).put-text.ensures)
-    (at_put_number₅ c).put-number.ensures)
-    (at_put_number2₅ c).put-number2.ensures)
-    (at_put_number3₅ c).put-number3.ensures)
-    c.before.before.put_byte.ensures))  -- same-length
-    (λ c.
-    wrote_join
-    (wrote_join
-    (wrote_join
-    (wrote_join (wrote_as solve_name_lem (at_put_text₅ c).put-text.ensures)
-    (at_put_number₅ c).put-number.ensures)
-    (at_put_number2₅ c).put-number2.ensures)
-    (at_put_number3₅ c).put-number3.ensures)
-    c.before.before.put_byte.ensures))  -- returns
+    (λ c κs. room_as solve_name_lem (room_first _ (room_first _ (room_first _ (room_first _ c.before.before.before.requires)))))  -- put-text-requires
+    (λ c κs. room_rest (room_first _ (room_first _ (room_first _ c.before.before.before.before.before.before.before.requires))) (wrote_as solve_name_lem c.before.before.before.put-text.ensures))  -- put-number-requires
+    (λ c κs. room_rest (room_first _ (room_first _ c.before.before.before.before.before.before.before.before.before.before.before.requires)) (wrote_join (wrote_as solve_name_lem c.before.before.before.before.before.before.before.put-text.ensures) c.before.before.before.put-number.ensures))  -- put-number-requires-2
+    (λ c κs. room_rest (room_first _ c.before.before.before.before.before.before.before.before.before.before.before.before.before.before.before.requires) (wrote_join (wrote_join (wrote_as solve_name_lem c.before.before.before.before.before.before.before.before.before.before.before.put-text.ensures) c.before.before.before.before.before.before.before.put-number.ensures) c.before.before.before.put-number2.ensures))  -- put-number-requires-3
+    (λ c κs. room_rest c.before.before.before.before.before.before.before.before.before.before.before.before.before.before.before.before.before.before.before.requires (wrote_join (wrote_join (wrote_join (wrote_as solve_name_lem c.before.before.before.before.before.before.before.before.before.before.before.before.before.before.before.put-text.ensures) c.before.before.before.before.before.before.before.before.before.before.before.put-number.ensures) c.before.before.before.before.before.before.before.put-number2.ensures) c.before.before.before.put-number3.ensures))  -- put-byte-requires
+    (λ c. length_wrote (wrote_join (wrote_join (wrote_join (wrote_join (wrote_as solve_name_lem c.before.before.before.before.before.before.before.before.before.before.before.before.before.before.before.before.before.before.put-text.ensures) c.before.before.before.before.before.before.before.before.before.before.before.before.before.before.put-number.ensures) c.before.before.before.before.before.before.before.before.before.before.put-number2.ensures) c.before.before.before.before.before.before.put-number3.ensures) c.before.before.put_byte.ensures))  -- same-length
+    (λ c. wrote_join (wrote_join (wrote_join (wrote_join (wrote_as solve_name_lem c.before.before.before.before.before.before.before.before.before.before.before.before.before.before.before.before.before.before.put-text.ensures) c.before.before.before.before.before.before.before.before.before.before.before.before.before.before.put-number.ensures) c.before.before.before.before.before.before.before.before.before.before.put-number2.ensures) c.before.before.before.before.before.before.put-number3.ensures) c.before.before.put_byte.ensures))  -- returns

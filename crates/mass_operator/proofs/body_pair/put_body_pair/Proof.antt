@@ -14,10 +14,4 @@ put_body_pair_spec =
     (λ c κs. search rules)  -- wide-requires-2
     (λ c κs. search rules)  -- put-paired-requires-2
     (λ c. search rules)  -- same-length
-    (λ c.
-    rw (
-      c.before.before.put-paired2.ensures,
-      c.before.before.before.wide2.ensures,
-      c.before.before.before.before.before.before.before.put-paired.ensures,
-      c.before.before.before.before.before.before.before.before.wide.ensures,
-    )))  -- returns
+    (λ c. rw (c.before.before.put-paired2.ensures, c.before.before.before.wide2.ensures, c.before.before.before.before.before.before.before.put-paired.ensures, c.before.before.before.before.before.before.before.before.wide.ensures)))  -- returns

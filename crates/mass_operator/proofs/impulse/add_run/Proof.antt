@@ -17,13 +17,6 @@ decreases-loop jacobians links vector first impulses pair₀ i₀ pair i = lengt
 
 ruleset known = (run_begun, run_on, loops)
 
--- The places that the answers look back to.
-abbrev at_loop : tie.After-add-row2 invariant-loop decreases-loop → tie.At-loop invariant-loop decreases-loop
-at_loop c = c.before.before.before.before
-
-abbrev start : tie.After-add-row2 invariant-loop decreases-loop → tie.Start invariant-loop decreases-loop
-start c = (at_loop c).before.before.before.before.before.before.before
-
 pub add_run_spec : {M : Type 1} → statement M
 add_run_spec =
     tie.close
@@ -35,9 +28,7 @@ add_run_spec =
     (λ c κs. search known)  -- on-bodies-requires
     (λ c. search known)  -- returns
     (λ c κs. search known)  -- add-row-requires-2
-    (λ c. record { fits = omega (arith, c.before.before.before.loop-test.true, (start c).well-formed) })  -- add-i-2
+    (λ c. record { fits = omega (arith, c.before.before.before.loop-test.true, c.before.before.before.before.before.before.before.before.before.before.before.well-formed) })  -- add-i-2
     (λ c. search known)  -- loop-less
-    (λ c.
-    run_on (at_loop c).loop.invariant c.before.before.before.loop-test.true
-    c.before.before.on-bodies.ensures c.before.if1.false c.add-row2.ensures)  -- loop-again
+    (λ c. run_on c.before.before.before.before.loop.invariant c.before.before.before.loop-test.true c.before.before.on-bodies.ensures c.before.if1.false c.add-row2.ensures)  -- loop-again
     (λ c. search known))  -- returns_2

@@ -20,43 +20,15 @@ decreases-loop jacobians links vector bodies impulses₀ i₀ impulses i = lengt
 
 ruleset known = (linked_a, linked_b, held_a, held_b, loops)
 
--- The places that the answers look back to.
-abbrev start₁ : tie.After-slice-known2 invariant-loop decreases-loop → tie.Start invariant-loop decreases-loop
-start₁ c = c.before.before.before.before.before.before.before.before
-
-abbrev at_loop₂ : tie.After-put-body-pair-arg invariant-loop decreases-loop → tie.At-loop invariant-loop decreases-loop
-at_loop₂ c = c.before.before.before.before
-
-abbrev start₂ : tie.After-put-body-pair-arg invariant-loop decreases-loop → tie.Start invariant-loop decreases-loop
-start₂ c = (at_loop₂ c).before.before.before.before.before.before.before.before.before
-
-abbrev at_add_run₃ : tie.After-slice-known3 invariant-loop decreases-loop → tie.After-add-run invariant-loop decreases-loop
-at_add_run₃ c = c.before.before.before.before
-
-abbrev at_loop₃ : tie.After-slice-known3 invariant-loop decreases-loop → tie.At-loop invariant-loop decreases-loop
-at_loop₃ c = (at_add_run₃ c).before.before.before
-
-abbrev start₃ : tie.After-slice-known3 invariant-loop decreases-loop → tie.Start invariant-loop decreases-loop
-start₃ c = (at_loop₃ c).before.before.before.before.before.before.before.before.before
-
 pub sum_impulses_spec : {M : Type 1} → statement M
 sum_impulses_spec =
     tie.close
     (tie.spec invariant-loop decreases-loop
     (λ c κs. search known)  -- clear-requires
-    (λ c. (
-      search known,
-      none_yet _ _ _ (start₁ c).args.impulses.now (start₁ c).requires.1.0 c.before.before.clear.ensures,
-    ))  -- loop-holds
+    (λ c. (search known, none_yet _ _ _ c.before.before.before.before.before.before.before.before.args.impulses.now c.before.before.before.before.before.before.before.before.requires.1.0 c.before.before.clear.ensures))  -- loop-holds
     (λ c κs. search known)  -- add-run-requires
-    (λ c κs.
-    let held = c.before.add-run.ensures.held _ (start₂ c).requires.1.1 (at_loop₂ c).loop.invariant.1 in
-    search known)  -- put-body-pair-requires
-    (λ c. omega (arith, (at_add_run₃ c).add-run.ensures.more, (at_add_run₃ c).add-run.ensures.within))  -- loop-less
-    (λ c. (
-      (at_add_run₃ c).add-run.ensures.within,
-      put_back ((at_add_run₃ c).add-run.ensures.held _ (start₃ c).requires.1.1 (at_loop₃ c).loop.invariant.1)
-          c.before.before.put-body-pair.ensures,
-    ))  -- loop-again
+    (λ c κs. let held = c.before.add-run.ensures.held _ c.before.before.before.before.before.before.before.before.before.before.before.before.before.requires.1.1 c.before.before.before.before.loop.invariant.1 in search known)  -- put-body-pair-requires
+    (λ c. omega (arith, c.before.before.before.before.add-run.ensures.more, c.before.before.before.before.add-run.ensures.within))  -- loop-less
+    (λ c. (c.before.before.before.before.add-run.ensures.within, put_back (c.before.before.before.before.add-run.ensures.held _ c.before.before.before.before.before.before.before.before.before.before.before.before.before.before.before.before.requires.1.1 c.before.before.before.before.before.before.before.loop.invariant.1) c.before.before.put-body-pair.ensures))  -- loop-again
     (λ c. search known)  -- same-length
     (λ c. all_rows c.before.loop.invariant.1 (search known) (search known)))  -- returns

@@ -12,10 +12,4 @@ respond_at_spec =
     (λ c κs. search rules)  -- response-requires
     (λ c κs. search rules)  -- put-paired-requires
     (λ c. search rules)  -- same-length
-    (λ c.
-    rw (
-      c.before.before.put-paired.ensures,
-      c.before.before.before.before.response.ensures,
-      c.before.before.before.before.before.before.before.mass_at.ensures,
-      c.before.before.before.before.before.paired_at.ensures,
-    )))  -- returns
+    (λ c. rw (c.before.before.put-paired.ensures, c.before.before.before.before.response.ensures, c.before.before.before.before.before.before.before.mass_at.ensures, c.before.before.before.before.before.paired_at.ensures)))  -- returns

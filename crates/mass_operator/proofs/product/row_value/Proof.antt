@@ -14,11 +14,4 @@ row_value_spec =
     (λ c κs. search rules)  -- dot-requires-2
     (λ c κs. search rules)  -- dot-requires-3
     (λ c κs. search rules)  -- dot-requires-4
-    (λ c.
-    rw (
-      c.before.before.before.dot.ensures,
-      c.before.before.dot2.ensures,
-      c.before.dot3.ensures,
-      c.dot4.ensures,
-      c.before.before.before.before.before.before.before.before.before.before.compact-at.ensures,
-    )))  -- returns
+    (λ c. rw (c.before.before.before.dot.ensures, c.before.before.dot2.ensures, c.before.dot3.ensures, c.dot4.ensures, c.before.before.before.before.before.before.before.before.before.before.compact-at.ensures)))  -- returns

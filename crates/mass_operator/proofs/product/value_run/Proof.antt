@@ -18,28 +18,6 @@ invariant-loop jacobians links responses vector first before product₀ pair sum
 abbrev decreases-loop : tie.decreases-loop
 decreases-loop jacobians links responses vector first before product₀ pair sum₀ i₀ product sum i = length vector - i
 
--- The places that the answers look back to.
-abbrev at_body_pair_at₁ : tie.After-slice-known2 invariant-loop decreases-loop → tie.After-body-pair-at invariant-loop decreases-loop
-at_body_pair_at₁ c = c.before.before.before.before
-
-abbrev start₁ : tie.After-slice-known2 invariant-loop decreases-loop → tie.Start invariant-loop decreases-loop
-start₁ c = (at_body_pair_at₁ c).before.before.before.before.before.before
-
-abbrev at_if1₂ : tie.After-slice-known3 invariant-loop decreases-loop → tie.Else1 invariant-loop decreases-loop
-at_if1₂ c = c.before.before.before.before
-
-abbrev at_on_bodies₂ : tie.After-slice-known3 invariant-loop decreases-loop → tie.After-on-bodies invariant-loop decreases-loop
-at_on_bodies₂ c = (at_if1₂ c).before
-
-abbrev at_loop_test₂ : tie.After-slice-known3 invariant-loop decreases-loop → tie.In-loop invariant-loop decreases-loop
-at_loop_test₂ c = (at_on_bodies₂ c).before
-
-abbrev at_loop₂ : tie.After-slice-known3 invariant-loop decreases-loop → tie.At-loop invariant-loop decreases-loop
-at_loop₂ c = (at_loop_test₂ c).before
-
-abbrev at_body_pair_at₂ : tie.After-slice-known3 invariant-loop decreases-loop → tie.After-body-pair-at invariant-loop decreases-loop
-at_body_pair_at₂ c = (at_loop₂ c).before.before.before.before.before
-
 pub value_run_spec : {M : Type 1} → statement M
 value_run_spec =
     tie.close
@@ -47,25 +25,13 @@ value_run_spec =
     (λ c κs. search loops)  -- body-pair-at-requires
     (λ c κs. search loops)  -- put-value-requires
     (λ c. search loops)  -- add-i
-    (λ c. (
-      omega arith,
-      valued_more (start₁ c).requires.1.1 (omega (arith, (start₁ c).requires.0.2, (start₁ c).requires.0.3))
-          (value_held _ _ _ _ (at_body_pair_at₁ c).body-pair-at.ensures refl)
-          c.before.before.put-value.ensures.0 c.before.before.put-value.ensures.1,
-    ))  -- loop-holds
+    (λ c. (omega arith, valued_more c.before.before.before.before.before.before.before.before.before.before.requires.1.1 (omega (arith, c.before.before.before.before.before.before.before.before.before.before.requires.0.2, c.before.before.before.before.before.before.before.before.before.before.requires.0.3)) (value_held _ _ _ _ c.before.before.before.before.body-pair-at.ensures refl) c.before.before.put-value.ensures.0 c.before.before.put-value.ensures.1))  -- loop-holds
     (λ c κs. search loops)  -- on-bodies-requires
     (λ c. search loops)  -- same-length
     (λ c. search loops)  -- returns
     (λ c κs. search loops)  -- put-value-requires-2
     (λ c. search loops)  -- add-i-2
     (λ c. search loops)  -- loop-less
-    (λ c. (
-      omega (arith, (at_loop₂ c).loop.invariant.0),
-      valued_more (at_loop₂ c).loop.invariant.1
-          (omega (arith, (at_loop_test₂ c).loop-test.true, (at_loop₂ c).loop.invariant.1.long))
-          (value_on _ _ _ _ _ (at_body_pair_at₂ c).body-pair-at.ensures (at_on_bodies₂ c).on-bodies.ensures
-          (at_if1₂ c).if1.false)
-          c.before.before.put-value2.ensures.0 c.before.before.put-value2.ensures.1,
-    ))  -- loop-again
+    (λ c. (omega (arith, c.before.before.before.before.before.before.before.loop.invariant.0), valued_more c.before.before.before.before.before.before.before.loop.invariant.1 (omega (arith, c.before.before.before.before.before.before.loop-test.true, c.before.before.before.before.before.before.before.loop.invariant.1.long)) (value_on _ _ _ _ _ c.before.before.before.before.before.before.before.before.before.before.before.before.body-pair-at.ensures c.before.before.before.before.before.on-bodies.ensures c.before.before.before.before.if1.false) c.before.before.put-value2.ensures.0 c.before.before.put-value2.ensures.1))  -- loop-again
     (λ c. search loops)  -- same-length-2
     (λ c. search loops))  -- returns_2

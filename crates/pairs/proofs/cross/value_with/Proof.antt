@@ -4,13 +4,6 @@ use Rattle.pairs.proofs.Crosses.{a_first, b_first}
 use Rattle.pairs.proofs.cross.value_with.Statement.{statement}
 use Rattle.pairs.proofs.cross.value_with.Tie as tie
 
--- The places that the answers look back to.
-abbrev at_met_at₁ : tie.After-sum → tie.After-met-at
-at_met_at₁ c = c.before.before.before.before
-
-abbrev at_met_at₂ : tie.After-sum2 → tie.After-met-at
-at_met_at₂ c = c.before.before.before.before
-
 pub value_with_spec : {M : Type 1} → statement M
 value_with_spec =
     tie.close
@@ -20,11 +13,5 @@ value_with_spec =
     (λ c κs. search rules)  -- met-at-requires-2
     (λ c κs. search rules)  -- sum-requires
     (λ c κs. search rules)  -- sum-requires-2
-    (λ c.
-    rw (← c.before.before.before.before.before.compact-at.ensures)
-    (a_first _ _ (at_met_at₁ c).met_at.result c.before.before.before.met-at2.result _
-    (at_met_at₁ c).met_at.ensures c.before.before.before.met-at2.ensures c.sum.ensures))  -- returns
-    (λ c.
-    rw (← c.before.before.before.before.before.compact-at.ensures)
-    (b_first _ _ (at_met_at₂ c).met_at.result c.before.before.before.met-at2.result _
-    (at_met_at₂ c).met_at.ensures c.before.before.before.met-at2.ensures c.sum2.ensures)))  -- returns_2
+    (λ c. rw (← c.before.before.before.before.before.compact-at.ensures) (a_first _ _ c.before.before.before.before.met_at.result c.before.before.before.met-at2.result _ c.before.before.before.before.met_at.ensures c.before.before.before.met-at2.ensures c.sum.ensures))  -- returns
+    (λ c. rw (← c.before.before.before.before.before.compact-at.ensures) (b_first _ _ c.before.before.before.before.met_at.result c.before.before.before.met-at2.result _ c.before.before.before.before.met_at.ensures c.before.before.before.met-at2.ensures c.sum2.ensures)))  -- returns_2

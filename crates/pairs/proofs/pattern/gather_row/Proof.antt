@@ -15,22 +15,6 @@ invariant-loop links columns₀ room i from first at a b p₀ j₀ columns p j =
 abbrev decreases-loop : tie.decreases-loop
 decreases-loop links columns₀ room i from first at a b p₀ j₀ columns p j = i - j
 
--- The places that the answers look back to.
-abbrev start₁ : tie.After-shared-slice-known3 invariant-loop decreases-loop → tie.Start invariant-loop decreases-loop
-start₁ c = c.before.before.before.before.before
-
-abbrev at_try_column₂ : tie.After-enum-told invariant-loop decreases-loop → tie.After-try-column invariant-loop decreases-loop
-at_try_column₂ c = c.before.before.before.before
-
-abbrev at_loop₂ : tie.After-enum-told invariant-loop decreases-loop → tie.At-loop invariant-loop decreases-loop
-at_loop₂ c = (at_try_column₂ c).before.before.before.before.before
-
-abbrev at_try_column₃ : tie.After-known-told invariant-loop decreases-loop → tie.After-try-column invariant-loop decreases-loop
-at_try_column₃ c = c.before.before.before.before.before
-
-abbrev at_loop₃ : tie.After-known-told invariant-loop decreases-loop → tie.At-loop invariant-loop decreases-loop
-at_loop₃ c = (at_try_column₃ c).before.before.before.before.before
-
 pub gather_row_spec : {M : Type 1} → statement M
 gather_row_spec =
     tie.close
@@ -42,38 +26,18 @@ gather_row_spec =
     (λ c. omega arith)  -- add-b
     (λ c. omega arith)  -- mul-b
     (λ c. omega arith)  -- shared-slice-read-b
-    (λ c. (
-      omega arith,
-      refl,
-      bodies_of _ _ _ c.before.before.wide.ensures,
-      row_begin _ _ _ _ _ (omega arith) (start₁ c).requires.1,
-    ))  -- loop-holds
+    (λ c. (omega arith, refl, bodies_of _ _ _ c.before.before.wide.ensures, row_begin _ _ _ _ _ (omega arith) c.before.before.before.before.before.requires.1))  -- loop-holds
     (λ c κs. search rules)  -- eight-apart-requires
     (λ c. omega (arith, eight_within _ _ _ _ _ _ c.before.eight-apart.ensures c.if1.true))  -- add-j
     (λ c. omega (arith, eight_within _ _ _ _ _ _ c.before.eight-apart.ensures c.if1.true))  -- loop-less
-    (λ c. (
-      eight_within _ _ _ _ _ _ c.before.eight-apart.ensures c.if1.true,
-      c.before.before.before.loop.invariant.1,
-      c.before.before.before.loop.invariant.2,
-      row_eight _ _ _ _ _ _ c.before.eight-apart.ensures c.if1.true _ _ _ _
-          c.before.before.before.loop.invariant.2 c.before.before.before.loop.invariant.3,
-    ))  -- loop-again
+    (λ c. (eight_within _ _ _ _ _ _ c.before.eight-apart.ensures c.if1.true, c.before.before.before.loop.invariant.1, c.before.before.before.loop.invariant.2, row_eight _ _ _ _ _ _ c.before.eight-apart.ensures c.if1.true _ _ _ _ c.before.before.before.loop.invariant.2 c.before.before.before.loop.invariant.3))  -- loop-again
     (λ c κs. search rules)  -- try-column-requires
     (λ c. search rules)  -- enum-known-q
     (λ c. search rules)  -- enum_told
     (λ c. omega arith)  -- same-length
-    (λ c.
-    row_full _ _ _ _ _ _ _ _ _ _ _ (at_loop₂ c).loop.invariant.3 (at_loop₂ c).loop.invariant.2
-    (at_try_column₂ c).try-column.ensures.0 _ (omega arith) c.enum_told.given.1)  -- returns
+    (λ c. row_full _ _ _ _ _ _ _ _ _ _ _ c.before.before.before.before.before.before.before.before.before.loop.invariant.3 c.before.before.before.before.before.before.before.before.before.loop.invariant.2 c.before.before.before.before.try-column.ensures.0 _ (omega arith) c.enum_told.given.1)  -- returns
     (λ c. omega arith)  -- add-j-2
     (λ c. omega arith)  -- loop-less-2
-    (λ c. (
-      omega arith,
-      omega arith,
-      (at_loop₃ c).loop.invariant.2,
-      row_more _ _ _ _ _ _ _ _ _ _ _ (at_loop₃ c).loop.invariant.3 (at_loop₃ c).loop.invariant.2
-          (at_try_column₃ c).try-column.ensures.0 _ _ (omega arith) (at_try_column₃ c).try-column.ensures.1
-          c.before.q.given.1,
-    ))  -- loop-again-2
+    (λ c. (omega arith, omega arith, c.before.before.before.before.before.before.before.before.before.before.loop.invariant.2, row_more _ _ _ _ _ _ _ _ _ _ _ c.before.before.before.before.before.before.before.before.before.before.loop.invariant.3 c.before.before.before.before.before.before.before.before.before.before.loop.invariant.2 c.before.before.before.before.before.try-column.ensures.0 _ _ (omega arith) c.before.before.before.before.before.try-column.ensures.1 c.before.q.given.1))  -- loop-again-2
     (λ c. omega arith)  -- same-length-2
     (λ c. row_done _ _ _ _ _ _ _ _ c.before.loop.invariant.3 (omega arith) (omega arith)))  -- returns_2

@@ -21,19 +21,6 @@ decreases-loop links pattern₀ room firsts₀ n ends p₀ i₀ pattern firsts p
 
 ruleset known = (firsts_none, rows_none, rows_full, rows_end, columns_long, loops)
 
--- The places that the answers look back to.
-abbrev at_q : tie.After-slice-known5 invariant-loop decreases-loop → tie.After-q invariant-loop decreases-loop
-at_q c = c.before.before.before.before.before
-
-abbrev at_gather_row : tie.After-slice-known5 invariant-loop decreases-loop → tie.After-gather-row invariant-loop decreases-loop
-at_gather_row c = (at_q c).before.before.before.before
-
-abbrev at_loop : tie.After-slice-known5 invariant-loop decreases-loop → tie.At-loop invariant-loop decreases-loop
-at_loop c = (at_gather_row c).before.before.before.before.before.before.before
-
-abbrev at_wide : tie.After-slice-known5 invariant-loop decreases-loop → tie.After-wide invariant-loop decreases-loop
-at_wide c = (at_loop c).before
-
 pub gather_rows_spec : {M : Type 1} → statement M
 gather_rows_spec =
     tie.close
@@ -56,15 +43,7 @@ gather_rows_spec =
     (λ c. omega arith)  -- add-i
     (λ c κs. omega arith)  -- put-requires
     (λ c. omega arith)  -- loop-less
-    (λ c. (
-      omega arith,
-      omega arith,
-      omega arith,
-      search loops,
-      rows_more _ _ _ _ _ (at_wide c).wide.ensures _ (at_loop c).loop.invariant.4 (at_loop c).loop.invariant.1 _ _
-          (at_gather_row c).gather-row.ensures _ _ (omega arith) c.before.before.put.ensures
-          (at_q c).q.given.1,
-    ))  -- loop-again
+    (λ c. (omega arith, omega arith, omega arith, search loops, rows_more _ _ _ _ _ c.before.before.before.before.before.before.before.before.before.before.before.before.before.before.before.before.before.wide.ensures _ c.before.before.before.before.before.before.before.before.before.before.before.before.before.before.before.before.loop.invariant.4 c.before.before.before.before.before.before.before.before.before.before.before.before.before.before.before.before.loop.invariant.1 _ _ c.before.before.before.before.before.before.before.before.before.gather-row.ensures _ _ (omega arith) c.before.before.put.ensures c.before.before.before.before.before.q.given.1))  -- loop-again
     (λ c. omega arith)  -- same-length-3
     (λ c. omega arith)  -- same-length-4
     (λ c. search known))  -- returns_2

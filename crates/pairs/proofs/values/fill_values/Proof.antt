@@ -11,8 +11,7 @@ use Rattle.pairs.proofs.values.fill_values.Statement.{statement}
 use Rattle.pairs.proofs.values.fill_values.Tie as tie
 
 abbrev invariant-loop : tie.invariant-loop
-invariant-loop jacobians links masses rows bodies starts columns values₀ fine₀ i₀ values fine i = (i ≤ rows) × (length values ≡ length columns) ×
-    Valued (value_in jacobians links masses) starts columns values (start starts i) × (fine ≡ finite_below values (start starts i))
+invariant-loop jacobians links masses rows bodies starts columns values₀ fine₀ i₀ values fine i = (i ≤ rows) × (length values ≡ length columns) × Valued (value_in jacobians links masses) starts columns values (start starts i) × (fine ≡ finite_below values (start starts i))
 
 abbrev decreases-loop : tie.decreases-loop
 decreases-loop jacobians links masses rows bodies starts columns values₀ fine₀ i₀ values fine i = rows - i

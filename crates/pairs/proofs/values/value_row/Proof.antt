@@ -15,81 +15,27 @@ use Rattle.pairs.proofs.values.value_row.Statement.{statement}
 use Rattle.pairs.proofs.values.value_row.Tie as tie
 
 abbrev invariant-loop : tie.invariant-loop
-invariant-loop jacobians links masses rows bodies starts columns values₀ i fine first end higher all₀ p₀ values all p = (first ≤ p) × (p ≤ end) ×
-    (length values ≡ length columns) × Row starts columns i first end × Valued (value_in jacobians links masses) starts columns values p ×
-    (higher ≡ arms_of (mass_of masses) (compact_of jacobians links i)) × (all ≡ finite_below values p)
+invariant-loop jacobians links masses rows bodies starts columns values₀ i fine first end higher all₀ p₀ values all p = (first ≤ p) × (p ≤ end) × (length values ≡ length columns) × Row starts columns i first end × Valued (value_in jacobians links masses) starts columns values p × (higher ≡ arms_of (mass_of masses) (compact_of jacobians links i)) × (all ≡ finite_below values p)
 
 abbrev decreases-loop : tie.decreases-loop
 decreases-loop jacobians links masses rows bodies starts columns values₀ i fine first end higher all₀ p₀ values all p = end - p
 
 ruleset known = (valued_last, fine_last, loops)
 
--- The places that the answers look back to.
-abbrev start₁ : tie.Then1 invariant-loop decreases-loop → tie.Start invariant-loop decreases-loop
-start₁ c = c.before.before.before.before.before.before.before.before
-
-abbrev start₂ : tie.After-arms-at invariant-loop decreases-loop → tie.Start invariant-loop decreases-loop
-start₂ c = c.before.before.before.before.before.before.before.before.before
-
-abbrev start₃ : tie.After-earlier invariant-loop decreases-loop → tie.Start invariant-loop decreases-loop
-start₃ c = c.before.before.before.before.before.before.before.before.before.before.before.before
-
-abbrev at_value_with₄ : tie.After-is-finite invariant-loop decreases-loop → tie.After-value-with invariant-loop decreases-loop
-at_value_with₄ c = c.before.before.before.before.before
-
-abbrev at_earlier₄ : tie.After-is-finite invariant-loop decreases-loop → tie.After-earlier invariant-loop decreases-loop
-at_earlier₄ c = (at_value_with₄ c).before
-
-abbrev at_loop_test₄ : tie.After-is-finite invariant-loop decreases-loop → tie.In-loop invariant-loop decreases-loop
-at_loop_test₄ c = (at_earlier₄ c).before
-
-abbrev at_loop₄ : tie.After-is-finite invariant-loop decreases-loop → tie.At-loop invariant-loop decreases-loop
-at_loop₄ c = (at_loop_test₄ c).before
-
-abbrev start₅ : tie.After-loop invariant-loop decreases-loop → tie.Start invariant-loop decreases-loop
-start₅ c = c.before.before.before.before.before.before.before.before.before.before.before
-
 pub value_row_spec : {M : Type 1} → statement M
 value_row_spec =
     tie.close
     (tie.spec invariant-loop decreases-loop
     (λ c κs. search known)  -- row-requires
-    (λ c. (
-      valued_empty c.before.row.ensures _ _ (start₁ c).requires.1.1.1.1.0 c.if1.true,
-      fine_empty c.before.row.ensures _ _ (start₁ c).requires.1.1.1.1.1 c.if1.true,
-    ))  -- returns
+    (λ c. (valued_empty c.before.row.ensures _ _ c.before.before.before.before.before.before.before.before.requires.1.1.1.1.0 c.if1.true, fine_empty c.before.row.ensures _ _ c.before.before.before.before.before.before.before.before.requires.1.1.1.1.1 c.if1.true))  -- returns
     (λ c κs. search known)  -- arms-at-requires
-    (λ c. (
-      search known,
-      search known,
-      (start₂ c).requires.1.1.0.2,
-      c.before.before.row.ensures,
-      valued_first c.before.before.row.ensures _ _ (start₂ c).requires.1.1.1.1.0,
-      c.arms_at.ensures,
-      fine_first c.before.before.row.ensures _ _ (start₂ c).requires.1.1.1.1.1,
-    ))  -- loop-holds
+    (λ c. (search known, search known, c.before.before.before.before.before.before.before.before.before.requires.1.1.0.2, c.before.before.row.ensures, valued_first c.before.before.row.ensures _ _ c.before.before.before.before.before.before.before.before.before.requires.1.1.1.1.0, c.arms_at.ensures, fine_first c.before.before.row.ensures _ _ c.before.before.before.before.before.before.before.before.before.requires.1.1.1.1.1))  -- loop-holds
     (λ c κs. search known)  -- earlier-requires
-    (λ c κs.
-    let l = c.earlier.ensures.1 in
-    let h = (start₃ c).pre.1.1.0.0 in
-    let t = (start₃ c).pre.0 in (omega (arith, l, h, t.0), omega (arith, l, h, t.1)))  -- value-with-requires
+    (λ c κs. let l = c.earlier.ensures.1 in let h = c.before.before.before.before.before.before.before.before.before.before.before.before.requires.1.1.0.0 in let t = c.before.before.before.before.before.before.before.before.before.before.before.before.requires.0 in (omega (arith, l, h, t.0), omega (arith, l, h, t.1)))  -- value-with-requires
     (λ c κs. search known)  -- write-requires
     (λ c κs. search known)  -- is-finite-requires
     (λ c. search known)  -- add-p
     (λ c. search known)  -- loop-less
-    (λ c. (
-      search known,
-      search known,
-      search known,
-      (at_loop₄ c).loop.invariant.3,
-      valued_more (at_loop₄ c).loop.invariant.3 _ _ _ _ _ _ (at_loop₄ c).loop.invariant.4 (at_loop₄ c).loop.invariant.0
-          (at_loop_test₄ c).loop-test.true (at_loop₄ c).loop.invariant.2 (at_earlier₄ c).earlier.ensures.0
-          (value_of _ _ _ _ _ _ _ (at_loop₄ c).loop.invariant.5 (at_value_with₄ c).value_with_lem.ensures)
-          c.before.before.before.write.ensures,
-      (at_loop₄ c).loop.invariant.5,
-      fine_more (at_loop₄ c).loop.invariant.3 _ _ _ _ _ _ (at_loop₄ c).loop.invariant.6
-          (at_loop_test₄ c).loop-test.true (at_loop₄ c).loop.invariant.2 c.is_finite_lem.ensures
-          c.before.before.before.write.ensures,
-    ))  -- loop-again
-    (λ c. c.before.loop.invariant.2 ∙ sym (start₅ c).requires.1.1.0.2)  -- same-length
+    (λ c. (search known, search known, search known, c.before.before.before.before.before.before.before.before.loop.invariant.3, valued_more c.before.before.before.before.before.before.before.before.loop.invariant.3 _ _ _ _ _ _ c.before.before.before.before.before.before.before.before.loop.invariant.4 c.before.before.before.before.before.before.before.before.loop.invariant.0 c.before.before.before.before.before.before.before.loop-test.true c.before.before.before.before.before.before.before.before.loop.invariant.2 c.before.before.before.before.before.before.earlier.ensures.0 (value_of _ _ _ _ _ _ _ c.before.before.before.before.before.before.before.before.loop.invariant.5 c.before.before.before.before.before.value_with_lem.ensures) c.before.before.before.write.ensures, c.before.before.before.before.before.before.before.before.loop.invariant.5, fine_more c.before.before.before.before.before.before.before.before.loop.invariant.3 _ _ _ _ _ _ c.before.before.before.before.before.before.before.before.loop.invariant.6 c.before.before.before.before.before.before.before.loop-test.true c.before.before.before.before.before.before.before.before.loop.invariant.2 c.is_finite_lem.ensures c.before.before.before.write.ensures))  -- loop-again
+    (λ c. c.before.loop.invariant.2 ∙ sym c.before.before.before.before.before.before.before.before.before.before.before.requires.1.1.0.2)  -- same-length
     (λ c. (search known, search known)))  -- returns_2

@@ -3,76 +3,27 @@ use Rattle.loops.proofs.Loop.{loops}
 use Rattle.pcg.proofs.prepared.solve_position_pcg_prepared.Statement.{statement}
 use Rattle.pcg.proofs.prepared.solve_position_pcg_prepared.Tie as tie
 
--- The places that the answers look back to.
-abbrev at_pattern : tie.After-slice-known34 → tie.After-pattern
-at_pattern c = c.before.before.before.before.before
-
-abbrev at_body_impulses : tie.After-slice-known34 → tie.After-body-impulses
-at_body_impulses c = (at_pattern c).before.before
-
-abbrev at_product : tie.After-slice-known34 → tie.After-product
-at_product c = (at_body_impulses c).before.before
-
-abbrev at_direction : tie.After-slice-known34 → tie.After-direction
-at_direction c = (at_product c).before.before
-
-abbrev at_pending : tie.After-slice-known34 → tie.After-pending
-at_pending c = (at_direction c).before.before
-
-abbrev at_residual : tie.After-slice-known34 → tie.After-residual
-at_residual c = (at_pending c).before.before
-
-abbrev at_diagonal : tie.After-slice-known34 → tie.After-diagonal
-at_diagonal c = (at_residual c).before.before
-
-abbrev at_tolerances : tie.After-slice-known34 → tie.After-tolerances
-at_tolerances c = (at_diagonal c).before.before
-
-abbrev at_links : tie.After-slice-known34 → tie.After-links
-at_links c = (at_tolerances c).before.before
-
-abbrev at_jacobians : tie.After-slice-known34 → tie.After-jacobians
-at_jacobians c = (at_links c).before.before
-
-abbrev at_rule_numbers : tie.After-slice-known34 → tie.After-rule-numbers
-at_rule_numbers c = (at_jacobians c).before.before
-
-abbrev at_new_centres : tie.After-slice-known34 → tie.After-new-centres
-at_new_centres c = (at_rule_numbers c).before.before
-
-abbrev at_impulses : tie.After-slice-known34 → tie.After-impulses
-at_impulses c = (at_new_centres c).before.before
-
-abbrev at_solution : tie.After-slice-known34 → tie.After-solution
-at_solution c = (at_impulses c).before.before
-
-abbrev at_numbers : tie.After-slice-known34 → tie.After-numbers
-at_numbers c = (at_solution c).before.before
-
-abbrev at_solve_prepared : tie.After-slice-known34 → tie.After-solve-prepared
-at_solve_prepared c = (at_numbers c).before
-
 pub solve_position_pcg_prepared_spec : {M : Type 1} → statement M
 solve_position_pcg_prepared_spec =
     tie.close
     (tie.spec
     (λ c. search loops)  -- slice-aggregate-solve-prepared
     (λ c κs. search loops)  -- solve-prepared-requires
-    (λ c. (at_numbers c).numbers.given)  -- same-length
-    (λ c. (at_solution c).solution.given)  -- same-length-2
-    (λ c. (at_impulses c).impulses.given)  -- same-length-3
-    (λ c. (at_new_centres c).new-centres.given)  -- same-length-4
-    (λ c. (at_rule_numbers c).rule-numbers.given)  -- same-length-5
-    (λ c. (at_jacobians c).jacobians.given)  -- same-length-6
-    (λ c. (at_links c).links.given)  -- same-length-7
-    (λ c. (at_tolerances c).tolerances.given)  -- same-length-8
-    (λ c. (at_diagonal c).diagonal.given)  -- same-length-9
-    (λ c. (at_residual c).residual.given)  -- same-length-10
-    (λ c. (at_pending c).pending.given)  -- same-length-11
-    (λ c. (at_direction c).direction.given)  -- same-length-12
-    (λ c. (at_product c).product.given)  -- same-length-13
-    (λ c. (at_body_impulses c).body-impulses.given)  -- same-length-14
-    (λ c. (at_pattern c).pattern.given)  -- same-length-15
+    (λ c. c.before.before.before.before.before.before.before.before.before.before.before.before.before.before.before.before.before.before.before.before.before.before.before.before.before.before.before.before.before.before.before.before.before.numbers.given)  -- same-length
+    (λ c. c.before.before.before.before.before.before.before.before.before.before.before.before.before.before.before.before.before.before.before.before.before.before.before.before.before.before.before.before.before.before.before.solution.given)  -- same-length-2
+    (λ c. c.before.before.before.before.before.before.before.before.before.before.before.before.before.before.before.before.before.before.before.before.before.before.before.before.before.before.before.before.before.impulses.given)  -- same-length-3
+    (λ c. c.before.before.before.before.before.before.before.before.before.before.before.before.before.before.before.before.before.before.before.before.before.before.before.before.before.before.before.new-centres.given)  -- same-length-4
+    (λ c. c.before.before.before.before.before.before.before.before.before.before.before.before.before.before.before.before.before.before.before.before.before.before.before.before.before.rule-numbers.given)  -- same-length-5
+    (λ c. c.before.before.before.before.before.before.before.before.before.before.before.before.before.before.before.before.before.before.before.before.before.before.before.jacobians.given)  -- same-length-6
+    (λ c. c.before.before.before.before.before.before.before.before.before.before.before.before.before.before.before.before.before.before.before.before.before.links.given)  -- same-length-7
+    (λ c. c.before.before.before.before.before.before.before.before.before.before.before.before.before.before.before.before.before.before.before.tolerances.given)  -- same-length-8
+    (λ c. c.before.before.before.before.before.before.before.before.before.before.before.before.before.before.before.before.before.diagonal.given)  -- same-length-9
+    (λ c. c.before.before.before.before.before.before.before.before.before.before.before.before.before.before.before.residual.given)  -- same-length-10
+    (λ c. c.before.before.before.before.before.before.before.before.before.before.before.before.before.pending.given)  -- same-length-11
+    (λ c. c.before.before.before.before.before.before.before.before.before.before.before.direction.given)  -- same-length-12
+    (λ c. c.before.before.before.before.before.before.before.before.before.product.given)  -- same-length-13
+    (λ c. c.before.before.before.before.before.before.before.body-impulses.given)  -- same-length-14
+    (λ c. c.before.before.before.before.before.pattern.given)  -- same-length-15
     (λ c. c.before.before.before.order.given)  -- same-length-16
     (λ c. c.before.values.given)  -- same-length-17
-    (λ c. (at_solve_prepared c).solve-prepared.ensures))  -- returns
+    (λ c. c.before.before.before.before.before.before.before.before.before.before.before.before.before.before.before.before.before.before.before.before.before.before.before.before.before.before.before.before.before.before.before.before.before.before.solve-prepared.ensures))  -- returns

@@ -17,13 +17,6 @@ decreases-loop masses impulses centres bodies now₀ b₀ now b = bodies - b
 
 ruleset known = (moves_none, moves_more, moves_end, loops)
 
--- The places that the answers look back to.
-abbrev at_loop_test : tie.After-slice-known2 invariant-loop decreases-loop → tie.In-loop invariant-loop decreases-loop
-at_loop_test c = c.before.before.before.before.before
-
-abbrev at_loop : tie.After-slice-known2 invariant-loop decreases-loop → tie.At-loop invariant-loop decreases-loop
-at_loop c = (at_loop_test c).before
-
 pub move_centres_spec : {M : Type 1} → statement M
 move_centres_spec =
     tie.close
@@ -34,8 +27,6 @@ move_centres_spec =
     (λ c κs. search known)  -- put-vec-requires
     (λ c. search known)  -- add-b
     (λ c. search known)  -- loop-less
-    (λ c.
-    moves_more (at_loop c).loop.invariant (at_loop_test c).loop-test.true
-    c.before.before.before.moved_at.ensures c.before.before.put-vec.ensures)  -- loop-again
+    (λ c. moves_more c.before.before.before.before.before.before.loop.invariant c.before.before.before.before.before.loop-test.true c.before.before.before.moved_at.ensures c.before.before.put-vec.ensures)  -- loop-again
     (λ c. search known)  -- same-length
     (λ c. search known))  -- returns

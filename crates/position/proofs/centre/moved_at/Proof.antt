@@ -4,13 +4,6 @@ use Rattle.position.proofs.Moved.{moved_still, moved_next}
 use Rattle.position.proofs.centre.moved_at.Statement.{statement}
 use Rattle.position.proofs.centre.moved_at.Tie as tie
 
--- The places that the answers look back to.
-abbrev at_vec_at : tie.After-next-center → tie.After-vec-at
-at_vec_at c = c.before.before.before.before
-
-abbrev at_paired_at : tie.After-next-center → tie.After-paired-at
-at_paired_at c = (at_vec_at c).before
-
 pub moved_at_spec : {M : Type 1} → statement M
 moved_at_spec =
     tie.close
@@ -19,12 +12,7 @@ moved_at_spec =
     (λ c. search rules)  -- mul-vec-at
     (λ c κs. search rules)  -- vec-at-requires
     (λ c κs. search rules)  -- is-still-requires
-    (λ c.
-    moved_still _ _ _ _ _ _ _ c.before.before.before.paired_at.ensures c.before.before.vec-at.ensures
-    c.before.is-still.ensures c.if1.true)  -- returns
+    (λ c. moved_still _ _ _ _ _ _ _ c.before.before.before.paired_at.ensures c.before.before.vec-at.ensures c.before.is-still.ensures c.if1.true)  -- returns
     (λ c κs. search rules)  -- mass-at-requires
     (λ c κs. search rules)  -- next-center-requires
-    (λ c.
-    moved_next _ _ _ _ _ _ _ (at_paired_at c).paired_at.ensures (at_vec_at c).vec-at.ensures
-    c.before.before.before.is-still.ensures _ _ c.before.before.if1.false
-    c.before.mass_at.ensures c.next-center.ensures))  -- returns_2
+    (λ c. moved_next _ _ _ _ _ _ _ c.before.before.before.before.before.paired_at.ensures c.before.before.before.before.vec-at.ensures c.before.before.before.is-still.ensures _ _ c.before.before.if1.false c.before.mass_at.ensures c.next-center.ensures))  -- returns_2

@@ -7,34 +7,15 @@ use Rattle.position.proofs.prepare.prepare_row.Tie as tie
 
 ruleset known = (mass_a, mass_b, rules)
 
--- The places that the answers look back to.
-abbrev start₁ : tie.Then1 → tie.Start
-start₁ c = c.before.before.before.before.before.before
-
-abbrev at_if1₂ : tie.After-judge-diagonal → tie.Else1
-at_if1₂ c = c.before.before.before.before
-
-abbrev at_is_valid_at₂ : tie.After-judge-diagonal → tie.After-is-valid-at
-at_is_valid_at₂ c = (at_if1₂ c).before
-
-abbrev start₂ : tie.After-judge-diagonal → tie.Start
-start₂ c = (at_is_valid_at₂ c).before.before.before.before.before
-
 pub prepare_row_spec : {M : Type 1} → statement M
 prepare_row_spec =
     tie.close
     (tie.spec
     (λ c κs. search known)  -- is-valid-at-requires
-    (λ c.
-    row_seven _ _ _ _ _ (start₁ c).args.tolerances.now (start₁ c).args.residual _ _
-    c.before.is-valid-at.ensures c.if1.true)  -- returns
+    (λ c. row_seven _ _ _ _ _ c.before.before.before.before.before.before.args.tolerances.now c.before.before.before.before.before.before.args.residual _ _ c.before.is-valid-at.ensures c.if1.true)  -- returns
     (λ c κs. search known)  -- row-at-requires
     (λ c κs. search known)  -- row-diagonal-requires
     (λ c. search known)  -- mul-judge-diagonal
     (λ c. search known)  -- shared-slice-read-judge-diagonal
     (λ c κs. search known)  -- judge-diagonal-requires
-    (λ c.
-    row_on _ _ _ _ _ (start₂ c).args.tolerances.now (start₂ c).args.residual _ _
-    (at_is_valid_at₂ c).is-valid-at.ensures _ _ (at_if1₂ c).if1.false
-    c.before.before.before.row_at.ensures c.before.before.row-diagonal.ensures
-    c.judge-diagonal.ensures))  -- returns_2
+    (λ c. row_on _ _ _ _ _ c.before.before.before.before.before.before.before.before.before.before.args.tolerances.now c.before.before.before.before.before.before.before.before.before.before.args.residual _ _ c.before.before.before.before.before.is-valid-at.ensures _ _ c.before.before.before.before.if1.false c.before.before.before.row_at.ensures c.before.before.row-diagonal.ensures c.judge-diagonal.ensures))  -- returns_2

@@ -4,13 +4,6 @@ use Rattle.position.proofs.Ways.{diagonal_is}
 use Rattle.position.proofs.prepare.row_diagonal.Statement.{statement}
 use Rattle.position.proofs.prepare.row_diagonal.Tie as tie
 
--- The places that the answers look back to.
-abbrev at_mass_at : tie.After-cross-value2 → tie.After-mass-at
-at_mass_at c = c.before.before.before.before
-
-abbrev at_wide : tie.After-cross-value2 → tie.After-wide
-at_wide c = (at_mass_at c).before
-
 pub row_diagonal_spec : {M : Type 1} → statement M
 row_diagonal_spec =
     tie.close
@@ -21,7 +14,4 @@ row_diagonal_spec =
     (λ c κs. search rules)  -- mass-at-requires-2
     (λ c κs. search rules)  -- cross-value-requires
     (λ c κs. search rules)  -- cross-value-requires-2
-    (λ c.
-    diagonal_is _ _ _ _ _ _ _ _ (at_mass_at c).mass_at.ensures (at_wide c).wide.ensures
-    c.before.before.mass-at2.ensures c.before.before.before.wide2.ensures
-    c.before.cross-value.ensures c.cross-value2.ensures))  -- returns
+    (λ c. diagonal_is _ _ _ _ _ _ _ _ c.before.before.before.before.mass_at.ensures c.before.before.before.before.before.wide.ensures c.before.before.mass-at2.ensures c.before.before.before.wide2.ensures c.before.cross-value.ensures c.cross-value2.ensures))  -- returns

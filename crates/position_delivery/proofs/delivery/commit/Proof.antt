@@ -6,20 +6,13 @@ use Rattle.position_delivery.proofs.delivery.commit.Tie as tie
 
 ruleset known = (loops)
 
--- The places that the answers look back to.
-abbrev start₁ : tie.After-gain-after-arg → tie.Start
-start₁ c = c.before.before.before.before.before.before
-
-abbrev at_answer₂ : tie.After-slice-known2 → tie.After-answer
-at_answer₂ c = c.before.before.before.before.before
-
 pub commit_spec : {M : Type 1} → statement M
 commit_spec =
     tie.close
     (tie.spec
     (λ c. search known)  -- enum-known-answer
-    (λ c κs. ((start₁ c).requires.within, (start₁ c).pre.room _ c.before.before.answer.given.1))  -- gain-after-requires
+    (λ c κs. (c.before.before.before.before.before.before.requires.within, c.before.before.before.before.before.before.requires.room _ c.before.before.answer.given.1))  -- gain-after-requires
     (λ c. search known)  -- enum-known-answer-2
     (λ c. search known)  -- same-length
-    (λ c. commit_gains _ _ _ _ _ _ (at_answer₂ c).answer.given.1 c.before.before.gain-after.ensures)  -- returns
+    (λ c. commit_gains _ _ _ _ _ _ c.before.before.before.before.before.answer.given.1 c.before.before.gain-after.ensures)  -- returns
     (λ c. commit_refused _ _ _ _ _ c.before.answer2.given.1))  -- returns_2

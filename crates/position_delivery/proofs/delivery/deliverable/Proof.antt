@@ -6,13 +6,6 @@ use Rattle.position_delivery.proofs.delivery.deliverable.Tie as tie
 
 ruleset known = (loops)
 
--- The places that the answers look back to.
-abbrev at_global_velocity_impulse₁ : tie.After-enum-told2 → tie.After-global-velocity-impulse
-at_global_velocity_impulse₁ c = c.before.before.before.before
-
-abbrev at_global_velocity_impulse₂ : tie.After-moved-finite → tie.After-global-velocity-impulse
-at_global_velocity_impulse₂ c = c.before.before.before.before.before.before.before
-
 pub deliverable_spec : {M : Type 1} → statement M
 deliverable_spec =
     tie.close
@@ -21,13 +14,8 @@ deliverable_spec =
     (λ c. search known)  -- enum_told
     (λ c. search known)  -- enum-told-2
     (λ c. search known)  -- same-length
-    (λ c.
-    judged_overflow _ _ _ _ _ _ _ (at_global_velocity_impulse₁ c).global-velocity-impulse.ensures _ _ _ _
-    c.enum-told2.given.1)  -- returns
+    (λ c. judged_overflow _ _ _ _ _ _ _ c.before.before.before.before.global-velocity-impulse.ensures _ _ _ _ c.enum-told2.given.1)  -- returns
     (λ c κs. search known)  -- multipliers-finite-requires
     (λ c κs. search known)  -- moved-finite-requires
     (λ c. search known)  -- same-length-2
-    (λ c.
-    judged_finite _ _ _ _ _ _ _ (at_global_velocity_impulse₂ c).global-velocity-impulse.ensures _ _ _ _ _ _
-    (search known) c.before.before.before.enum_told.given.1
-    c.before.before.multipliers-finite.ensures c.moved_finite.ensures))  -- returns_2
+    (λ c. judged_finite _ _ _ _ _ _ _ c.before.before.before.before.before.before.before.global-velocity-impulse.ensures _ _ _ _ _ _ (search known) c.before.before.before.enum_told.given.1 c.before.before.multipliers-finite.ensures c.moved_finite.ensures))  -- returns_2

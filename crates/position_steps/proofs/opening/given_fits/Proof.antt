@@ -7,13 +7,6 @@ use Rattle.position_steps.proofs.opening.given_fits.Tie as tie
 
 ruleset known = (loops)
 
--- The places that the answers look back to.
-abbrev start₁ : tie.After-wide → tie.Start
-start₁ c = c.before.before.before.before
-
-abbrev start₂ : tie.After-residuals-finite → tie.Start
-start₂ c = c.before.before.before.before.before
-
 pub given_fits_spec : {M : Type 1} → statement M
 given_fits_spec =
     tie.close
@@ -21,10 +14,6 @@ given_fits_spec =
     (λ c. search known)  -- enum_told
     (λ c. search known)  -- enum-told-2
     (λ c κs. search known)  -- wide-requires
-    (λ c κs. omega (arith, (start₁ c).pre.long c.before.enum-told2.given.1, c.wide.ensures))  -- residuals-finite-requires
-    (λ c.
-    given_none c.before.before.before.args.kind c.before.before.before.args.given.now
-    c.before.before.before.args.rows c.enum_told.given.1)  -- returns
-    (λ c.
-    given_rows (start₂ c).args.kind (start₂ c).args.given.now (start₂ c).args.rows _ _
-    c.before.before.enum-told2.given.1 c.before.wide.ensures c.residuals-finite.ensures))  -- returns_2
+    (λ c κs. omega (arith, c.before.before.before.before.requires.long c.before.enum-told2.given.1, c.wide.ensures))  -- residuals-finite-requires
+    (λ c. given_none c.before.before.before.args.kind c.before.before.before.args.given.now c.before.before.before.args.rows c.enum_told.given.1)  -- returns
+    (λ c. given_rows c.before.before.before.before.before.args.kind c.before.before.before.before.before.args.given.now c.before.before.before.before.before.args.rows _ _ c.before.before.enum-told2.given.1 c.before.wide.ensures c.residuals-finite.ensures))  -- returns_2

@@ -6,19 +6,6 @@ use Rattle.position_steps.proofs.opening.opens.Tie as tie
 
 ruleset known = (loops)
 
--- The places that the answers look back to.
-abbrev at_if2₁ : tie.After-rows-open → tie.Else2
-at_if2₁ c = c.before.before.before.before
-
-abbrev at_if1₁ : tie.After-rows-open → tie.Else1
-at_if1₁ c = (at_if2₁ c).before
-
-abbrev at_if2₂ : tie.After-velocity-rows-open → tie.Else2
-at_if2₂ c = c.before.before.before.before
-
-abbrev at_if1₂ : tie.After-velocity-rows-open → tie.Else1
-at_if1₂ c = (at_if2₂ c).before
-
 pub opens_spec : {M : Type 1} → statement M
 opens_spec =
     tie.close
@@ -31,9 +18,5 @@ opens_spec =
     (λ c. search known)  -- enum-told-2
     (λ c κs. search known)  -- wide-requires-2
     (λ c κs. search known)  -- velocity-rows-open-requires
-    (λ c.
-    opens_position _ _ _ _ _ _ _ (at_if1₁ c).if1.false (at_if2₁ c).if2.false c.before.wide.ensures
-    c.before.before.enum_told.given.1 c.rows-open.ensures)  -- returns-3
-    (λ c.
-    opens_velocity _ _ _ _ _ _ _ (at_if1₂ c).if1.false (at_if2₂ c).if2.false c.before.wide2.ensures
-    c.before.before.enum-told2.given.1 c.velocity-rows-open.ensures))  -- returns-4
+    (λ c. opens_position _ _ _ _ _ _ _ c.before.before.before.before.before.if1.false c.before.before.before.before.if2.false c.before.wide.ensures c.before.before.enum_told.given.1 c.rows-open.ensures)  -- returns-3
+    (λ c. opens_velocity _ _ _ _ _ _ _ c.before.before.before.before.before.if1.false c.before.before.before.before.if2.false c.before.wide2.ensures c.before.before.enum-told2.given.1 c.velocity-rows-open.ensures))  -- returns-4

@@ -4,16 +4,6 @@ use Rattle.position_steps.proofs.AtOnce.{row_unready, row_ruled, fit_words}
 use Rattle.position_steps.proofs.ready.row_ready_at.Statement.{statement}
 use Rattle.position_steps.proofs.ready.row_ready_at.Tie as tie
 
--- The places that the answers look back to.
-abbrev at_words_at₁ : tie.Then1 → tie.After-words-at
-at_words_at₁ c = c.before.before.before.before
-
-abbrev at_scalars_at₂ : tie.After-one-rule-of → tie.After-scalars-at
-at_scalars_at₂ c = c.before.before.before.before
-
-abbrev at_words_at₂ : tie.After-one-rule-of → tie.After-words-at
-at_words_at₂ c = (at_scalars_at₂ c).before
-
 pub row_ready_at_spec : {M : Type 1} → statement M
 row_ready_at_spec =
     tie.close
@@ -25,11 +15,6 @@ row_ready_at_spec =
     (λ c κs. search rules)  -- scalars-at-requires
     (λ c κs. search rules)  -- row-words-fit-requires
     (λ c κs. search rules)  -- opens-by-kind-requires
-    (λ c.
-    row_unready _ _ _ _ _ (at_words_at₁ c).words_at.ensures c.before.before.before.scalars-at.ensures
-    c.before.before.row-words-fit.ensures c.before.opens-by-kind.ensures c.if1.true)  -- returns
+    (λ c. row_unready _ _ _ _ _ c.before.before.before.before.words_at.ensures c.before.before.before.scalars-at.ensures c.before.before.row-words-fit.ensures c.before.opens-by-kind.ensures c.if1.true)  -- returns
     (λ c κs. (search rules, (search rules, fit_words _ _ c.before.before.row-words-fit.ensures c.if1.false)))  -- one-rule-of-requires
-    (λ c.
-    row_ruled _ _ _ _ _ (at_words_at₂ c).words_at.ensures (at_scalars_at₂ c).scalars-at.ensures
-    c.before.before.before.row-words-fit.ensures c.before.before.opens-by-kind.ensures
-    c.before.if1.false c.one-rule-of.ensures))  -- returns_2
+    (λ c. row_ruled _ _ _ _ _ c.before.before.before.before.before.words_at.ensures c.before.before.before.before.scalars-at.ensures c.before.before.before.row-words-fit.ensures c.before.before.opens-by-kind.ensures c.before.if1.false c.one-rule-of.ensures))  -- returns_2

@@ -8,26 +8,16 @@ use Rattle.preconditioner.proofs.apply.solve_factor.Tie as tie
 
 ruleset known = (loops)
 
--- The places that the answers look back to.
-abbrev start₁ : tie.After-solve-arg → tie.Start
-start₁ c = c.before.before.before.before.before.before.before
-
-abbrev start₂ : tie.After-solve-arg3 → tie.Start
-start₂ c = c.before.before.before.before.before.before.before.before.before
-
 pub solve_factor_spec : {M : Type 1} → statement M
 solve_factor_spec =
     tie.close
     (tie.spec
     (λ c. search known)  -- add-ends
-    (λ c. sym (length-take-le _ _ (ends_within _ _ _ (start₁ c).requires.0)))  -- slice-aggregate-solve
+    (λ c. sym (length-take-le _ _ (ends_within _ _ _ c.before.before.before.before.before.before.before.requires.0)))  -- slice-aggregate-solve
     (λ c. search known)  -- mul-solve
     (λ c. search known)  -- sub-solve
-    (λ c. ends_within _ _ _ (start₁ c).requires.0)  -- part-solve-start
+    (λ c. ends_within _ _ _ c.before.before.before.before.before.before.before.requires.0)  -- part-solve-start
     (λ c. search known)  -- part-solve-end
-    (λ c κs. (
-      index_lent _ _ _ (start₂ c).requires.0,
-      (order_lent _ _ _ (start₂ c).requires.0, (sym (columns_are _ _ _ (start₂ c).requires.0), (start₂ c).requires.1)),
-    ))  -- solve-requires
+    (λ c κs. (index_lent _ _ _ c.before.before.before.before.before.before.before.before.before.requires.0, (order_lent _ _ _ c.before.before.before.before.before.before.before.before.before.requires.0, (sym (columns_are _ _ _ c.before.before.before.before.before.before.before.before.before.requires.0), c.before.before.before.before.before.before.before.before.before.requires.1))))  -- solve-requires
     (λ c. search known)  -- same-length
     (λ c. solved_lent _ _ _ _ _ _ c.before.before.solve.ensures.0))  -- returns

@@ -6,13 +6,6 @@ use Rattle.proposals.proofs.Judging.{committed_done, committed_refused, passed_l
 use Rattle.proposals.proofs.commit.commit_proposal.Statement.{statement}
 use Rattle.proposals.proofs.commit.commit_proposal.Tie as tie
 
--- The places that the answers look back to.
-abbrev at_if1 : tie.After-slice-known4 → tie.Else1
-at_if1 c = c.before.before.before.before.before
-
-abbrev at_judge_commit : tie.After-slice-known4 → tie.After-judge-commit
-at_judge_commit c = (at_if1 c).before
-
 pub commit_proposal_spec : {M : Type 1} → statement M
 commit_proposal_spec =
     tie.close
@@ -21,18 +14,9 @@ commit_proposal_spec =
     (λ c. search loops)  -- same-length
     (λ c. search loops)  -- same-length-2
     (λ c. committed_refused _ _ _ _ _ c.before.judge-commit.ensures c.if1.true)  -- returns
-    (λ c.
-    let l = passed_lengths _ _ _ _ _ c.before.before.judge-commit.ensures c.before.if1.false in
-    omega (arith, l.0))  -- slice-read-gain-after
-    (λ c κs.
-    let l = passed_lengths _ _ _ _ _ c.before.before.before.judge-commit.ensures
-    c.before.before.if1.false in
-    (omega arith, l.1))  -- gain-after-requires
-    (λ c.
-    let l = passed_lengths _ _ _ _ _ (at_judge_commit c).judge-commit.ensures (at_if1 c).if1.false in
-    omega (arith, l.0))  -- slice-write-proposal
+    (λ c. let l = passed_lengths _ _ _ _ _ c.before.before.judge-commit.ensures c.before.if1.false in omega (arith, l.0))  -- slice-read-gain-after
+    (λ c κs. let l = passed_lengths _ _ _ _ _ c.before.before.before.judge-commit.ensures c.before.before.if1.false in (omega arith, l.1))  -- gain-after-requires
+    (λ c. let l = passed_lengths _ _ _ _ _ c.before.before.before.before.before.before.judge-commit.ensures c.before.before.before.before.before.if1.false in omega (arith, l.0))  -- slice-write-proposal
     (λ c. search loops)  -- same-length-3
     (λ c. search loops)  -- same-length-4
-    (λ c.
-    committed_done _ _ _ _ _ (at_judge_commit c).judge-commit.ensures (at_if1 c).if1.false
-    c.before.before.gain-after.ensures refl))  -- returns_2
+    (λ c. committed_done _ _ _ _ _ c.before.before.before.before.before.before.judge-commit.ensures c.before.before.before.before.before.if1.false c.before.before.gain-after.ensures refl))  -- returns_2

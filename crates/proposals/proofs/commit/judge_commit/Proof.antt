@@ -8,22 +8,6 @@ use Rattle.proposals.proofs.Judging.{lent_lengths}
 use Rattle.proposals.proofs.commit.judge_commit.Statement.{statement}
 use Rattle.proposals.proofs.commit.judge_commit.Tie as tie
 
--- The places that the answers look back to.
-abbrev at_commit_lent₁ : tie.After-shared-slice-known6 → tie.After-commit-lent
-at_commit_lent₁ c = c.before.before.before.before
-
-abbrev at_if1₂ : tie.Then3 → tie.Else1
-at_if1₂ c = c.before.before.before.before.before
-
-abbrev at_commit_lent₂ : tie.Then3 → tie.After-commit-lent
-at_commit_lent₂ c = (at_if1₂ c).before
-
-abbrev at_if1₃ : tie.Else3 → tie.Else1
-at_if1₃ c = c.before.before.before.before.before
-
-abbrev at_commit_lent₃ : tie.Else3 → tie.After-commit-lent
-at_commit_lent₃ c = (at_if1₃ c).before
-
 pub judge_commit_spec : {M : Type 1} → statement M
 unfolding commit_tests numbered
 judge_commit_spec =
@@ -31,25 +15,9 @@ judge_commit_spec =
     (tie.spec
     (λ c κs. search loops)  -- commit-lent-requires
     (λ c. judge_fail 3 _ _ c.before.commit-lent.ensures c.if1.true)  -- returns
-    (λ c.
-    let l = lent_lengths _ _ _ _ _ c.before.before.commit-lent.ensures c.before.if1.false in
-    omega (arith, l.0))  -- shared-slice-read-if2
-    (λ c.
-    judge_pass 3 _ _ c.before.before.before.commit-lent.ensures c.before.before.if1.false
-    (judge_fail 29 _ _ refl c.if2.true))  -- returns_2
-    (λ c.
-    let l = lent_lengths _ _ _ _ _ (at_commit_lent₁ c).commit-lent.ensures
-    c.before.before.before.if1.false in
-    omega (arith, l.0))  -- shared-slice-read-starts-from
-    (λ c κs.
-    let l = lent_lengths _ _ _ _ _ (at_commit_lent₁ c).commit-lent.ensures
-    c.before.before.before.if1.false in
-    (l.1, l.3))  -- starts-from-requires
-    (λ c.
-    judge_pass 3 _ _ (at_commit_lent₂ c).commit-lent.ensures (at_if1₂ c).if1.false
-    (judge_pass 29 _ _ refl c.before.before.before.if2.false
-    (judge_fail 30 _ _ c.before.starts_from.ensures c.if3.true)))  -- returns-3
-    (λ c.
-    judge_pass 3 _ _ (at_commit_lent₃ c).commit-lent.ensures (at_if1₃ c).if1.false
-    (judge_pass 29 _ _ refl c.before.before.before.if2.false
-    (judge_pass 30 _ _ c.before.starts_from.ensures c.if3.false judge_done))))  -- returns-4
+    (λ c. let l = lent_lengths _ _ _ _ _ c.before.before.commit-lent.ensures c.before.if1.false in omega (arith, l.0))  -- shared-slice-read-if2
+    (λ c. judge_pass 3 _ _ c.before.before.before.commit-lent.ensures c.before.before.if1.false (judge_fail 29 _ _ refl c.if2.true))  -- returns_2
+    (λ c. let l = lent_lengths _ _ _ _ _ c.before.before.before.before.commit-lent.ensures c.before.before.before.if1.false in omega (arith, l.0))  -- shared-slice-read-starts-from
+    (λ c κs. let l = lent_lengths _ _ _ _ _ c.before.before.before.before.commit-lent.ensures c.before.before.before.if1.false in (l.1, l.3))  -- starts-from-requires
+    (λ c. judge_pass 3 _ _ c.before.before.before.before.before.before.commit-lent.ensures c.before.before.before.before.before.if1.false (judge_pass 29 _ _ refl c.before.before.before.if2.false (judge_fail 30 _ _ c.before.starts_from.ensures c.if3.true)))  -- returns-3
+    (λ c. judge_pass 3 _ _ c.before.before.before.before.before.before.commit-lent.ensures c.before.before.before.before.before.if1.false (judge_pass 29 _ _ refl c.before.before.before.if2.false (judge_pass 30 _ _ c.before.starts_from.ensures c.if3.false judge_done))))  -- returns-4

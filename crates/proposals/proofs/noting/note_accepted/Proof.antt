@@ -5,35 +5,19 @@ use Rattle.proposals.proofs.Noted.{started_left, started_noted, words_left, word
 use Rattle.proposals.proofs.noting.note_accepted.Statement.{statement}
 use Rattle.proposals.proofs.noting.note_accepted.Tie as tie
 
--- The places that the answers look back to.
-abbrev start₁ : tie.After-known-told → tie.Start
-start₁ c = c.before.before.before.before.before.before
-
-abbrev start₂ : tie.After-copy-multipliers-arg → tie.Start
-start₂ c = c.before.before.before.before.before.before.before.before
-
-abbrev at_answer₃ : tie.After-slice-known3 → tie.After-answer
-at_answer₃ c = c.before.before.before.before.before.before
-
-abbrev start₃ : tie.After-slice-known3 → tie.Start
-start₃ c = (at_answer₃ c).before.before.before.before.before
-
 pub note_accepted_spec : {M : Type 1} → statement M
 note_accepted_spec =
     tie.close
     (tie.spec
     (λ c. search loops)  -- enum-known-answer
-    (λ c. omega (arith, (start₁ c).requires.four))  -- slice-write-proposal
+    (λ c. omega (arith, c.before.before.before.before.before.before.requires.four))  -- slice-write-proposal
     (λ c. search loops)  -- cast-proposal
     (λ c. search loops)  -- slice-write-proposal-2
     (λ c. search loops)  -- slice-write-proposal-3
     (λ c. search loops)  -- slice-write-proposal-4
-    (λ c κs. (start₂ c).pre.room _ c.before.before.before.answer.given.1)  -- copy-multipliers-requires
+    (λ c κs. c.before.before.before.before.before.before.before.before.requires.room _ c.before.before.before.answer.given.1)  -- copy-multipliers-requires
     (λ c. search loops)  -- enum-known-answer-2
     (λ c. search loops)  -- same-length
     (λ c. search loops)  -- same-length-2
-    (λ c. (
-      words_noted _ _ _ _ (at_answer₃ c).answer.given.1 (start₃ c).requires.four,
-      started_noted _ _ _ _ _ _ (at_answer₃ c).answer.given.1 c.before.before.copy-multipliers.ensures,
-    ))  -- returns
+    (λ c. (words_noted _ _ _ _ c.before.before.before.before.before.before.answer.given.1 c.before.before.before.before.before.before.before.before.before.before.before.requires.four, started_noted _ _ _ _ _ _ c.before.before.before.before.before.before.answer.given.1 c.before.before.copy-multipliers.ensures))  -- returns
     (λ c. (words_left _ _ _ _ c.before.answer2.given.1, started_left _ _ _ _ _ c.before.answer2.given.1)))  -- returns_2

@@ -1,6 +1,6 @@
 -- `recurrence::diagonal::update_row` meets its contract. Assumes nothing.
 use borrow.Author.Rules.{rules}
-use Rattle.recurrence.proofs.OnePass.{one_row_lem}
+use Rattle.recurrence.proofs.OnePass.{one_row}
 use Rattle.recurrence.proofs.diagonal.update_row.Statement.{statement}
 use Rattle.recurrence.proofs.diagonal.update_row.Tie as tie
 
@@ -28,4 +28,4 @@ update_row_spec =
     (λ c. search rules)  -- same-length
     (λ c. search rules)  -- same-length-2
     (λ c. search rules)  -- same-length-3
-    (λ c. one_row_lem _ _ _ _ _ _ _ _ _ _ c.before.before.is_finite_lem.ensures))  -- returns
+    (λ c. one_row _ _ _ _ _ _ _ _ _ _ c.before.before.is_finite_lem.ensures))  -- returns

@@ -7,10 +7,6 @@ use Rattle.recurrence.proofs.length.step_length.Tie as tie
 
 ruleset known = (loops)
 
--- The places that the answers look back to.
-abbrev at_global_velocity_matrix_vector : tie.After-alpha → tie.After-global-velocity-matrix-vector
-at_global_velocity_matrix_vector c = c.before.before.before.before.before
-
 pub step_length_spec : {M : Type 1} → statement M
 step_length_spec =
     tie.close
@@ -19,8 +15,4 @@ step_length_spec =
     (λ c κs. search known)  -- alpha-requires
     (λ c. search known)  -- same-length
     (λ c. search known)  -- same-length-2
-    (λ c. (
-      length_is _ _ _ _ _ _ (at_global_velocity_matrix_vector c).global-velocity-matrix-vector.ensures refl
-          c.alpha.ensures,
-      product_left _ _ _ _ _ (at_global_velocity_matrix_vector c).global-velocity-matrix-vector.ensures,
-    )))  -- returns
+    (λ c. (length_is _ _ _ _ _ _ c.before.before.before.before.before.global-velocity-matrix-vector.ensures refl c.alpha.ensures, product_left _ _ _ _ _ c.before.before.before.before.before.global-velocity-matrix-vector.ensures)))  -- returns

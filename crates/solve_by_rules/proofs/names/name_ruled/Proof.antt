@@ -4,23 +4,13 @@ use Rattle.solve_by_rules.proofs.Naming.{named_accepted, named_refused}
 use Rattle.solve_by_rules.proofs.names.name_ruled.Statement.{statement}
 use Rattle.solve_by_rules.proofs.names.name_ruled.Tie as tie
 
--- The places that the answers look back to.
-abbrev start₁ : tie.After-name-only-rules-arg → tie.Start
-start₁ c = c.before.before.before.before.before.before.before.before
-
-abbrev at_answer₂ : tie.After-slice-known2 → tie.After-answer
-at_answer₂ c = c.before.before.before.before.before
-
 pub name_ruled_spec : {M : Type 1} → statement M
 name_ruled_spec =
     tie.close
     (tie.spec
     (λ c. search loops)  -- enum-known-answer
-    (λ c κs. (
-      ((start₁ c).pre.1.room _ c.before.before.answer.given.1, (start₁ c).requires.0.0, (start₁ c).requires.0.1),
-      (start₁ c).pre.1.ruled _ c.before.before.answer.given.1,
-    ))  -- name-only-rules-requires
+    (λ c κs. ((c.before.before.before.before.before.before.before.before.requires.1.room _ c.before.before.answer.given.1, c.before.before.before.before.before.before.before.before.requires.0.0, c.before.before.before.before.before.before.before.before.requires.0.1), c.before.before.before.before.before.before.before.before.requires.1.ruled _ c.before.before.answer.given.1))  -- name-only-rules-requires
     (λ c. search loops)  -- enum-known-answer-2
     (λ c. search loops)  -- same-length
-    (λ c. named_accepted _ _ _ _ (at_answer₂ c).answer.given.1 c.before.before.name-only-rules.ensures)  -- returns
+    (λ c. named_accepted _ _ _ _ c.before.before.before.before.before.answer.given.1 c.before.before.name-only-rules.ensures)  -- returns
     (λ c. named_refused _ _ _ _ c.before.answer2.given.1))  -- returns_2

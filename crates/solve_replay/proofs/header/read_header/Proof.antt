@@ -30,17 +30,4 @@ read_header_spec =
     (λ c κs. search rules)  -- word-requires-3
     (λ c. search rules)  -- add-word-4
     (λ c κs. search rules)  -- word-requires-4
-    (λ c.
-    rw (
-      c.word4.ensures,
-      c.before.word3.ensures,
-      c.before.before.word2.ensures,
-      c.before.before.before.word.ensures,
-      c.before.before.before.before.short7.ensures,
-      c.before.before.before.before.before.short6.ensures,
-      c.before.before.before.before.before.before.short5.ensures,
-      c.before.before.before.before.before.before.before.short4.ensures,
-      c.before.before.before.before.before.before.before.before.short3.ensures,
-      c.before.before.before.before.before.before.before.before.before.short2.ensures,
-      c.before.before.before.before.before.before.before.before.before.before.short.ensures,
-    )))  -- returns
+    (λ c. rw (c.word4.ensures, c.before.word3.ensures, c.before.before.word2.ensures, c.before.before.before.word.ensures, c.before.before.before.before.short7.ensures, c.before.before.before.before.before.short6.ensures, c.before.before.before.before.before.before.short5.ensures, c.before.before.before.before.before.before.before.short4.ensures, c.before.before.before.before.before.before.before.before.short3.ensures, c.before.before.before.before.before.before.before.before.before.short2.ensures, c.before.before.before.before.before.before.before.before.before.before.short.ensures)))  -- returns

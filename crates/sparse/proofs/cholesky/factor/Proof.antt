@@ -13,8 +13,7 @@ use Rattle.sparse.proofs.cholesky.factor.Statement.{statement}
 use Rattle.sparse.proofs.cholesky.factor.Tie as tie
 
 abbrev invariant-loop : tie.invariant-loop
-invariant-loop starts columns values₀ pivots₀ marks₀ n i₀ values pivots marks i = (length values ≡ length values₀) ×
-    (length pivots ≡ length pivots₀) × (length marks ≡ length marks₀) × AtMost marks (start starts i)
+invariant-loop starts columns values₀ pivots₀ marks₀ n i₀ values pivots marks i = (length values ≡ length values₀) × (length pivots ≡ length pivots₀) × (length marks ≡ length marks₀) × AtMost marks (start starts i)
     × At row_turn (numbers starts columns values₀, pivots₀) (length pivots₀) i (numbers starts columns values, pivots)
 
 abbrev decreases-loop : tie.decreases-loop

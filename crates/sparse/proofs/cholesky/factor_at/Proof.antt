@@ -6,26 +6,13 @@ use Rattle.sparse.proofs.cholesky.factor_at.Tie as tie
 
 ruleset known = (column_on, column_out_lem, row_marks, loops)
 
--- The places that the answers look back to.
-abbrev start₁ : tie.Then1 → tie.Start
-start₁ c = c.before.before.before.before.before.before.before.before.before.before.before.before.before.before.before.before.before.before
-
-abbrev start₂ : tie.Else1 → tie.Start
-start₂ c = c.before.before.before.before.before.before.before.before.before.before.before.before.before.before.before.before.before.before
-
 pub factor_at_spec : {M : Type 1} → statement M
 factor_at_spec =
     tie.close
     (tie.spec
     (λ c κs. search known)  -- earlier-requires
     (λ c κs. search known)  -- number-requires
-    (λ c κs. (
-      search known,
-      (
-        search known,
-        (search known, (search known, (search known, (search known, (search known, search known))))),
-      ),
-    ))  -- reduced-requires
+    (λ c κs. (search known, (search known, (search known, (search known, (search known, (search known, (search known, search known))))))))  -- reduced-requires
     (λ c. search known)  -- mul-factor
     (λ c. search known)  -- shared-slice-read-factor
     (λ c κs. search known)  -- write-requires
@@ -34,9 +21,7 @@ factor_at_spec =
     (λ c κs. search known)  -- is-finite-requires
     (λ c. search known)  -- same-length
     (λ c. search known)  -- same-length-2
-    (λ c.
-    let pre = (start₁ c).pre in (search (known, pre), (search (known, pre), search (written_there, loops, pre))))  -- returns
+    (λ c. let pre = c.before.before.before.before.before.before.before.before.before.before.before.before.before.before.before.before.before.before.requires in (search (known, pre), (search (known, pre), search (written_there, loops, pre))))  -- returns
     (λ c. search known)  -- same-length-3
     (λ c. search known)  -- same-length-4
-    (λ c.
-    let pre = (start₂ c).pre in (search (known, pre), (search (known, pre), search (written_there, loops, pre)))))  -- returns_2
+    (λ c. let pre = c.before.before.before.before.before.before.before.before.before.before.before.before.before.before.before.before.before.before.requires in (search (known, pre), (search (known, pre), search (written_there, loops, pre)))))  -- returns_2

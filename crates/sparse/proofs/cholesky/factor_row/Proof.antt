@@ -22,22 +22,6 @@ decreases-loop starts columns values₀ pivots marks₀ i first end rest₀ p₀
 
 ruleset known = (column_skip, turn_on, turn_out, row_marked, row_most, row_most_out, less_skip, reduced_out_lem, reduced_end, hops)
 
--- The places that the answers look back to.
-abbrev at_factor_at : tie.After-number invariant-loop decreases-loop → tie.After-factor-at invariant-loop decreases-loop
-at_factor_at c = c.before.before.before.before.before.before.before.before
-
-abbrev at_loop_test : tie.After-number invariant-loop decreases-loop → tie.In-loop invariant-loop decreases-loop
-at_loop_test c = (at_factor_at c).before.before.before
-
-abbrev at_loop : tie.After-number invariant-loop decreases-loop → tie.At-loop invariant-loop decreases-loop
-at_loop c = (at_loop_test c).before
-
-abbrev at_row : tie.After-number invariant-loop decreases-loop → tie.After-row invariant-loop decreases-loop
-at_row c = (at_loop c).before.before
-
-abbrev start : tie.After-number invariant-loop decreases-loop → tie.Start invariant-loop decreases-loop
-start c = (at_row c).before.before.before.before.before.before
-
 pub factor_row_spec : {M : Type 1} → statement M
 unfolding factors_run
 factor_row_spec =
@@ -48,13 +32,7 @@ factor_row_spec =
     (λ c. search known)  -- shared-slice-read-rest
     (λ c. (search known, search known, search known, search known, search known))  -- loop-holds
     (λ c. search known)  -- add-mark
-    (λ c κs. (
-      search known,
-      (
-        search known,
-        (search known, (search known, (search known, (search known, (search known, search known))))),
-      ),
-    ))  -- factor-at-requires
+    (λ c κs. (search known, (search known, (search known, (search known, (search known, (search known, (search known, search known))))))))  -- factor-at-requires
     (λ c. search known)  -- enum-told
     (λ c. search known)  -- enum-told-2
     (λ c. search known)  -- same-length
@@ -62,15 +40,7 @@ factor_row_spec =
     (λ c. (search known, search known))  -- returns
     (λ c κs. search known)  -- number-requires
     (λ c. search known)  -- loop-less
-    (λ c. (
-      search known,
-      search known,
-      search known,
-      search known,
-      squares_more (at_row c).row.ensures _ _ _ _ _ _ (at_loop c).loop.invariant.4
-          (at_loop_test c).loop-test.true ((at_loop c).loop.invariant.0 ∙ (start c).requires.1.0)
-          (at_factor_at c).factor-at.ensures.1.1 c.number.ensures,
-    ))  -- loop-again
+    (λ c. (search known, search known, search known, search known, squares_more c.before.before.before.before.before.before.before.before.before.before.before.before.before.before.row.ensures _ _ _ _ _ _ c.before.before.before.before.before.before.before.before.before.before.before.before.loop.invariant.4 c.before.before.before.before.before.before.before.before.before.before.before.loop-test.true (c.before.before.before.before.before.before.before.before.before.before.before.before.loop.invariant.0 ∙ c.before.before.before.before.before.before.before.before.before.before.before.before.before.before.before.before.before.before.before.before.requires.1.0) c.before.before.before.before.before.before.before.before.factor-at.ensures.1.1 c.number.ensures))  -- loop-again
     (λ c. search known)  -- same-length-3
     (λ c. search known)  -- same-length-4
     (λ c. (search known, search known)))  -- returns_2

@@ -7,13 +7,6 @@ use Rattle.sparse.proofs.cholesky.row_at.Tie as tie
 
 ruleset known = (row_refused, row_unfit, row_on, fit_of, loops)
 
--- The places that the answers look back to.
-abbrev at_rest : tie.After-pivot-root → tie.After-rest
-at_rest c = c.before.before.before.before
-
-abbrev at_factor_row : tie.After-pivot-root → tie.After-factor-row
-at_factor_row c = (at_rest c).before.before.before.before.before.before
-
 pub row_at_spec : {M : Type 1} → statement M
 row_at_spec =
     tie.close
@@ -36,8 +29,4 @@ row_at_spec =
     (λ c. search known)  -- same-length-7
     (λ c. search known)  -- same-length-8
     (λ c. search known)  -- same-length-9
-    (λ c. (
-      row_on _ _ _ _ _ (at_factor_row c).factor-row.ensures.0 _ _ (at_rest c).rest.given.1
-          c.before.before.is-fit.ensures _ c.before.if1.false c.pivot_root.ensures,
-      (at_factor_row c).factor-row.ensures.1,
-    )))  -- returns-3
+    (λ c. (row_on _ _ _ _ _ c.before.before.before.before.before.before.before.before.before.before.factor-row.ensures.0 _ _ c.before.before.before.before.rest.given.1 c.before.before.is-fit.ensures _ c.before.if1.false c.pivot_root.ensures, c.before.before.before.before.before.before.before.before.before.before.factor-row.ensures.1)))  -- returns-3

@@ -10,20 +10,12 @@ use Rattle.triangular.proofs.substitution.along_column.Statement.{statement}
 use Rattle.triangular.proofs.substitution.along_column.Tie as tie
 
 abbrev invariant-loop : tie.invariant-loop
-invariant-loop value starts columns order rows count values output j first end rest₀ q₀ rest q = Hops
-    (plain (along_turn (transposed (numbers starts columns values) j) output)) value (homes order rows) first end rows q rest
+invariant-loop value starts columns order rows count values output j first end rest₀ q₀ rest q = Hops (plain (along_turn (transposed (numbers starts columns values) j) output)) value (homes order rows) first end rows q rest
 
 abbrev decreases-loop : tie.decreases-loop
 decreases-loop value starts columns order rows count values output j first end rest₀ q₀ rest q = end - q
 
 ruleset known = (down_rising, down_skip, down_way, hops)
-
--- The places that the answers look back to.
-abbrev at_loop : tie.After-term invariant-loop decreases-loop → tie.At-loop invariant-loop decreases-loop
-at_loop c = c.before.before.before.before
-
-abbrev at_column_stretch : tie.After-term invariant-loop decreases-loop → tie.After-column-stretch invariant-loop decreases-loop
-at_column_stretch c = (at_loop c).before
 
 pub along_column_spec : {M : Type 1} → statement M
 along_column_spec =
@@ -36,12 +28,5 @@ along_column_spec =
     (λ c κs. (search known, search known))  -- term-requires
     (λ c. search known)  -- add-q
     (λ c. search known)  -- loop-less
-    (λ c.
-    let inv = (at_loop c).loop.inv in
-    let t = c.before.before.before.loop-test.true in
-    let s = (at_column_stretch c).column-stretch.ensures in
-    hop_more inv t
-    (down_way s _ _ _ _ _ _ _ inv.from t c.before.before.place_at.ensures.0
-    c.before.home.ensures.0 c.term.ensures)
-    (down_skip s _ _ _))  -- loop-again
+    (λ c. let inv = c.before.before.before.before.loop.invariant in let t = c.before.before.before.loop-test.true in let s = c.before.before.before.before.before.column-stretch.ensures in hop_more inv t (down_way s _ _ _ _ _ _ _ inv.from t c.before.before.place_at.ensures.0 c.before.home.ensures.0 c.term.ensures) (down_skip s _ _ _))  -- loop-again
     (λ c. search known))  -- returns

@@ -10,8 +10,7 @@ use Rattle.triangular.proofs.substitution.backward.Statement.{statement}
 use Rattle.triangular.proofs.substitution.backward.Tie as tie
 
 abbrev invariant-loop : tie.invariant-loop
-invariant-loop starts columns order count values pivots output₀ rows t₀ output t = (length output ≡ length output₀) × At
-    (backward_turn (numbers starts columns values) pivots) output₀ (length pivots) t output
+invariant-loop starts columns order count values pivots output₀ rows t₀ output t = (length output ≡ length output₀) × At (backward_turn (numbers starts columns values) pivots) output₀ (length pivots) t output
 
 abbrev decreases-loop : tie.decreases-loop
 decreases-loop starts columns order count values pivots output₀ rows t₀ output t = length output₀ - t

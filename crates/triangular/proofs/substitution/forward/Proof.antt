@@ -10,8 +10,7 @@ use Rattle.triangular.proofs.substitution.forward.Statement.{statement}
 use Rattle.triangular.proofs.substitution.forward.Tie as tie
 
 abbrev invariant-loop : tie.invariant-loop
-invariant-loop starts columns values pivots residual output₀ i₀ output i = (length output ≡ length output₀) × At
-    (forward_turn (numbers starts columns values) pivots residual) output₀ (length residual) i output
+invariant-loop starts columns values pivots residual output₀ i₀ output i = (length output ≡ length output₀) × At (forward_turn (numbers starts columns values) pivots residual) output₀ (length residual) i output
 
 abbrev decreases-loop : tie.decreases-loop
 decreases-loop starts columns values pivots residual output₀ i₀ output i = length residual - i

@@ -4,10 +4,6 @@ use Rattle.triangular.proofs.Down.{down_home}
 use Rattle.triangular.proofs.substitution.home.Statement.{statement}
 use Rattle.triangular.proofs.substitution.home.Tie as tie
 
--- The places that the answers look back to.
-abbrev start : tie.After-wide2 → tie.Start
-start c = c.before.before.before.before.before.before
-
 pub home_spec : {M : Type 1} → statement M
 home_spec =
     tie.close
@@ -19,6 +15,4 @@ home_spec =
     (λ c. search rules)  -- mul-wide-2
     (λ c. search rules)  -- shared-slice-read-wide
     (λ c κs. search rules)  -- wide-requires-2
-    (λ c.
-    down_home (start c).requires.0 _ _ _ c.before.before.wide.ensures c.wide2.ensures (start c).requires.1.0
-    (start c).requires.1.1))  -- returns
+    (λ c. down_home c.before.before.before.before.before.before.requires.0 _ _ _ c.before.before.wide.ensures c.wide2.ensures c.before.before.before.before.before.before.requires.1.0 c.before.before.before.before.before.before.requires.1.1))  -- returns

@@ -19,16 +19,4 @@ with_spec =
     (λ c κs. search rules)  -- more-requires-8
     (λ c κs. search rules)  -- more-requires-9
     (λ c κs. search rules)  -- more-requires-10
-    (λ c.
-    rw (
-      c.before.before.before.before.before.before.before.before.before.before.more.ensures,
-      c.before.before.before.before.before.before.before.before.before.more2.ensures,
-      c.before.before.before.before.before.before.before.before.more3.ensures,
-      c.before.before.before.before.before.before.before.more4.ensures,
-      c.before.before.before.before.before.before.more5.ensures,
-      c.before.before.before.before.before.more6.ensures,
-      c.before.before.before.before.more7.ensures,
-      c.before.before.before.more8.ensures,
-      c.before.before.more9.ensures,
-      c.more10.ensures,
-    )))  -- returns
+    (λ c. rw (c.before.before.before.before.before.before.before.before.before.before.more.ensures, c.before.before.before.before.before.before.before.before.before.more2.ensures, c.before.before.before.before.before.before.before.before.more3.ensures, c.before.before.before.before.before.before.before.more4.ensures, c.before.before.before.before.before.before.more5.ensures, c.before.before.before.before.before.more6.ensures, c.before.before.before.before.more7.ensures, c.before.before.before.more8.ensures, c.before.before.more9.ensures, c.more10.ensures)))  -- returns

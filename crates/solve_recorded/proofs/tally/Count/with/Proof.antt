@@ -13,11 +13,4 @@ with_spec =
     (λ c κs. record {})  -- more-requires-3
     (λ c κs. record {})  -- more-requires-4
     (λ c κs. record {})  -- more-requires-5
-    (λ c.
-    rw (
-      c.before.before.before.before.before.before.before.before.more.ensures,
-      c.before.before.before.before.before.before.more2.ensures,
-      c.before.before.before.before.more3.ensures,
-      c.before.before.more4.ensures,
-      c.more5.ensures,
-    )))  -- returns
+    (λ c. rw (c.before.before.before.before.before.before.before.before.more.ensures, c.before.before.before.before.before.before.more2.ensures, c.before.before.before.before.more3.ensures, c.before.before.more4.ensures, c.more5.ensures)))  -- returns

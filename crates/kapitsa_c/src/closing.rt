@@ -9,7 +9,7 @@ ghost use Rattle.rules.specs.Rows.{rules_in};
 ghost use Rattle.check_range.specs.Closing.{closing_of};
 ghost use Rattle.check_refusals.specs.Refusals.{passes3, table_lengths};
 ghost use Rattle.check_work.specs.Work.{memory_of, work_lengths};
-ghost use Rattle.kapitsa_check_c.specs.Closing.{both, verdict_fits, verdict_told, CheckTold};
+ghost use Rattle.kapitsa_c.specs.Closing.{both, verdict_fits, verdict_told, CheckTold};
 
 use check_answer::CheckAnswer;
 use closing_check::closing_check;
@@ -33,8 +33,7 @@ fn put_gap(measured: Maxima, gap: &mut [f64])
 // The verdict and the gap; nothing where the answer is a refusal.
 pub fn tell_verdict(answer: CheckAnswer, verdict: &mut [u32], gap: &mut [f64]) -> u32
     requires { (length verdict.old ≡ 1) × (length gap.old ≡ 2) }
-    ensures { record { number = result; verdict = verdict.new; gap = gap.new }
-        ≡ verdict_told answer verdict.old gap.old }
+    ensures { record { number = result; verdict = verdict.new; gap = gap.new } ≡ verdict_told answer verdict.old gap.old }
 {
     match answer {
         CheckAnswer::Closed(measured) => {
@@ -73,21 +72,10 @@ pub extern "C" fn kapitsa_closing_check(
     values: &mut [f64],
     sizes: &mut [f64],
 ) -> u32
-    ensures { CheckTold
-        (verdict_fits verdict.old gap.old && passes3 Position rows bodies
-        (table_lengths numbers.now words.now masses.now centres.now
-        multipliers.now rule_words.now rule_tolerances.now
-        rule_numbers.old)
-        (work_lengths
-        (memory_of impulses.old size_impulses.old values.old sizes.old)))
+    ensures { CheckTold (verdict_fits verdict.old gap.old && passes3 Position rows bodies (table_lengths numbers.now words.now masses.now centres.now multipliers.now rule_words.now rule_tolerances.now rule_numbers.old) (work_lengths (memory_of impulses.old size_impulses.old values.old sizes.old)))
         (rules_in rule_words.now rule_tolerances.now)
-        (closing_of (table_of rows bodies numbers.now words.now masses.now)
-        (coefficients multipliers.now)
-        (rules_in rule_words.now rule_tolerances.now)
-        (centres_finite (centres_in bodies centres.now)))
-        verdict.old gap.old
-        record { number = result; verdict = verdict.new; gap = gap.new } rule_numbers.old
-        rule_numbers.new
+        (closing_of (table_of rows bodies numbers.now words.now masses.now) (coefficients multipliers.now) (rules_in rule_words.now rule_tolerances.now) (centres_finite (centres_in bodies centres.now)))
+        verdict.old gap.old record { number = result; verdict = verdict.new; gap = gap.new } rule_numbers.old rule_numbers.new
         (memory_of impulses.old size_impulses.old values.old sizes.old)
         (memory_of impulses.new size_impulses.new values.new sizes.new) }
 {

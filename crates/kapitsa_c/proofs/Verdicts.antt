@@ -9,6 +9,7 @@ use lib.Dec.{eqb}
 use lib.ListN.{length, set}
 use lib.Ieee.{Float}
 use borrow.Author.Tests.{not-true, not-false, eqb-true}
+use Rattle.loops.specs.Run.{check}
 use Rattle.loops.proofs.Both.{both as both_true}
 use Rattle.kapitsa_joint.specs.Table.{Table}
 use Rattle.kapitsa_joint.specs.declared.kind.Kind.{Kind}
@@ -24,7 +25,7 @@ use Rattle.check_work.specs.Work.{CheckMemory}
 use Rattle.closing_check.specs.Checked.{Checked}
 use Rattle.closing_check.proofs.Held.{lent_above}
 use Rattle.closing_check.proofs.Entry.{checked_3}
-use Rattle.kapitsa_check_c.specs.Closing.{VerdictTold, both, verdict_told, verdict_fits, CheckTold}
+use Rattle.kapitsa_c.specs.Closing.{VerdictTold, both, verdict_told, verdict_fits, CheckTold}
 
 -- ---- the promise
 -- 0 is told for a verdict alone
@@ -38,8 +39,7 @@ module _ (kind : Kind) (s : Rules) (t : Table) (listed residual : ℕ → Float)
   abbrev c : Closing
   c = closing_for kind t listed s residual placed
 
-  told_so : {fits : Bool} {told : VerdictTold} {a : CheckAnswer} {numbersAfter : List ℕ} {after : CheckMemory}
-      → Checked fits s c a numbers numbersAfter before after → told ≡ verdict_told a verdict gap
+  told_so : {fits : Bool} {told : VerdictTold} {a : CheckAnswer} {numbersAfter : List ℕ} {after : CheckMemory} → Checked fits s c a numbers numbersAfter before after → told ≡ verdict_told a verdict gap
       → CheckTold fits s c verdict gap told numbers numbersAfter before after
   told_so {fits} {told} {a} k h =
       let means = rw k.answered at k.means in
@@ -60,8 +60,7 @@ module _ (kind : Kind) (s : Rules) (t : Table) (listed residual : ℕ → Float)
     unfolding verdict_told
     untold h = told_so (checked_3 kind s t listed residual placed numbers before (sym (ap (λ (b : Bool). b && p) (sym e ∙ not-true r h))) refl) refl
 
-    pub told_on : {told : VerdictTold} {a : CheckAnswer} {numbersAfter : List ℕ} {after : CheckMemory} → not r ≡ false
-        → Checked p s c a numbers numbersAfter before after → told ≡ verdict_told a verdict gap
+    pub told_on : {told : VerdictTold} {a : CheckAnswer} {numbersAfter : List ℕ} {after : CheckMemory} → not r ≡ false → Checked p s c a numbers numbersAfter before after → told ≡ verdict_told a verdict gap
         → CheckTold (v && p) s c verdict gap told numbers numbersAfter before after
     told_on h k w = rw (sym e ∙ not-false r h) (told_so k w)
 
@@ -86,7 +85,6 @@ module _ {a : CheckAnswer} {m : Maxima} (verdict : List ℕ) (gap : List Float) 
   unfolding verdict_told
   told_open e h g = rw (e, set_only verdict 0 h, g)
 
-pub told_refused : {a : CheckAnswer} (verdict : List ℕ) (gap : List Float) {number : ℕ} → a ≡ Refused number
-    → record { number = number; verdict = verdict; gap = gap } ≡ verdict_told a verdict gap
+pub told_refused : {a : CheckAnswer} (verdict : List ℕ) (gap : List Float) {number : ℕ} → a ≡ Refused number → record { number = number; verdict = verdict; gap = gap } ≡ verdict_told a verdict gap
 unfolding verdict_told
 told_refused verdict gap e = rw e

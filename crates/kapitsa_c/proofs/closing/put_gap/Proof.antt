@@ -1,8 +1,8 @@
--- `kapitsa_check_c::closing::put_gap` meets its contract. Assumes nothing.
+-- `kapitsa_c::closing::put_gap` meets its contract. Assumes nothing.
 use borrow.Author.Rules.{rules}
-use Rattle.loops.proofs.Few.{both_set}
-use Rattle.kapitsa_check_c.proofs.closing.put_gap.Statement.{statement}
-use Rattle.kapitsa_check_c.proofs.closing.put_gap.Tie as tie
+use Rattle.kapitsa_c.proofs.Telling.{both_set}
+use Rattle.kapitsa_c.proofs.closing.put_gap.Statement.{statement}
+use Rattle.kapitsa_c.proofs.closing.put_gap.Tie as tie
 
 pub put_gap_spec : {M : Type 1} → statement M
 put_gap_spec =
