@@ -12,7 +12,7 @@ const REFUSED: u64 = 0xffff_ffff_ffff_ffff;
 
 const NAN: u64 = 0x7ff8_0000_0000_0000;
 
-#[derive(Drop)]
+#[derive(Clone, Copy)]
 struct Record {
     input: u64,
     root: u64,
@@ -21,7 +21,7 @@ struct Record {
     larger: u64,
 }
 
-#[derive(Drop)]
+#[derive(Clone, Copy)]
 struct Tally {
     records: u32,
     differ: u32,

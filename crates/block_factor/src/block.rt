@@ -13,7 +13,7 @@ use loops::wide;
 use pairs::cross_value;
 use sparse::{is_fit, pivot_root};
 
-#[derive(Drop)]
+#[derive(Clone, Copy)]
 pub enum Cell {
     Number(f64),
     Refused(u32),

@@ -9,7 +9,7 @@ use crate::run::run_length;
 use crate::store::put_block;
 use block_factor::{Cell, cell_at};
 
-#[derive(Drop)]
+#[derive(Clone, Copy)]
 pub enum Blocked {
     Done,
     Refused(u32),

@@ -5,7 +5,7 @@ ghost use Rattle.check_answer.specs.Answer.{number_of, gap_of};
 use kapitsa_joint::Maxima;
 
 // A verdict comes with the measured gap: the largest reach of each dimension.
-#[derive(Drop)]
+#[derive(Clone, Copy)]
 pub enum CheckAnswer {
     Closed(Maxima),
     Open(Maxima),

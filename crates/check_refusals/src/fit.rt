@@ -8,7 +8,7 @@ use loops::wide;
 use rules::rule_lengths_fit;
 
 // What is given.
-#[derive(Drop)]
+#[derive(Clone, Copy)]
 pub struct TableLengths {
     pub numbers: usize,
     pub words: usize,
@@ -21,7 +21,7 @@ pub struct TableLengths {
 }
 
 // The work memory.
-#[derive(Drop)]
+#[derive(Clone, Copy)]
 pub struct WorkLengths {
     pub impulses: usize,
     pub size_impulses: usize,

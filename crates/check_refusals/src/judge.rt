@@ -13,7 +13,7 @@ use joint_refusals::{masses_finite, residuals_finite, rows_valid, words_fit};
 use kapitsa_joint::Kind;
 use rules::{rows_ruled, rules_fit};
 
-#[derive(Drop)]
+#[derive(Clone, Copy)]
 pub enum TableJudged {
     Passed,
     Refused(u32),

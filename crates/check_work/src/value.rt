@@ -9,7 +9,7 @@ use kapitsa_joint::{RowJacobian, jacobian_at, paired_at};
 use loops::wide;
 
 // A row's value, and its value on sizes.
-#[derive(Drop)]
+#[derive(Clone, Copy)]
 struct RowValue {
     value: f64,
     size: f64,

@@ -3,7 +3,7 @@ ghost use Rattle.std.specs.Prelude.{◌≡◌};
 ghost use Rattle.closing_recorded.specs.Tally.{more_of, malformed, none, with_of};
 
 // The answer's number, and whether it and the measured gap are the recorded ones.
-#[derive(Drop)]
+#[derive(Clone, Copy)]
 pub struct Seen {
     pub answer: u32,
     pub same: bool,
@@ -21,7 +21,7 @@ impl Seen {
     }
 }
 
-#[derive(Drop)]
+#[derive(Clone, Copy)]
 pub struct Tally {
     pub closed: u32,
     pub open: u32,

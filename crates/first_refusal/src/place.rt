@@ -1,5 +1,5 @@
 // Where a refusal was met.
-#[derive(Drop)]
+#[derive(Clone, Copy)]
 pub enum Place {
     Row(u32),
     Body(u32),

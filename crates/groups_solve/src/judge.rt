@@ -43,7 +43,7 @@ fn given_pass(kind: Kind, given: &[f64], rows: u32) -> bool
     }
 }
 
-#[derive(Drop)]
+#[derive(Clone, Copy)]
 pub enum Whole {
     Passed,
     Refused(u32),

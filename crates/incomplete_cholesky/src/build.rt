@@ -14,7 +14,7 @@ use pairs::{Paired, pairs};
 use sparse::{Factored, factor};
 use triangular::index;
 
-#[derive(Drop)]
+#[derive(Clone, Copy)]
 pub enum Built {
     Done(u32),
     Refused(u32),

@@ -9,7 +9,7 @@ use crate::substitution::{Solved, solve};
 use crate::triangle::{Cholesky3, CholeskyError, Factored};
 use kapitsa_math::{Mat3, Vec3};
 
-#[derive(Drop)]
+#[derive(Clone, Copy)]
 pub enum Inverted {
     Inverse(Mat3),
     Refused(CholeskyError),

@@ -7,7 +7,7 @@ use crate::divided::divided_vec;
 use crate::triangle::{Cholesky3, CholeskyError};
 use kapitsa_math::Vec3;
 
-#[derive(Drop)]
+#[derive(Clone, Copy)]
 pub enum Solved {
     Solution(Vec3),
     Refused(CholeskyError),

@@ -8,7 +8,7 @@ use binary64::RootAnswer;
 use kapitsa_math::{Mat3, Vec3};
 
 // CholeskyError of matrix.rs. Document 02 c's numbers are 21, 22, 23 and 12.
-#[derive(Drop)]
+#[derive(Clone, Copy)]
 pub enum CholeskyError {
     NonFiniteInput,
     NotSymmetric,
@@ -30,7 +30,7 @@ impl CholeskyError {
 }
 
 // Cholesky3 of matrix.rs: the lower triangle of the divided matrix, as three rows of three with +0.0 above the diagonal, and the scale.
-#[derive(Drop)]
+#[derive(Clone, Copy)]
 pub struct Cholesky3 {
     pub first: Vec3,
     pub second: Vec3,
@@ -38,19 +38,19 @@ pub struct Cholesky3 {
     pub scale: f64,
 }
 
-#[derive(Drop)]
+#[derive(Clone, Copy)]
 pub enum Factored {
     Factor(Cholesky3),
     Refused(CholeskyError),
 }
 
-#[derive(Drop)]
+#[derive(Clone, Copy)]
 pub enum PivotRoot {
     Root(f64),
     NotPositive,
 }
 
-#[derive(Drop)]
+#[derive(Clone, Copy)]
 pub enum Row {
     Done(Vec3),
     NotPositive,

@@ -8,7 +8,7 @@ use crate::reader::keys_fit;
 use crate::trailer::{Trailer, read_trailer};
 use joint_refusals::counts_fit;
 
-#[derive(Drop)]
+#[derive(Clone, Copy)]
 pub enum FileJudged {
     Passed(Trailer),
     Refused(u32),

@@ -11,7 +11,7 @@ use crate::fit::row_keys_fit;
 use crate::sections::put_row;
 
 // `rows` rows from the byte `offset` on, at number `row` of them.
-#[derive(Drop)]
+#[derive(Clone, Copy)]
 pub struct Reader<'a> {
     pub file: &'a [u8],
     pub offset: usize,

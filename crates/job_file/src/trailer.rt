@@ -6,7 +6,7 @@ use crate::layout::TRAILER_BYTES;
 use kapitsa_joint::JointTolerance;
 use little_endian::{double, half};
 
-#[derive(Drop)]
+#[derive(Clone, Copy)]
 pub struct Trailer {
     pub rows: u32,
     pub bodies: u32,

@@ -1,5 +1,5 @@
 // Which program's lines are printed of a job.
-#[derive(Drop)]
+#[derive(Clone, Copy)]
 pub enum Sheet {
     Job,
     Margins,

@@ -7,7 +7,7 @@ ghost use Rattle.job_stream.specs.Chunk.{goes_on, JobsWritten};
 use crate::front::{frame_length, is_ready, write_front};
 
 // The number of the job that is next, how many bytes of the stream the jobs before it take, and how long their text is.
-#[derive(Drop)]
+#[derive(Clone, Copy)]
 pub struct Jobs {
     pub next: u32,
     pub read: usize,

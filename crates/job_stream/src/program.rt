@@ -10,7 +10,7 @@ use libc::STDERR_FILENO;
 use program_io::{Input, read_some, write_output};
 
 // The number of the job that is next, how many bytes are kept for it, and how many bytes that are still to come belong to a refused file and are passed over.
-#[derive(Drop)]
+#[derive(Clone, Copy)]
 pub struct Unread {
     pub number: u32,
     pub kept: usize,
@@ -18,7 +18,7 @@ pub struct Unread {
 }
 
 // What is left once the jobs that were whole are printed; `Stopped` where nothing more can be printed, which has been told.
-#[derive(Drop)]
+#[derive(Clone, Copy)]
 pub enum Printed {
     To(Unread),
     Stopped,

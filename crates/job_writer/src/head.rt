@@ -1,5 +1,5 @@
 // What the trailer says of a job, the tolerances by their 64 bits. Layout 1 has centres, 0 is the old one.
-#[derive(Drop)]
+#[derive(Clone, Copy)]
 pub struct JobHead {
     pub rows: u32,
     pub bodies: u32,

@@ -4,7 +4,7 @@ ghost use Rattle.kapitsa_joint.specs.Impulse.{put_impulse_of};
 
 use kapitsa_math::{Vec3, put_vec};
 
-#[derive(Drop)]
+#[derive(Clone, Copy)]
 pub struct GeneralizedImpulse {
     pub linear: Vec3,
     pub angular: Vec3,

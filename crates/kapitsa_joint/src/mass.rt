@@ -5,7 +5,7 @@ ghost use Rattle.kapitsa_joint.specs.Mass.{mass_of, cross_of, diagonal_of};
 
 use kapitsa_math::{Checked, Mat3, Vec3, checked_value, vec_at};
 
-#[derive(Drop)]
+#[derive(Clone, Copy)]
 pub struct SolverMass {
     pub inverse_mass: f64,
     pub inverse_inertia: Mat3,

@@ -4,7 +4,7 @@ ghost use Rattle.kapitsa_joint.specs.Maxima.{raised_by};
 
 use crate::tolerance::RowDimension;
 
-#[derive(Drop)]
+#[derive(Clone, Copy)]
 pub struct Maxima {
     pub linear: f64,
     pub angular: f64,

@@ -5,7 +5,7 @@ ghost use Rattle.kapitsa_joint.specs.Row.{scalars_of, words_of, row_of, jacobian
 use kapitsa_math::{Vec3, vec_at};
 
 // error through cached_velocity_effective_mass, in row.rs order.
-#[derive(Drop)]
+#[derive(Clone, Copy)]
 pub struct RowScalars {
     pub error: f64,
     pub target_velocity: f64,
@@ -22,7 +22,7 @@ pub struct RowScalars {
 }
 
 // The words as they come: that a dimension is 0 or 1 and a flag 0 or 1 is refusal 4's to say.
-#[derive(Drop)]
+#[derive(Clone, Copy)]
 pub struct RowWords {
     pub key: u32,
     pub dimension: u32,
@@ -34,7 +34,7 @@ pub struct RowWords {
     pub spare: u32,
 }
 
-#[derive(Drop)]
+#[derive(Clone, Copy)]
 pub struct ConstraintRow {
     pub linear_a: Vec3,
     pub angular_a: Vec3,
@@ -46,7 +46,7 @@ pub struct ConstraintRow {
 }
 
 // What the mass operator and the factors read of a row.
-#[derive(Drop)]
+#[derive(Clone, Copy)]
 pub struct RowJacobian {
     pub linear_a: Vec3,
     pub angular_a: Vec3,

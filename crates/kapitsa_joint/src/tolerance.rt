@@ -2,13 +2,13 @@
 ghost use Rattle.std.specs.Prelude.{◌≡◌};
 ghost use Rattle.kapitsa_joint.specs.Tolerance.{dimension_of, tolerance_of};
 
-#[derive(Drop)]
+#[derive(Clone, Copy)]
 pub enum RowDimension {
     Linear,
     Angular,
 }
 
-#[derive(Drop)]
+#[derive(Clone, Copy)]
 pub struct JointTolerance {
     pub linear_m: f64,
     pub angular_rad: f64,

@@ -1,4 +1,4 @@
 -- The ways through the checked forms, that what is not finite stays so, and vectors stored in slices.
-pub mod Checked
+pub mod CheckedWays
 pub mod Finite
 pub mod Stored

@@ -5,14 +5,14 @@ ghost use Rattle.kapitsa_math.specs.Checked.{checked_mul_vector_of, CheckedVecto
 
 use crate::vector::Vec3;
 
-#[derive(Drop)]
+#[derive(Clone, Copy)]
 pub struct Mat3 {
     pub x: Vec3,
     pub y: Vec3,
     pub z: Vec3,
 }
 
-#[derive(Drop)]
+#[derive(Clone, Copy)]
 pub enum CheckedVector {
     Value(Vec3),
     Overflow,

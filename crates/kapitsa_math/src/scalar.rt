@@ -2,7 +2,7 @@
 ghost use Rattle.std.specs.Prelude.{◌≡◌};
 ghost use Rattle.kapitsa_math.specs.Checked.{checked_value_of};
 
-#[derive(Drop)]
+#[derive(Clone, Copy)]
 pub enum Checked {
     Value(f64),
     Overflow,

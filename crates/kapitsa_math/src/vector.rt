@@ -5,7 +5,7 @@ ghost use Rattle.kapitsa_math.specs.Checked.{checked_dot_of, CheckedTells, dot_r
 
 use crate::scalar::{Checked, checked_value};
 
-#[derive(Drop)]
+#[derive(Clone, Copy)]
 pub struct Vec3 {
     pub x: f64,
     pub y: f64,

@@ -5,7 +5,7 @@ ghost use Rattle.mass_operator.specs.BodyPair.{body_pair_of, put_body_pair_of, o
 use kapitsa_joint::{GeneralizedImpulse, paired_at, put_paired};
 use loops::wide;
 
-#[derive(Drop)]
+#[derive(Clone, Copy)]
 pub struct BodyPair {
     pub body_a: u32,
     pub body_b: u32,

@@ -2,7 +2,7 @@
 ghost use Rattle.std.specs.Prelude.{◌≡◌};
 ghost use Rattle.mass_operator.specs.Applied.{all_finite_of, applied_of};
 
-#[derive(Drop)]
+#[derive(Clone, Copy)]
 pub enum Applied {
     Done,
     Overflow,

@@ -48,7 +48,7 @@ fn add_row(jacobians: &[f64], links: &[u32], vector: &[f64], i: usize, pair: Bod
 }
 
 // Rows that follow one another on the same two bodies: the bodies with the terms of those rows, and the row behind the last.
-#[derive(Drop)]
+#[derive(Clone, Copy)]
 pub struct Run {
     pub pair: BodyPair,
     pub end: usize,

@@ -87,7 +87,7 @@ fn put_value(
 }
 
 // Of the rows of a run: the sum of `vector` times the product up to them, and the row behind the last.
-#[derive(Drop)]
+#[derive(Clone, Copy)]
 pub struct RunValues {
     pub sum: f64,
     pub end: usize,

@@ -10,7 +10,7 @@ use kapitsa_math::Vec3;
 use loops::wide;
 
 // At one body; `response` is the body's inverse inertia times the angular part.
-#[derive(Drop)]
+#[derive(Clone, Copy)]
 pub struct Arm {
     pub body: u32,
     pub inverse_mass: f64,
@@ -18,7 +18,7 @@ pub struct Arm {
     pub response: Vec3,
 }
 
-#[derive(Drop)]
+#[derive(Clone, Copy)]
 pub struct Arms {
     pub a: Arm,
     pub b: Arm,

@@ -33,7 +33,7 @@ fn met(arm: Arm, linear: Vec3, angular: Vec3) -> f64
     arm.inverse_mass * linear.dot(arm.linear) + angular.dot(response)
 }
 
-#[derive(Drop)]
+#[derive(Clone, Copy)]
 pub enum Crossed {
     Value(f64),
     Apart,

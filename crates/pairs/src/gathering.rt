@@ -12,7 +12,7 @@ use crate::pattern::{Gathered, gather};
 use crate::values::fill_values;
 use loops::wide;
 
-#[derive(Drop)]
+#[derive(Clone, Copy)]
 pub enum Paired {
     Done(u32),
     Refused(u32),

@@ -7,7 +7,7 @@ ghost use Rattle.pairs.specs.Gather.{shares_in, any_share, eight_apart, share_in
 use loops::wide;
 use sparse::put;
 
-#[derive(Drop)]
+#[derive(Clone, Copy)]
 pub enum Gathered {
     Done(u32),
     Full,

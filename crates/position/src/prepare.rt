@@ -18,19 +18,19 @@ use kapitsa_joint::{ConstraintRow, mass_at, row_at};
 use loops::wide;
 use pairs::cross_value;
 
-#[derive(Drop)]
+#[derive(Clone, Copy)]
 pub struct PreparedRow {
     pub diagonal: f64,
     pub residual: f64,
 }
 
-#[derive(Drop)]
+#[derive(Clone, Copy)]
 pub enum RowAnswer {
     Row(PreparedRow),
     Refused(u32),
 }
 
-#[derive(Drop)]
+#[derive(Clone, Copy)]
 pub enum Begun {
     Done,
     Refused(u32),

@@ -1,5 +1,5 @@
 // The answer of a solve: PositionPcgResult of solver.rs, or a refusal.
-#[derive(Drop)]
+#[derive(Clone, Copy)]
 pub struct PositionPcgResult {
     pub converged: bool,
     pub iterations: u32,
@@ -7,7 +7,7 @@ pub struct PositionPcgResult {
     pub angular_residual_rad: f64,
 }
 
-#[derive(Drop)]
+#[derive(Clone, Copy)]
 pub enum PositionPcg {
     Accepted(PositionPcgResult),
     Refused(u32),

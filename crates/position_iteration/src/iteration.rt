@@ -7,7 +7,7 @@ ghost use Rattle.position_iteration.specs.Standing.{Standing, steps_in, iterated
 use crate::turn::{Turned, take_step};
 use preconditioner::Preconditioner;
 
-#[derive(Drop)]
+#[derive(Clone, Copy)]
 pub enum Iterated {
     Met(u32),
     Limit,

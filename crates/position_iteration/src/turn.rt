@@ -9,7 +9,7 @@ use position::position_vector_converged;
 use preconditioner::Preconditioner;
 use recurrence::{Scale, advance, advance_diagonal, next_direction, renew, step_length};
 
-#[derive(Drop)]
+#[derive(Clone, Copy)]
 pub enum Turned {
     On(f64),
     Met,

@@ -15,7 +15,7 @@ use loops::wide;
 use preconditioner::shift_fits;
 use rules::{rows_ruled, rules_fit};
 
-#[derive(Drop)]
+#[derive(Clone, Copy)]
 pub enum Opened {
     Done,
     Refused(u32),

@@ -13,7 +13,7 @@ use block_jacobi::apply_block_jacobi_preconditioner;
 use triangular::{Solved, solve};
 
 // What was built: nothing beside the diagonal, a factor with so many places, or blocks.
-#[derive(Drop)]
+#[derive(Clone, Copy)]
 pub enum Preconditioner {
     Diagonal,
     IncompleteCholesky(u32),

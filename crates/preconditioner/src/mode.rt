@@ -2,7 +2,7 @@
 ghost use Rattle.std.specs.Prelude.{◌≡◌};
 ghost use Rattle.preconditioner.specs.Mode.{mode_of};
 
-#[derive(Drop)]
+#[derive(Clone, Copy)]
 pub enum Mode {
     Diagonal,
     IncompleteCholesky(f64),

@@ -13,7 +13,7 @@ use block_jacobi::{Blocked, build_block_jacobi_preconditioner};
 use incomplete_cholesky::{Built, build_incomplete_cholesky_preconditioner};
 use pairs::pair_room;
 
-#[derive(Drop)]
+#[derive(Clone, Copy)]
 pub enum Prepared {
     Done(Preconditioner),
     Refused(u32),

@@ -10,7 +10,7 @@ ghost use Rattle.recurrence.specs.Answers.{scale_out, diagonal_out, DiagonalLeft
 use crate::ratio::Scale;
 
 // Of the rows passed: whether their solution is finite, and their share of s.
-#[derive(Drop)]
+#[derive(Clone, Copy)]
 pub struct Passed {
     pub all: bool,
     pub sum: f64,

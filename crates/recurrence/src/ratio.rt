@@ -3,7 +3,7 @@ ghost use Rattle.std.specs.Prelude.{◌≡◌};
 ghost use Rattle.recurrence.specs.Step.{alpha_of, product_fit, beta_of};
 ghost use Rattle.recurrence.specs.Answers.{scale_out};
 
-#[derive(Drop)]
+#[derive(Clone, Copy)]
 pub enum Scale {
     Value(f64),
     Refused(u32),

@@ -4,7 +4,7 @@ ghost use Rattle.solve_recorded.specs.Tally.{more_of, with_of, missing_of, from_
 
 use solve_replay::Seen;
 
-#[derive(Drop)]
+#[derive(Clone, Copy)]
 pub struct Count {
     pub jobs: u32,
     pub met: u32,

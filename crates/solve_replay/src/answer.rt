@@ -12,7 +12,7 @@ use packed_list::unpack;
 use position_delivery::PositionPcgResult;
 
 // The outcome is 0 where the solve refuses, 1 with flag 0, 2 with flag 1. `end` is where the job ends.
-#[derive(Drop)]
+#[derive(Clone, Copy)]
 pub struct Seen {
     pub outcome: u32,
     pub same: bool,

@@ -5,7 +5,7 @@ ghost use Rattle.solve_replay.specs.Job.{header_of};
 
 use packed_list::{half, word};
 
-#[derive(Drop)]
+#[derive(Clone, Copy)]
 pub struct Header {
     pub rows: u32,
     pub bodies: u32,

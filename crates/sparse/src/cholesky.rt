@@ -10,14 +10,14 @@ ghost use Rattle.sparse.specs.Answers.{column_out, reduced_out, factor_out, fact
 use crate::places::{column, earlier, number, row, write};
 use binary64::RootAnswer;
 
-#[derive(Drop)]
+#[derive(Clone, Copy)]
 pub enum Factored {
     Done,
     Refused,
 }
 
 // Of a row whose factors are made: its diagonal less each squared factor.
-#[derive(Drop)]
+#[derive(Clone, Copy)]
 pub enum Remainder {
     Rest(f64),
     Refused,

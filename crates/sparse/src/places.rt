@@ -6,7 +6,7 @@ ghost use Rattle.sparse.specs.Kept.{Rising, Kept, Row};
 use loops::wide;
 
 // The places of a row.
-#[derive(Drop)]
+#[derive(Clone, Copy)]
 pub struct Stretch {
     pub first: u32,
     pub end: u32,

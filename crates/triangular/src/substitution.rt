@@ -12,7 +12,7 @@ ghost use Rattle.triangular.specs.Answers.{solve_out, solved_out};
 use loops::wide;
 use sparse::{Stretch, earlier, number, row};
 
-#[derive(Drop)]
+#[derive(Clone, Copy)]
 pub enum Solved {
     Done,
     Overflow,

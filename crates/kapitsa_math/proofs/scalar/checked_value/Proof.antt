@@ -1,6 +1,6 @@
 -- `kapitsa_math::scalar::checked_value` meets its contract: its two ways are those of `checked_value_of`. Assumes nothing.
 use borrow.Author.Rules.{rules}
-use Rattle.kapitsa_math.proofs.Checked.{checked_finite, checked_overflow}
+use Rattle.kapitsa_math.proofs.CheckedWays.{checked_finite, checked_overflow}
 use Rattle.kapitsa_math.proofs.scalar.checked_value.Statement.{statement}
 use Rattle.kapitsa_math.proofs.scalar.checked_value.Tie as tie
 

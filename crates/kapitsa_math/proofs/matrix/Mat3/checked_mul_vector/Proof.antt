@@ -1,6 +1,6 @@
 -- `kapitsa_math::matrix::Mat3::checked_mul_vector` meets its contract. Assumes nothing.
 use borrow.Author.Rules.{rules}
-use Rattle.kapitsa_math.proofs.Checked.{product_told, product_checked, product_overflow, product_refused}
+use Rattle.kapitsa_math.proofs.CheckedWays.{product_told, product_checked, product_overflow, product_refused}
 use Rattle.kapitsa_math.proofs.matrix.Mat3.checked_mul_vector.Statement.{statement}
 use Rattle.kapitsa_math.proofs.matrix.Mat3.checked_mul_vector.Tie as tie
 

@@ -1,6 +1,6 @@
 -- `kapitsa_math::vector::Vec3::checked_dot` meets its contract. Assumes nothing.
 use borrow.Author.Rules.{rules}
-use Rattle.kapitsa_math.proofs.Checked.{dot_told, dot_checked, dot_refused}
+use Rattle.kapitsa_math.proofs.CheckedWays.{dot_told, dot_checked, dot_refused}
 use Rattle.kapitsa_math.proofs.vector.Vec3.checked_dot.Statement.{statement}
 use Rattle.kapitsa_math.proofs.vector.Vec3.checked_dot.Tie as tie
 
