@@ -1,0 +1,17 @@
+-- `block_factor::stretch::forward` meets its contract: the rows before `row` are solved. Assumes nothing.
+use Prim.Native.Nat.{◌-◌}
+use mathlib.Core.Path.{◌≡◌}
+use lib.ListN.{length}
+use denote.Index.{row}
+use borrow.Author.Rules.{rules}
+use Rattle.block_factor.proofs.Cells.{Counts, counts_end, counts_more, counts_none}
+use Rattle.block_factor.proofs.Stretches.{forward_turn_lem}
+use Rattle.block_factor.specs.Solves.{block_forward_turn}
+use Rattle.block_factor.proofs.stretch.forward.Given as goal
+
+abbrev pub invariant-loop-row : goal.invariant-loop-row
+invariant-loop-row l =
+    (length l.part ≡ length l.initial.part) × Counts (block_forward_turn l.lower l.residual) l.initial.part (length l.residual) l.row l.part
+
+abbrev pub decreases-loop-row : goal.decreases-loop-row
+decreases-loop-row l = length l.residual - l.row

@@ -1,0 +1,19 @@
+-- `closing_margins::small::margins_small` meets its contract. Assumes nothing.
+use borrow.Author.Rules.{rules}
+use lib.ListN.{length}
+use Rattle.closing_margins.specs.Held.{margins_lent}
+use Rattle.closing_check.proofs.Entry.{passed_3}
+use Rattle.closing_margins.proofs.OwnMemory.{margins_alone_3}
+use Rattle.closing_margins.proofs.small.margins_small.Goals as goal
+
+pub returns-then-not-given_fits : goal.returns-then-not-given_fits
+returns-then-not-given_fits c =
+    margins_alone_3 (margins_lent c.args.n (length c.args.margin-rows.now) (length c.args.margins.now)) _ _ _ _ _ c.given_fits.ensures c.if-not-given_fits.true-raw
+
+pub with_small_memory-requires : goal.with_small_memory-requires
+with_small_memory-requires c =
+    record { rule_numbers_value = passed_3 c.given_fits.ensures c.if-not-given_fits.false-raw; n_bound = c.requires }
+
+pub returns : goal.returns
+returns c =
+    c.with_small_memory.ensures

@@ -1,0 +1,51 @@
+-- `closing_margins::small::with_small_memory` meets its contract. Assumes nothing.
+use mathlib.Core.Path.{refl, sym}
+use native.Mathlib.Omega.{arith}
+use lib.Seq.{length-take-le}
+use borrow.Author.Rules.{rules}
+use lib.ListN.{length}
+use Rattle.closing_margins.specs.Held.{margins_lent}
+use Rattle.kapitsa_joint.specs.declared.kind.Kind.TheVariants.{Position}
+use Rattle.check_alone.proofs.Alone.{taken}
+use Rattle.closing_margins.proofs.OwnMemory.{margins_alone}
+use Rattle.closing_margins.proofs.small.with_small_memory.Goals as goal
+
+pub overflow_mul-body_numbers : goal.overflow_mul-body_numbers
+overflow_mul-body_numbers c =
+    omega (arith, c.requires.n_bound)
+
+pub slice_bounds-impulses-end : goal.slice_bounds-impulses-end
+slice_bounds-impulses-end c =
+    omega (arith, c.requires.n_bound)
+
+pub slice_bounds-closing_margins-end : goal.slice_bounds-closing_margins-end
+slice_bounds-closing_margins-end c =
+    sym (length-take-le _ _ (omega (arith, c.requires.n_bound)))
+
+pub slice_bounds-size_impulses-end : goal.slice_bounds-size_impulses-end
+slice_bounds-size_impulses-end c =
+    omega (arith, c.requires.n_bound)
+
+pub slice_bounds-closing_margins-end-2 : goal.slice_bounds-closing_margins-end-2
+slice_bounds-closing_margins-end-2 c =
+    sym (length-take-le _ _ (omega (arith, c.requires.n_bound)))
+
+pub slice_bounds-values-end : goal.slice_bounds-values-end
+slice_bounds-values-end c =
+    omega (arith, c.requires.n_bound)
+
+pub slice_bounds-closing_margins-end-3 : goal.slice_bounds-closing_margins-end-3
+slice_bounds-closing_margins-end-3 c =
+    sym (length-take-le _ _ (omega (arith, c.requires.n_bound)))
+
+pub slice_bounds-sizes-end : goal.slice_bounds-sizes-end
+slice_bounds-sizes-end c =
+    omega (arith, c.requires.n_bound)
+
+pub slice_bounds-closing_margins-end-4 : goal.slice_bounds-closing_margins-end-4
+slice_bounds-closing_margins-end-4 c =
+    sym (length-take-le _ _ (omega (arith, c.requires.n_bound)))
+
+pub returns : goal.returns
+returns c =
+    margins_alone Position (margins_lent c.args.n (length c.args.margin-rows.now) (length c.args.margins.now)) _ c.requires.rule_numbers_value (taken 128 64 _ _ _ _ c.requires.n_bound.0 c.requires.n_bound.1 refl refl refl refl) c.closing_margins.ensures

@@ -1,0 +1,12 @@
+-- `group_table::copy::copy_numbers` meets its contract: c of the block are copied. Assumes nothing.
+use Prim.Native.Nat.{◌-◌}
+use lib.Ieee.{nan}
+use Rattle.group_table.proofs.Picks.{Copying, picks}
+use Rattle.group_table.proofs.copy.copy_numbers.Given as goal
+
+abbrev pub invariant-loop-c : goal.invariant-loop-c
+invariant-loop-c l =
+    Copying nan l.width l.at l.put l.c l.from l.initial.to l.to
+
+abbrev pub decreases-loop-c : goal.decreases-loop-c
+decreases-loop-c l = l.width - l.c

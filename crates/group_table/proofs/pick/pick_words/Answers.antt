@@ -1,0 +1,30 @@
+-- `group_table::pick::pick_words` meets its contract: the rows below i are picked. Assumes nothing.
+use Prim.Native.Nat.{◌-◌}
+use Rattle.group_table.specs.Steps.{Picking}
+use Rattle.group_table.proofs.Picks.{row_fits, room_pick, picks}
+use native.Mathlib.Omega.{arith}
+use Rattle.group_table.proofs.pick.pick_words.Goals as goal
+
+pub loop-i-init : goal.loop-i-init
+loop-i-init c =
+    search picks
+
+pub pick_word_row-k-requires : goal.pick_word_row-k-requires
+pick_word_row-k-requires c =
+    record { i_in_bounds = (omega (arith, c.requires.0), row_fits c.args.width c.loop-i.i c.args.rows _ (omega arith) c.requires.1, c.loop-i.invariant.few); room_for = room_pick c.loop-i.invariant (omega arith) c.requires.2 }
+
+pub overflow_add-i : goal.overflow_add-i
+overflow_add-i c =
+    search picks
+
+pub loop-i-smaller : goal.loop-i-smaller
+loop-i-smaller c =
+    search picks
+
+pub loop-i-preserved : goal.loop-i-preserved
+loop-i-preserved c =
+    search picks
+
+pub returns : goal.returns
+returns c =
+    search picks

@@ -1,0 +1,14 @@
+-- `groups::mark::mark_bodies` meets its contract. Assumes nothing.
+use Prim.Native.Nat.{◌-◌}
+use native.Mathlib.Omega.{arith}
+use Rattle.loops.proofs.Loop.{loops}
+use Rattle.groups.specs.Together.{links_in, joins_in}
+use Rattle.groups.proofs.Marking.{Telling, telling_none, telling_more, telling_end, telling_a, telling_b, telling_number}
+use Rattle.groups.proofs.mark.mark_bodies.Given as goal
+
+abbrev pub invariant-loop-i : goal.invariant-loop-i
+invariant-loop-i l =
+    Telling (links_in l.words) (joins_in l.masses) l.rows l.bodies l.count l.groups l.i l.initial.marks l.marks
+
+abbrev pub decreases-loop-i : goal.decreases-loop-i
+decreases-loop-i l = l.rows - l.i

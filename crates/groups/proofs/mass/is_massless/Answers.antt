@@ -1,0 +1,9 @@
+-- `groups::mass::is_massless` meets its contract. Assumes nothing.
+use mathlib.Core.Path.{ap, ◌∙◌}
+use borrow.Author.Rules.{rules}
+use Rattle.groups.specs.Together.{massless}
+use Rattle.groups.proofs.mass.is_massless.Goals as goal
+
+pub returns : goal.returns
+returns c =
+    c.has_no_mass.ensures ∙ ap massless c.mass_at.ensures

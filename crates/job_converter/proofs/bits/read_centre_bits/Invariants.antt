@@ -1,0 +1,17 @@
+-- `job_converter::bits::read_centre_bits` meets its contract: what stands below k is read. Assumes nothing.
+use Prim.Native.Nat.{◌-◌, ◌/◌, ◌%◌}
+use native.Mathlib.Omega.{arith}
+use lib.ListN.{length}
+use Rattle.loops.proofs.Fill.{Fills, fills}
+use Rattle.job_file.proofs.Counted.{filled_count}
+use Rattle.job_file.specs.File.{centre_bits}
+use Rattle.job_file.proofs.Masses.{mass_ends}
+use Rattle.job_writer.specs.JobBits.{section_centre_bits}
+use Rattle.job_converter.proofs.bits.read_centre_bits.Given as goal
+
+abbrev pub invariant-loop-k : goal.invariant-loop-k
+invariant-loop-k l =
+    Fills 0 (λ l.k. centre_bits l.file l.offset l.spare (l.k / 3) (l.k % 3)) (length l.initial.centres) l.k l.centres
+
+abbrev pub decreases-loop-k : goal.decreases-loop-k
+decreases-loop-k l = length l.initial.centres - l.k

@@ -1,0 +1,15 @@
+-- `job_converter::bits::read_number_bits` meets its contract: what stands below k is read. Assumes nothing.
+use Prim.Native.Nat.{◌-◌, ◌/◌, ◌%◌}
+use lib.ListN.{length}
+use Rattle.loops.proofs.Fill.{Fills, fills}
+use Rattle.job_file.proofs.Counted.{filled_count}
+use Rattle.job_file.specs.File.{row_bits}
+use Rattle.job_writer.specs.JobBits.{section_number_bits}
+use Rattle.job_converter.proofs.bits.read_number_bits.Given as goal
+
+abbrev pub invariant-loop-k : goal.invariant-loop-k
+invariant-loop-k l =
+    Fills 0 (λ l.k. row_bits l.file l.offset (l.k / 27) (l.k % 27)) (length l.initial.numbers) l.k l.numbers
+
+abbrev pub decreases-loop-k : goal.decreases-loop-k
+decreases-loop-k l = length l.initial.numbers - l.k

@@ -1,0 +1,17 @@
+-- `job_file::sections::read_centres` meets its contract: what stands below k is read. Assumes nothing.
+use Prim.Native.Nat.{◌-◌, ◌/◌, ◌%◌}
+use native.Mathlib.Omega.{arith}
+use lib.Ieee.{nan}
+use lib.ListN.{length}
+use Rattle.loops.proofs.Fill.{Fills, fills}
+use Rattle.job_file.specs.File.{centre_number, section_centres}
+use Rattle.job_file.proofs.Counted.{filled_count}
+use Rattle.job_file.proofs.Masses.{mass_ends}
+use Rattle.job_file.proofs.sections.read_centres.Given as goal
+
+abbrev pub invariant-loop-k : goal.invariant-loop-k
+invariant-loop-k l =
+    Fills nan (λ l.k. centre_number l.file l.offset l.spare (l.k / 3) (l.k % 3)) (length l.initial.centres) l.k l.centres
+
+abbrev pub decreases-loop-k : goal.decreases-loop-k
+decreases-loop-k l = length l.initial.centres - l.k

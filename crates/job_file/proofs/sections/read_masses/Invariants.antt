@@ -1,0 +1,17 @@
+-- `job_file::sections::read_masses` meets its contract: what stands below k is read. Assumes nothing.
+use Prim.Native.Nat.{◌-◌, ◌/◌, ◌%◌}
+use native.Mathlib.Omega.{arith}
+use lib.Ieee.{nan}
+use lib.ListN.{length}
+use Rattle.loops.proofs.Fill.{Fills, fills}
+use Rattle.job_file.specs.File.{mass_number, section_masses}
+use Rattle.job_file.proofs.Counted.{filled_count}
+use Rattle.job_file.proofs.Masses.{mass_inside}
+use Rattle.job_file.proofs.sections.read_masses.Given as goal
+
+abbrev pub invariant-loop-k : goal.invariant-loop-k
+invariant-loop-k l =
+    Fills nan (λ l.k. mass_number l.file l.offset l.spare (l.k / 10) (l.k % 10)) (length l.initial.masses) l.k l.masses
+
+abbrev pub decreases-loop-k : goal.decreases-loop-k
+decreases-loop-k l = length l.initial.masses - l.k

@@ -1,0 +1,29 @@
+-- `job_writer::parts::put_counts` meets its contract. Assumes nothing.
+use Rattle.listing.proofs.Joined.{room_first, room_rest, wrote_join, length_wrote}
+use Rattle.job_writer.specs.Written.{written_counts}
+use Rattle.job_writer.proofs.parts.put_counts.Goals as goal
+
+pub put_u32-a-requires : goal.put_u32-a-requires
+unfolding written_counts
+put_u32-a-requires c =
+    room_first _ (room_first _ (room_first _ c.requires))
+
+pub put_u32-b-requires : goal.put_u32-b-requires
+unfolding written_counts
+put_u32-b-requires c =
+    room_rest (room_first _ (room_first _ c.requires)) c.put_u32-a.ensures
+
+pub put_u32-c-requires : goal.put_u32-c-requires
+unfolding written_counts
+put_u32-c-requires c =
+    room_rest (room_first _ c.requires) (wrote_join c.put_u32-a.ensures c.put_u32-b.ensures)
+
+pub put_u32-requires : goal.put_u32-requires
+unfolding written_counts
+put_u32-requires c =
+    room_rest c.requires (wrote_join (wrote_join c.put_u32-a.ensures c.put_u32-b.ensures) c.put_u32-c.ensures)
+
+pub returns : goal.returns
+unfolding written_counts
+returns c =
+    wrote_join (wrote_join (wrote_join c.put_u32-a.ensures c.put_u32-b.ensures) c.put_u32-c.ensures) c.put_u32.ensures

@@ -1,0 +1,31 @@
+-- `job_writer::parts::put_masses` meets its contract: the masses below b are written. Assumes nothing.
+use native.Mathlib.Omega.{arith}
+use Prim.Native.Nat.{◌-◌}
+use Rattle.loops.proofs.Loop.{loops}
+use Rattle.listing.proofs.Pieces.{Writing, writing_none, writing_room, writing_more, writing_length, writing_end}
+use Rattle.job_writer.specs.Written.{written_mass}
+use Rattle.job_writer.proofs.parts.put_masses.Goals as goal
+
+pub loop-b-init : goal.loop-b-init
+loop-b-init c =
+    writing_none c.requires.3
+
+pub put_mass-next-requires : goal.put_mass-next-requires
+put_mass-next-requires c =
+    (omega arith, omega arith, omega arith, writing_room c.loop-b.invariant (omega arith))
+
+pub overflow_add-b : goal.overflow_add-b
+overflow_add-b c =
+    search loops
+
+pub loop-b-smaller : goal.loop-b-smaller
+loop-b-smaller c =
+    search loops
+
+pub loop-b-preserved : goal.loop-b-preserved
+loop-b-preserved c =
+    writing_more c.loop-b.invariant (omega arith) c.put_mass-next.ensures
+
+pub returns : goal.returns
+returns c =
+    writing_end c.loop-b.invariant (omega arith)

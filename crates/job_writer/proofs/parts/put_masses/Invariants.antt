@@ -1,0 +1,14 @@
+-- `job_writer::parts::put_masses` meets its contract: the masses below b are written. Assumes nothing.
+use native.Mathlib.Omega.{arith}
+use Prim.Native.Nat.{◌-◌}
+use Rattle.loops.proofs.Loop.{loops}
+use Rattle.listing.proofs.Pieces.{Writing, writing_none, writing_room, writing_more, writing_length, writing_end}
+use Rattle.job_writer.specs.Written.{written_mass}
+use Rattle.job_writer.proofs.parts.put_masses.Given as goal
+
+abbrev pub invariant-loop-b : goal.invariant-loop-b
+invariant-loop-b l =
+    Writing l.initial.out l.at (written_mass l.masses l.centres l.layout) l.bodies l.b l.out l.next
+
+abbrev pub decreases-loop-b : goal.decreases-loop-b
+decreases-loop-b l = l.bodies - l.b

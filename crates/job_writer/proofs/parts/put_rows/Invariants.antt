@@ -1,0 +1,14 @@
+-- `job_writer::parts::put_rows` meets its contract: the rows below i are written. Assumes nothing.
+use native.Mathlib.Omega.{arith}
+use Prim.Native.Nat.{◌-◌}
+use Rattle.loops.proofs.Loop.{loops}
+use Rattle.listing.proofs.Pieces.{Writing, writing_none, writing_room, writing_more, writing_length, writing_end}
+use Rattle.job_writer.specs.Written.{written_row}
+use Rattle.job_writer.proofs.parts.put_rows.Given as goal
+
+abbrev pub invariant-loop-i : goal.invariant-loop-i
+invariant-loop-i l =
+    Writing l.initial.out l.at (written_row l.numbers l.words) l.rows l.i l.out l.next
+
+abbrev pub decreases-loop-i : goal.decreases-loop-i
+decreases-loop-i l = l.rows - l.i

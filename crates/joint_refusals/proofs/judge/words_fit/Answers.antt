@@ -1,0 +1,35 @@
+-- `joint_refusals::judge::words_fit` meets its contract: the rows below i have passed. Assumes nothing.
+use Prim.Native.Nat.{◌*◌, ◌-◌}
+use Rattle.loops.proofs.Every.{called}
+use Rattle.joint_refusals.specs.Refusals.{words_fit_of}
+use Rattle.kapitsa_joint.specs.Row.{words_of}
+use Rattle.loops.proofs.Every.{Holds}
+use Rattle.joint_refusals.proofs.judge.words_fit.Goals as goal
+
+pub loop-i-init : goal.loop-i-init
+loop-i-init c =
+    search called
+
+pub words_fit_at-requires : goal.words_fit_at-requires
+words_fit_at-requires c =
+    search called
+
+pub returns-then-not-words_fit_at : goal.returns-then-not-words_fit_at
+returns-then-not-words_fit_at c =
+    search called
+
+pub overflow_add-i : goal.overflow_add-i
+overflow_add-i c =
+    search called
+
+pub loop-i-smaller : goal.loop-i-smaller
+loop-i-smaller c =
+    search called
+
+pub loop-i-preserved : goal.loop-i-preserved
+loop-i-preserved c =
+    search called
+
+pub returns : goal.returns
+returns c =
+    search called

@@ -1,0 +1,11 @@
+-- `kapitsa_joint::kind::place_of` meets its contract. Assumes nothing.
+use borrow.Author.Rules.{rules}
+use Rattle.kapitsa_joint.proofs.kind.place_of.Goals as goal
+
+pub returns-in-Position : goal.returns-in-Position
+returns-in-Position c =
+    rw c.in-Position.is
+
+pub returns-in-Velocity : goal.returns-in-Velocity
+returns-in-Velocity c =
+    rw c.in-Velocity.is

@@ -1,0 +1,22 @@
+-- `kapitsa_margins_c::margins::kapitsa_velocity_closing_margins` meets its contract. Assumes nothing.
+use borrow.Author.Rules.{rules}
+use Rattle.kapitsa_joint.specs.declared.kind.Kind.TheVariants as kinds
+use Rattle.kapitsa_c.proofs.Verdicts.{told_lengths}
+use Rattle.kapitsa_margins_c.proofs.Listed.{listed_on, unlisted}
+use Rattle.kapitsa_margins_c.proofs.margins.kapitsa_velocity_closing_margins.Goals as goal
+
+pub returns-then-not-verdict_fits : goal.returns-then-not-verdict_fits
+returns-then-not-verdict_fits c =
+    unlisted kinds.Velocity _ _ _ _ _ _ _ _ _ _ _ _ c.verdict_fits.ensures c.if-not-verdict_fits.true-raw
+
+pub tell_verdict-requires : goal.tell_verdict-requires
+tell_verdict-requires c =
+    told_lengths _ _ c.verdict_fits.ensures c.if-not-verdict_fits.false-raw
+
+pub returns : goal.returns
+returns c =
+    listed_on kinds.Velocity _ _ _ _ _ _ _ _ _ _ _ _
+    c.verdict_fits.ensures
+    c.if-not-verdict_fits.false-raw
+    c.velocity_closing_margins-answer.ensures
+    c.tell_verdict.ensures

@@ -1,0 +1,24 @@
+-- `kapitsa_math::vector::Vec3::abs` meets its contract. Assumes nothing.
+use borrow.Author.Rules.{rules}
+use Rattle.kapitsa_math.specs.Vector.{abs_of}
+use Rattle.kapitsa_math.proofs.vector.Vec3.abs.Goals as goal
+
+pub abs-requires : goal.abs-requires
+unfolding abs_of
+abs-requires c =
+    search rules
+
+pub abs-requires-2 : goal.abs-requires-2
+unfolding abs_of
+abs-requires-2 c =
+    search rules
+
+pub abs-requires-3 : goal.abs-requires-3
+unfolding abs_of
+abs-requires-3 c =
+    search rules
+
+pub returns : goal.returns
+unfolding abs_of
+returns c =
+    rw (c.abs.ensures, c.abs-2.ensures, c.abs-3.ensures)

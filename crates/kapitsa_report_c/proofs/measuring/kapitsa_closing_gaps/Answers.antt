@@ -1,0 +1,24 @@
+-- `kapitsa_report_c::measuring::kapitsa_closing_gaps` meets its contract. Assumes nothing.
+use mathlib.Core.List.{[]}
+use borrow.Author.Rules.{rules}
+use Rattle.kapitsa_joint.specs.declared.kind.Kind.TheVariants as kinds
+use Rattle.mass_operator.specs.Flat.{coefficients}
+use Rattle.kapitsa_c.proofs.Verdicts.{told_lengths}
+use Rattle.kapitsa_report_c.proofs.Measured.{measured_on, unmeasured}
+use Rattle.kapitsa_report_c.proofs.measuring.kapitsa_closing_gaps.Goals as goal
+
+pub returns-then-not-verdict_fits : goal.returns-then-not-verdict_fits
+returns-then-not-verdict_fits c =
+    unmeasured kinds.Position _ _ _ (coefficients []) _ _ _ _ _ _ _ c.verdict_fits.ensures c.if-not-verdict_fits.true-raw
+
+pub tell_verdict-requires : goal.tell_verdict-requires
+tell_verdict-requires c =
+    told_lengths _ _ c.verdict_fits.ensures c.if-not-verdict_fits.false-raw
+
+pub returns : goal.returns
+returns c =
+    measured_on kinds.Position _ _ _ (coefficients []) _ _ _ _ _ _ _
+    c.verdict_fits.ensures
+    c.if-not-verdict_fits.false-raw
+    c.closing_gaps-answer.ensures
+    c.tell_verdict.ensures

@@ -1,0 +1,17 @@
+-- `kapitsa_velocity_c::closing_speeds::kapitsa_velocity_closing_check` meets its contract. Assumes nothing.
+use borrow.Author.Rules.{rules}
+use Rattle.kapitsa_joint.specs.declared.kind.Kind.TheVariants as kinds
+use Rattle.kapitsa_c.proofs.Verdicts.{told_lengths, told_on, untold}
+use Rattle.kapitsa_velocity_c.proofs.closing_speeds.kapitsa_velocity_closing_check.Goals as goal
+
+pub returns-then-not-verdict_fits : goal.returns-then-not-verdict_fits
+returns-then-not-verdict_fits c =
+    untold kinds.Velocity _ _ _ _ _ _ _ _ _ _ c.verdict_fits.ensures c.if-not-verdict_fits.true-raw
+
+pub tell_verdict-requires : goal.tell_verdict-requires
+tell_verdict-requires c =
+    told_lengths _ _ c.verdict_fits.ensures c.if-not-verdict_fits.false-raw
+
+pub returns : goal.returns
+returns c =
+    told_on kinds.Velocity _ _ _ _ _ _ _ _ _ _ c.verdict_fits.ensures c.if-not-verdict_fits.false-raw c.velocity_closing_check-answer.ensures c.tell_verdict.ensures

@@ -1,0 +1,25 @@
+-- `kapitsa_velocity_c::moving::kapitsa_solve_velocity` meets its contract. Assumes nothing.
+use mathlib.Core.Path.{refl}
+use Rattle.solve_method.proofs.InPlace.{velocity_apart}
+use Rattle.kapitsa_c.proofs.Telling.{told_lengths, told_on, untold}
+use Rattle.kapitsa_velocity_c.proofs.moving.kapitsa_solve_velocity.Goals as goal
+
+pub told_fits-requires : goal.told_fits-requires
+told_fits-requires c =
+    record {}
+
+pub returns-then-not-told_fits : goal.returns-then-not-told_fits
+returns-then-not-told_fits c =
+    untold _ _ _ _ _ _ _ _ _ _ _ (velocity_apart _ _ _ _) _ _ _ c.told_fits.ensures c.if-not-told_fits.true-raw
+
+pub solve_velocity_pcg_prepared-answer-requires : goal.solve_velocity_pcg_prepared-answer-requires
+solve_velocity_pcg_prepared-answer-requires c =
+    record {}
+
+pub tell-requires : goal.tell-requires
+tell-requires c =
+    told_lengths c.args.counts.now c.args.maxima.now _ c.told_fits.ensures c.if-not-told_fits.false-raw
+
+pub returns : goal.returns
+returns c =
+    told_on _ _ _ _ _ _ _ _ _ _ _ (velocity_apart _ _ _ _) _ _ _ c.told_fits.ensures _ _ _ _ _ c.if-not-told_fits.false-raw c.solve_velocity_pcg_prepared-answer.ensures c.tell.ensures

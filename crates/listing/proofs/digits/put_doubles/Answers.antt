@@ -1,0 +1,54 @@
+-- `listing::digits::put_doubles` meets its contract: the numbers below k are written. Assumes nothing.
+use native.Mathlib.Omega.{arith}
+use Prim.Native.Nat.{◌-◌, ◌+◌}
+use lib.ListN.{get_or}
+use lib.Ieee.{nan}
+use Rattle.loops.proofs.Loop.{loops}
+use Rattle.listing.proofs.Pieces.{Writing, writing_none, writing_room, writing_more, writing_length, writing_end}
+use Rattle.listing.specs.Digits.{double, doubles}
+use Rattle.listing.proofs.digits.put_doubles.Goals as goal
+
+pub loop-k-init : goal.loop-k-init
+unfolding doubles
+loop-k-init c =
+    writing_none c.requires.1
+
+pub overflow_add-first : goal.overflow_add-first
+unfolding doubles
+overflow_add-first c =
+    search loops
+
+pub offset_bounds-list-first : goal.offset_bounds-list-first
+unfolding doubles
+offset_bounds-list-first c =
+    search loops
+
+pub bounds-list-first : goal.bounds-list-first
+unfolding doubles
+bounds-list-first c =
+    search loops
+
+pub put_double-next-requires : goal.put_double-next-requires
+unfolding doubles
+put_double-next-requires c =
+    writing_room c.loop-k.invariant (omega arith)
+
+pub overflow_add-k : goal.overflow_add-k
+unfolding doubles
+overflow_add-k c =
+    search loops
+
+pub loop-k-smaller : goal.loop-k-smaller
+unfolding doubles
+loop-k-smaller c =
+    search loops
+
+pub loop-k-preserved : goal.loop-k-preserved
+unfolding doubles
+loop-k-preserved c =
+    writing_more c.loop-k.invariant (omega arith) c.put_double-next.ensures
+
+pub returns : goal.returns
+unfolding doubles
+returns c =
+    writing_end c.loop-k.invariant (omega arith)

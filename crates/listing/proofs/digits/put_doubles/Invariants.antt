@@ -1,0 +1,16 @@
+-- `listing::digits::put_doubles` meets its contract: the numbers below k are written. Assumes nothing.
+use native.Mathlib.Omega.{arith}
+use Prim.Native.Nat.{◌-◌, ◌+◌}
+use lib.ListN.{get_or}
+use lib.Ieee.{nan}
+use Rattle.loops.proofs.Loop.{loops}
+use Rattle.listing.proofs.Pieces.{Writing, writing_none, writing_room, writing_more, writing_length, writing_end}
+use Rattle.listing.specs.Digits.{double, doubles}
+use Rattle.listing.proofs.digits.put_doubles.Given as goal
+
+abbrev pub invariant-loop-k : goal.invariant-loop-k
+invariant-loop-k l =
+    Writing l.initial.out l.at (λ l.k. double (get_or l.list (l.first + l.k) nan)) l.n l.k l.out l.next
+
+abbrev pub decreases-loop-k : goal.decreases-loop-k
+decreases-loop-k l = l.n - l.k

@@ -1,0 +1,17 @@
+-- `listing::digits::put_hexadecimal` meets its contract: the digits below k are written. Assumes nothing.
+use Prim.Native.Nat.{◌-◌, ◌*◌, ◌/◌, ◌%◌, ◌^◌}
+use mathlib.Core.List.{[], ◌∷◌}
+use Rattle.loops.proofs.Loop.{loops}
+use Rattle.listing.specs.Digits.{hexadecimal_digit, hexadecimal}
+use Rattle.listing.proofs.Pieces.{Writing}
+use native.Mathlib.Omega.{arith}
+use Rattle.listing.proofs.Joined.{room_byte, wrote_byte}
+use Rattle.listing.proofs.Pieces.{writing_none, writing_room, writing_more, writing_length, writing_end}
+use Rattle.listing.proofs.digits.put_hexadecimal.Given as goal
+
+abbrev pub invariant-loop-k : goal.invariant-loop-k
+invariant-loop-k l =
+    Writing l.initial.out l.at (λ l.k. hexadecimal_digit (l.bits / 2 ^ (60 - 4 * l.k) % 16) ∷ []) 16 l.k l.out l.next
+
+abbrev pub decreases-loop-k : goal.decreases-loop-k
+decreases-loop-k l = 16 - l.k

@@ -1,0 +1,15 @@
+-- `listing::lines::body_lines` meets its contract: the lines below b are written. Assumes nothing.
+use native.Mathlib.Omega.{arith}
+use Prim.Native.Nat.{◌-◌}
+use Rattle.loops.proofs.Loop.{loops}
+use Rattle.listing.proofs.Pieces.{Writing, writing_none, writing_room, writing_more, writing_length, writing_end}
+use Rattle.listing.specs.Lines.{body_line}
+use Rattle.listing.specs.Listing.{body_lines}
+use Rattle.listing.proofs.lines.body_lines.Given as goal
+
+abbrev pub invariant-loop-b : goal.invariant-loop-b
+invariant-loop-b l =
+    Writing l.initial.out l.at (λ l.b. body_line l.b l.impulses l.spare l.centres) l.bodies l.b l.out l.next
+
+abbrev pub decreases-loop-b : goal.decreases-loop-b
+decreases-loop-b l = l.bodies - l.b

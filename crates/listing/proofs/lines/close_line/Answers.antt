@@ -1,0 +1,26 @@
+-- `listing::lines::close_line` meets its contract. Assumes nothing.
+use Rattle.loops.proofs.Loop.{loops}
+use Rattle.listing.specs.Lines.{close_line}
+use Rattle.listing.proofs.Joined.{room_first, room_rest, wrote_join, length_wrote, room_as, wrote_as}
+use Rattle.listing.proofs.Names.{close_name_lem}
+use Rattle.listing.proofs.lines.close_line.Goals as goal
+
+pub put_text-a-requires : goal.put_text-a-requires
+unfolding close_line
+put_text-a-requires c =
+    room_as close_name_lem (room_first _ (room_first _ c.requires))
+
+pub put_number-b-requires : goal.put_number-b-requires
+unfolding close_line
+put_number-b-requires c =
+    room_rest (room_first _ c.requires) (wrote_as close_name_lem c.put_text-a.ensures)
+
+pub put_byte-requires : goal.put_byte-requires
+unfolding close_line
+put_byte-requires c =
+    room_rest c.requires (wrote_join (wrote_as close_name_lem c.put_text-a.ensures) c.put_number-b.ensures)
+
+pub returns : goal.returns
+unfolding close_line
+returns c =
+    wrote_join (wrote_join (wrote_as close_name_lem c.put_text-a.ensures) c.put_number-b.ensures) c.put_byte.ensures

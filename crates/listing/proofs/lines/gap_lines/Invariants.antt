@@ -1,0 +1,16 @@
+-- `listing::lines::gap_lines` meets its contract: the lines below i are written. Assumes nothing.
+use Prim.Native.Nat.{◌-◌}
+use native.Mathlib.Omega.{arith}
+use Rattle.loops.proofs.Loop.{loops}
+use Rattle.listing.specs.Listing.{row_gap, gap_lines}
+use Rattle.listing.proofs.Joined.{room_as, wrote_as}
+use Rattle.listing.proofs.Names.{rule_below, row_gap_as}
+use Rattle.listing.proofs.Pieces.{Writing, writing_none, writing_room, writing_more, writing_length, writing_end}
+use Rattle.listing.proofs.lines.gap_lines.Given as goal
+
+abbrev pub invariant-loop-i : goal.invariant-loop-i
+invariant-loop-i l =
+    Writing l.initial.out l.at (row_gap l.words l.gaps l.rule_numbers l.tolerances) l.rows l.i l.out l.next
+
+abbrev pub decreases-loop-i : goal.decreases-loop-i
+decreases-loop-i l = l.rows - l.i

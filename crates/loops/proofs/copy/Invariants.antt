@@ -1,0 +1,13 @@
+-- `loops::copy` meets its contract: after i turns the first i numbers are those of `from`. Assumes nothing.
+use Prim.Native.Nat.{◌-◌}
+use lib.Ieee.{nan}
+use lib.ListN.{length, get_or}
+use Rattle.loops.proofs.Fill.{Fills, fills}
+use Rattle.loops.proofs.copy.Given as goal
+
+abbrev pub invariant-loop-i : goal.invariant-loop-i
+invariant-loop-i l =
+    Fills nan (λ k. get_or l.from k nan) (length l.from) l.i l.out
+
+abbrev pub decreases-loop-i : goal.decreases-loop-i
+decreases-loop-i l = length l.from - l.i

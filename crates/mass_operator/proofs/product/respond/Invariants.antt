@@ -1,0 +1,12 @@
+-- `mass_operator::product::respond` meets its contract: the bodies below b have their response. Assumes nothing.
+use Prim.Native.Nat.{◌-◌, ◌≤◌}
+use Rattle.loops.proofs.Loop.{loops}
+use Rattle.mass_operator.proofs.Sums.{Turned, turned_all, turned_more, turned_none}
+use Rattle.mass_operator.proofs.product.respond.Given as goal
+
+abbrev pub invariant-loop-b : goal.invariant-loop-b
+invariant-loop-b l =
+    (l.b ≤ l.bodies) × Turned l.masses l.bodies l.b l.initial.body_impulses l.body_impulses
+
+abbrev pub decreases-loop-b : goal.decreases-loop-b
+decreases-loop-b l = l.bodies - l.b

@@ -1,0 +1,37 @@
+-- `pairs::pattern::first_column` meets its contract. Assumes nothing.
+use borrow.Author.Rules.{rules}
+use native.Mathlib.Omega.{arith}
+use Rattle.pairs.proofs.Firsts.{begin_row}
+use Rattle.pairs.proofs.pattern.first_column.Goals as goal
+
+pub overflow_mul-at : goal.overflow_mul-at
+overflow_mul-at c =
+    omega arith
+
+pub offset_bounds-links-at : goal.offset_bounds-links-at
+offset_bounds-links-at c =
+    omega arith
+
+pub bounds-links-at : goal.bounds-links-at
+bounds-links-at c =
+    omega arith
+
+pub overflow_add-at : goal.overflow_add-at
+overflow_add-at c =
+    omega arith
+
+pub offset_bounds-links-at-2 : goal.offset_bounds-links-at-2
+offset_bounds-links-at-2 c =
+    omega arith
+
+pub bounds-links-at-2 : goal.bounds-links-at-2
+bounds-links-at-2 c =
+    omega arith
+
+pub returns-then-a-b : goal.returns-then-a-b
+returns-then-a-b c =
+    begin_row _ _ _ _ _ _ _ _ c.wide-at.ensures c.requires.firsts c.first_row-a.ensures c.first_row-b.ensures _ (omega arith) (omega arith)
+
+pub returns : goal.returns
+returns c =
+    begin_row _ _ _ _ _ _ _ _ c.wide-at.ensures c.requires.firsts c.first_row-a.ensures c.first_row-b.ensures _ (omega arith) (omega arith)

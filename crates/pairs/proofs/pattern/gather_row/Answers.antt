@@ -1,0 +1,69 @@
+-- `pairs::pattern::gather_row` meets its contract: the columns below j are tried. Assumes nothing.
+use Prim.Native.Nat.{◌-◌, ◌≤◌}
+use mathlib.Core.Path.{◌≡◌, refl}
+use lib.ListN.{length}
+use native.Mathlib.Omega.{arith}
+use borrow.Author.Rules.{rules}
+use Rattle.pairs.proofs.Parts.{Bodies, bodies_of, eight_within, row_done, row_eight, row_full, row_more, row_begin}
+use Rattle.pairs.specs.Gather.{RowPart, share_in}
+use Rattle.pairs.proofs.pattern.gather_row.Goals as goal
+
+pub overflow_mul-at : goal.overflow_mul-at
+overflow_mul-at c =
+    omega arith
+
+pub offset_bounds-links-at : goal.offset_bounds-links-at
+offset_bounds-links-at c =
+    omega arith
+
+pub bounds-links-at : goal.bounds-links-at
+bounds-links-at c =
+    omega arith
+
+pub overflow_add-b : goal.overflow_add-b
+overflow_add-b c =
+    omega arith
+
+pub offset_bounds-links-at-2 : goal.offset_bounds-links-at-2
+offset_bounds-links-at-2 c =
+    omega arith
+
+pub bounds-links-at-2 : goal.bounds-links-at-2
+bounds-links-at-2 c =
+    omega arith
+
+pub loop-j-init : goal.loop-j-init
+loop-j-init c =
+    (omega arith, refl, bodies_of _ _ _ c.wide-at.ensures, row_begin _ _ _ _ _ (omega arith) c.requires.begin)
+
+pub overflow_add-j : goal.overflow_add-j
+overflow_add-j c =
+    omega (arith, eight_within _ _ _ _ _ _ c.eight_apart.ensures c.if-eight_apart.true)
+
+pub loop-j-smaller-then-eight_apart : goal.loop-j-smaller-then-eight_apart
+loop-j-smaller-then-eight_apart c =
+    omega (arith, eight_within _ _ _ _ _ _ c.eight_apart.ensures c.if-eight_apart.true)
+
+pub loop-j-preserved-then-eight_apart : goal.loop-j-preserved-then-eight_apart
+loop-j-preserved-then-eight_apart c =
+    (eight_within _ _ _ _ _ _ c.eight_apart.ensures c.if-eight_apart.true, c.loop-j.invariant.1, c.loop-j.invariant.2, row_eight _ _ _ _ _ _ c.eight_apart.ensures c.if-eight_apart.true _ _ _ _ c.loop-j.invariant.2 c.loop-j.invariant.3)
+
+pub returns-in-Full : goal.returns-in-Full
+returns-in-Full c =
+    row_full _ _ _ _ _ _ _ _ _ _ _ c.loop-j.invariant.3 c.loop-j.invariant.2 c.try_column.ensures.value _ (omega arith) c.in-Full.is
+
+pub overflow_add-j-in-loop-j : goal.overflow_add-j-in-loop-j
+overflow_add-j-in-loop-j c =
+    omega arith
+
+pub loop-j-smaller : goal.loop-j-smaller
+loop-j-smaller c =
+    omega arith
+
+pub loop-j-preserved : goal.loop-j-preserved
+loop-j-preserved c =
+    (omega arith, omega arith, c.loop-j.invariant.2, row_more _ _ _ _ _ _ _ _ _ _ _ c.loop-j.invariant.3 c.loop-j.invariant.2 c.try_column.ensures.value _ _ (omega arith) c.try_column.ensures.columns_after c.in-Done.is)
+
+pub returns : goal.returns
+returns c =
+    row_done _ _ _ _ _ _ _ _ c.loop-j.invariant.3 (omega arith) (omega arith)

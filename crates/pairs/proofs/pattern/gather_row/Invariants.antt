@@ -1,0 +1,16 @@
+-- `pairs::pattern::gather_row` meets its contract: the columns below j are tried. Assumes nothing.
+use Prim.Native.Nat.{◌-◌, ◌≤◌}
+use mathlib.Core.Path.{◌≡◌, refl}
+use lib.ListN.{length}
+use native.Mathlib.Omega.{arith}
+use borrow.Author.Rules.{rules}
+use Rattle.pairs.proofs.Parts.{Bodies, bodies_of, eight_within, row_done, row_eight, row_full, row_more, row_begin}
+use Rattle.pairs.specs.Gather.{RowPart, share_in}
+use Rattle.pairs.proofs.pattern.gather_row.Given as goal
+
+abbrev pub invariant-loop-j : goal.invariant-loop-j
+invariant-loop-j l =
+    (l.j ≤ l.i) × (length l.columns ≡ length l.initial.columns) × Bodies l.links l.i l.a l.b × RowPart (share_in l.links) l.initial.columns l.columns l.i l.first l.p l.j
+
+abbrev pub decreases-loop-j : goal.decreases-loop-j
+decreases-loop-j l = l.i - l.j

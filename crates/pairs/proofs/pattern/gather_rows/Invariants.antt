@@ -1,0 +1,19 @@
+-- `pairs::pattern::gather_rows` meets its contract: the rows below i are gathered. Assumes nothing.
+use Prim.Native.Nat.{◌+◌, ◌-◌, ◌≤◌}
+use mathlib.Core.Path.{◌≡◌}
+use lib.ListN.{length}
+use native.Mathlib.Omega.{arith}
+use Rattle.loops.proofs.Loop.{loops}
+use Rattle.pairs.proofs.Firsts.{firsts_none}
+use Rattle.pairs.proofs.Parted.{columns_lent_long, columns_long}
+use Rattle.pairs.proofs.Parts.{rows_end, rows_full, rows_more, rows_none, rows_within}
+use Rattle.pairs.specs.Gather.{Firsts, Stored, share_in}
+use Rattle.pairs.specs.Pattern.{starts_in, columns_in}
+use Rattle.pairs.proofs.pattern.gather_rows.Given as goal
+
+abbrev pub invariant-loop-i : goal.invariant-loop-i
+invariant-loop-i l =
+    (l.i ≤ l.n) × (length l.pattern ≡ l.n + 1 + l.room) × (length l.firsts ≡ length l.initial.firsts) × Firsts l.links l.firsts l.i × Stored (share_in l.links) (starts_in l.n l.pattern) (columns_in l.n l.pattern) l.i l.p
+
+abbrev pub decreases-loop-i : goal.decreases-loop-i
+decreases-loop-i l = l.n - l.i

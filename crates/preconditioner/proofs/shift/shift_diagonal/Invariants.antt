@@ -1,0 +1,17 @@
+-- `preconditioner::shift::shift_diagonal` meets its contract: the first i numbers are scaled, the others those at entry. Assumes nothing.
+use Prim.Native.Nat.{◌-◌}
+use mathlib.Core.Path.{refl}
+use native.Mathlib.Omega.{arith}
+use lib.Ieee.{nan}
+use lib.ListN.{length}
+use Rattle.loops.proofs.Loop.{loops}
+use Rattle.preconditioner.proofs.InPlace.{Changes, changes_more, changes_none}
+use Rattle.preconditioner.proofs.Shifted.{scaling, diagonal_shifted}
+use Rattle.preconditioner.proofs.shift.shift_diagonal.Given as goal
+
+abbrev pub invariant-loop-i : goal.invariant-loop-i
+invariant-loop-i l =
+    Changes nan (scaling l.scale) l.initial.diagonal l.i l.diagonal
+
+abbrev pub decreases-loop-i : goal.decreases-loop-i
+decreases-loop-i l = length l.initial.diagonal - l.i

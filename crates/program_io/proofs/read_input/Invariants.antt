@@ -1,0 +1,15 @@
+-- `program_io::read_input` meets its contract, and ends: each turn reads a byte at least. Assumes nothing.
+use Prim.Native.Nat.{◌-◌, ◌≤◌}
+use mathlib.Core.Path.{◌≡◌, sym}
+use lib.ListN.{length}
+use lib.Seq.{length-take-le}
+use borrow.Author.Rules.{rules}
+use Rattle.program_io.proofs.Filled.{filled_within}
+use Rattle.program_io.proofs.read_input.Given as goal
+
+abbrev pub invariant-loop-done : goal.invariant-loop-done
+invariant-loop-done l =
+    (l.done ≤ length l.space) × (length l.space ≡ length l.initial.space)
+
+abbrev pub decreases-loop-done : goal.decreases-loop-done
+decreases-loop-done l = length l.space - l.done

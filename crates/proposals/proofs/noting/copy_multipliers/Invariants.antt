@@ -1,0 +1,16 @@
+-- `proposals::noting::copy_multipliers` meets its contract: the first i multipliers are written. Assumes nothing.
+use Prim.Native.Nat.{◌-◌}
+use lib.Ieee.{nan}
+use lib.ListN.{length}
+use Rattle.loops.proofs.Fill.{Fills, fills_none, fills_more}
+use Rattle.loops.proofs.Loop.{loops}
+use Rattle.loops.proofs.Tabulate.{filled_tabulate}
+use Rattle.position.specs.Multipliers.{accumulated_in}
+use Rattle.proposals.proofs.noting.copy_multipliers.Given as goal
+
+abbrev pub invariant-loop-i : goal.invariant-loop-i
+invariant-loop-i l =
+    Fills nan (accumulated_in 24 l.numbers) (length l.initial.started) l.i l.started
+
+abbrev pub decreases-loop-i : goal.decreases-loop-i
+decreases-loop-i l = length l.initial.started - l.i

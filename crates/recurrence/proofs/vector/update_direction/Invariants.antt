@@ -1,0 +1,14 @@
+-- `recurrence::vector::update_direction` meets its contract: the first i numbers are changed and tested, the others those at entry. Assumes nothing.
+use Prim.Native.Nat.{◌-◌}
+use lib.ListN.{length}
+use Rattle.loops.proofs.Loop.{loops}
+use Rattle.recurrence.proofs.Sums.{turned, becomes}
+use Rattle.recurrence.proofs.Tested.{Tested, tested_none, tested_more, tested_end}
+use Rattle.recurrence.proofs.vector.update_direction.Given as goal
+
+abbrev pub invariant-loop-i : goal.invariant-loop-i
+invariant-loop-i l =
+    Tested (becomes l.preconditioned l.scale) l.initial.direction l.i l.direction l.all
+
+abbrev pub decreases-loop-i : goal.decreases-loop-i
+decreases-loop-i l = length l.initial.direction - l.i

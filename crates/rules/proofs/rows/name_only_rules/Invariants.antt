@@ -1,0 +1,15 @@
+-- `rules::rows::name_only_rules` meets its contract: the rows below i have the number of their rule. Assumes nothing.
+use Prim.Native.Nat.{◌-◌}
+use lib.ListN.{length}
+use Rattle.loops.proofs.Fill.{Fills, fills}
+use Rattle.loops.proofs.Tabulate.{filled_tabulate}
+use Rattle.rules.specs.Rows.{rules_in, rule_in}
+use Rattle.rules.proofs.EachRow.{row_ruled}
+use Rattle.rules.proofs.rows.name_only_rules.Given as goal
+
+abbrev pub invariant-loop-i : goal.invariant-loop-i
+invariant-loop-i l =
+    Fills 0 (rule_in (rules_in l.rule_words l.rule_tolerances) l.row_words) (length l.initial.rule_numbers) l.i l.rule_numbers
+
+abbrev pub decreases-loop-i : goal.decreases-loop-i
+decreases-loop-i l = length l.initial.rule_numbers - l.i

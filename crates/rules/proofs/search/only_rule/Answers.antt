@@ -1,0 +1,14 @@
+-- `rules::search::only_rule` meets its contract: the first that applies is the one. Assumes nothing.
+use Rattle.rules.specs.Rules.{rule_for}
+use Rattle.rules.proofs.Finding.{searches}
+use Rattle.rules.proofs.search.only_rule.Goals as goal
+
+pub first_rule-requires : goal.first_rule-requires
+unfolding rule_for
+first_rule-requires c =
+    search searches
+
+pub returns : goal.returns
+unfolding rule_for
+returns c =
+    search searches

@@ -1,0 +1,49 @@
+-- `sparse::cholesky::factor` meets its contract. Assumes nothing.
+use Prim.Native.Nat.{◌-◌}
+use mathlib.Core.Path.{◌≡◌}
+use lib.ListN.{length}
+use Rattle.loops.proofs.Loop.{At, loops}
+use Rattle.sparse.proofs.Marks.{most_clear, rows_on, rows_out}
+use Rattle.sparse.proofs.Left.{factor_tells}
+use Rattle.sparse.specs.Cholesky.{factor_run, row_turn}
+use Rattle.sparse.specs.Kept.{numbers, start}
+use Rattle.sparse.specs.Marks.{AtMost}
+use Rattle.sparse.specs.declared.cholesky.Factored.TheVariants.{Done, Refused}
+use Rattle.sparse.proofs.cholesky.factor.Goals as goal
+
+ruleset known = (rows_on, rows_out, most_clear, loops)
+
+pub loop-i-init : goal.loop-i-init
+unfolding factor_run
+loop-i-init c =
+    search known
+
+pub row_at-requires : goal.row_at-requires
+unfolding factor_run
+row_at-requires c =
+    record { kept = search known; values_len = search known; starts_len = search known; pivots_len = search known; i_in_bounds = search known; at_most = search known }
+
+pub returns-in_default : goal.returns-in_default
+unfolding factor_run
+returns-in_default c =
+    factor_tells Refused _ _ (search known) _ _ _ _ _ (search known) (search known)
+
+pub overflow_add-i : goal.overflow_add-i
+unfolding factor_run
+overflow_add-i c =
+    search known
+
+pub loop-i-smaller : goal.loop-i-smaller
+unfolding factor_run
+loop-i-smaller c =
+    search known
+
+pub loop-i-preserved : goal.loop-i-preserved
+unfolding factor_run
+loop-i-preserved c =
+    (search known, search known, search known, search known, search known)
+
+pub returns : goal.returns
+unfolding factor_run
+returns c =
+    factor_tells Done _ _ (search known) _ _ _ _ _ (search known) (search known)

@@ -1,0 +1,16 @@
+-- `triangular::substitution::along_column` meets its contract. Assumes nothing.
+use Prim.Native.Nat.{◌-◌}
+use Rattle.sparse.proofs.Hop.{Hops, hop_more, hops, plain}
+use Rattle.sparse.specs.Kept.{numbers}
+use Rattle.triangular.proofs.Down.{down_rising}
+use Rattle.triangular.proofs.Homes.{homes}
+use Rattle.triangular.proofs.Solves.{down_skip, down_way}
+use Rattle.triangular.specs.Triangular.{along_turn, transposed}
+use Rattle.triangular.proofs.substitution.along_column.Given as goal
+
+abbrev pub invariant-loop-q : goal.invariant-loop-q
+invariant-loop-q l =
+    Hops (plain (along_turn (transposed (numbers l.starts l.columns l.values) l.j) l.output)) l.value (homes l.order l.rows) l.first l.end l.rows l.q l.rest
+
+abbrev pub decreases-loop-q : goal.decreases-loop-q
+decreases-loop-q l = l.end - l.q

@@ -1,0 +1,7 @@
+-- `triangular::substitution::term` meets its contract. Assumes nothing.
+use borrow.Author.Rules.{rules}
+use Rattle.triangular.proofs.substitution.term.Goals as goal
+
+pub returns : goal.returns
+returns c =
+    rw c.number.ensures
