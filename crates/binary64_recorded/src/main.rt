@@ -3,8 +3,8 @@
 ghost use Rattle.std.specs.Prelude.{◌≡◌, ◌+◌, ◌≤◌, length};
 
 use binary64::RootAnswer;
-use libc::{STDIN_FILENO, STDOUT_FILENO};
 use little_endian::word;
+use program_io::read_full;
 
 const RECORD: usize = 40;
 
@@ -123,9 +123,9 @@ fn list_counted(list: &[u8]) -> Tally {
     tally
 }
 
-fn line(n: u32, text: &[u8]) {
-    io::print_decimal(STDOUT_FILENO, n as u64);
-    io::write_all(STDOUT_FILENO, text);
+fn line(rt: &HostRuntime, n: u32, text: &[u8]) {
+    let _ = print!(rt; "{n}");
+    let _ = rt.write_all(text);
 }
 
 // Room for the list. The contract gives its length alone: that is all that lending it needs.
@@ -135,11 +135,11 @@ fn room() -> [u8; 192000]
     [0; 192000]
 }
 
-fn main() {
+fn main(rt: HostRuntime) {
     let mut space = room();
-    let n = io::read_full(STDIN_FILENO, &mut space);
+    let n = read_full(&rt, &mut space);
     let tally = list_counted(&space[..n]);
-    line(tally.records, b" records\n");
-    line(tally.refused, b" refused by 19\n");
-    line(tally.differ, b" differ\n");
+    line(&rt, tally.records, b" records\n");
+    line(&rt, tally.refused, b" refused by 19\n");
+    line(&rt, tally.differ, b" differ\n");
 }

@@ -5,23 +5,23 @@ mod tally; // tally.rt: the counts
 
 ghost use Rattle.std.specs.Prelude.{◌≡◌, length};
 
-use libc::{STDIN_FILENO, STDOUT_FILENO};
 use matrix::seen;
+use program_io::read_full;
 use tally::Tally;
 
-fn line(n: u32, text: &[u8]) {
-    io::print_decimal(STDOUT_FILENO, n as u64);
-    io::write_all(STDOUT_FILENO, text);
+fn line(rt: &HostRuntime, n: u32, text: &[u8]) {
+    let _ = print!(rt; "{n}");
+    let _ = rt.write_all(text);
 }
 
 // A list has far fewer records than are read at most. One that ends too soon differs.
-fn tallied(space: &mut [u8]) -> Tally
+fn tallied(rt: &HostRuntime, space: &mut [u8]) -> Tally
     requires { length space.old ≡ 256 }
 {
     let mut tally = Tally::none();
     let mut left: u32 = 10000000;
     while 0 < left {
-        let n = io::read_full(STDIN_FILENO, space);
+        let n = read_full(rt, space);
         if n == 0 {
             return tally;
         }
@@ -34,19 +34,20 @@ fn tallied(space: &mut [u8]) -> Tally
     tally
 }
 
-fn main() {
+fn main(rt: HostRuntime) {
     let mut space: [u8; 256] = [0; 256];
-    let tally = tallied(&mut space);
-    line(tally.matrices, b" matrices\n");
-    line(tally.accepted, b" inverted\n");
-    line(tally.refused_21, b" refused by 21\n");
-    line(tally.refused_22, b" refused by 22\n");
-    line(tally.refused_23, b" refused by 23\n");
-    line(tally.refused_12, b" refused by 12\n");
-    line(tally.by_hand, b" factors by hand\n");
+    let tally = tallied(&rt, &mut space);
+    line(&rt, tally.matrices, b" matrices\n");
+    line(&rt, tally.accepted, b" inverted\n");
+    line(&rt, tally.refused_21, b" refused by 21\n");
+    line(&rt, tally.refused_22, b" refused by 22\n");
+    line(&rt, tally.refused_23, b" refused by 23\n");
+    line(&rt, tally.refused_12, b" refused by 12\n");
+    line(&rt, tally.by_hand, b" factors by hand\n");
     line(
+        &rt,
         tally.signs,
         b" with a zero of the other sign in the triangle or the solution\n",
     );
-    line(tally.differ, b" differ\n");
+    line(&rt, tally.differ, b" differ\n");
 }

@@ -6,7 +6,4 @@ pub mod Judgement
 pub mod Reading
 pub mod Meaning
 pub mod Rows
-pub mod Held
-pub mod Again
 pub mod Walking
-pub mod Stepping

@@ -52,7 +52,7 @@ apart {links} {firsts} h body k l u = rw (
 
 module _ (links firsts₀ firsts₁ firsts : List ℕ) (i w r s : ℕ) (ew : w ≡ i) (h : Firsts links firsts₀ i) (x : FirstNoted firsts₀ firsts₁ (get_or links (2 * w) 0) i r)
     (y : FirstNoted firsts₁ firsts (get_or links (2 * w + 1) 0) i s) where
-  begin_lower : (m : ℕ) → m ≤ r → m ≤ s → Begin (share_in links) i m
+  pub begin_lower : (m : ℕ) → m ≤ r → m ≤ s → Begin (share_in links) i m
   unfolding share_in shares_in
   begin_lower m l u = rw (← ew) (record { within = omega (arith, x.within, ew); none = none })
     where
@@ -62,7 +62,7 @@ module _ (links firsts₀ firsts₁ firsts : List ℕ) (i w r s : ℕ) (ew : w �
         apart h (get_or links (2 * w + 1) 0) k (omega (arith, x.within)) (omega (arith, y.before, x.lower (get_or links (2 * w + 1) 0))),
       )
 
-  firsts_more : Firsts links firsts (i + 1)
+  pub firsts_more : Firsts links firsts (i + 1)
   firsts_more = record { a = λ k l. at_a k l (ℕ_discrete k i); b = λ k l. at_b k l (ℕ_discrete k i) }
     where
       lower : (c : ℕ) → get_or firsts c 0 ≤ get_or firsts₀ c 0
@@ -75,6 +75,3 @@ module _ (links firsts₀ firsts₁ firsts : List ℕ) (i w r s : ℕ) (ew : w �
       at_b : (k : ℕ) → k < i + 1 → Dec (k ≡ i) → get_or firsts (get_or links (2 * k + 1) 0) 0 ≤ k
       at_b k l (yes z) = rw (z, ← ew) (omega (arith, y.noted, ew))
       at_b k l (no z) = omega (arith, lower (get_or links (2 * k + 1) 0), h.b k (omega arith))
-
-  pub begin_row : (m : ℕ) → m ≤ r → m ≤ s → Begin (share_in links) i m × Firsts links firsts (i + 1)
-  begin_row m l u = (begin_lower m l u, firsts_more)

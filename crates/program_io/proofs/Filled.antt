@@ -1,10 +1,6 @@
 -- What was read is within the space. Assumes nothing.
-use Prim.Native.Nat.{ℕ, ◌≤◌}
-use mathlib.Core.Path.{◌≡◌}
-use mathlib.Core.List.{List}
-use lib.ListN.{length}
-use Rattle.io.specs.Counts.{IsPrefixLen}
-use Rattle.program_io.specs.Input.{Filled}
+use Rattle.std.proofs.Common.{◌≡◌, ℕ, ◌≤◌, List, length}
+use Rattle.program_io.specs.Input.{Filled, IsPrefixLen}
 use Rattle.program_io.specs.declared.Input.{Input}
 use Rattle.program_io.specs.declared.Input.TheVariants.{Read}
 

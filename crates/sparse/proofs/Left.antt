@@ -20,7 +20,7 @@ pub free_past : {X : Type 0} (k : ℕ) (l₀ l : List X) → length l ≡ length
 free_past k l₀ l e = record { long = length-drop k l ∙ ap (λ (n : ℕ). n - k) e ∙ sym (length-drop k l₀) }
 
 module _ {f : Run Factor Factor} (r : Factored) (L : Sparse) (pivots : List Float) (e : f ≡ factor_out r L pivots) where
-  numbered : or_thirteen f ≡ factored_out r L pivots
+  pub numbered : or_thirteen f ≡ factored_out r L pivots
   unfolding on
   numbered = rw e (by r)
     where
@@ -28,6 +28,6 @@ module _ {f : Run Factor Factor} (r : Factored) (L : Sparse) (pivots : List Floa
       by Done = refl
       by Refused = refl
 
-  pub factor_tells : (count : ℕ) (values₀ values : List Float) (marks₀ marks : List ℕ) → length values ≡ length values₀ → length marks ≡ length marks₀
-      → (f ≡ factor_out r L pivots) × ((or_thirteen f ≡ factored_out r L pivots) × FactorFree count values₀ values marks₀ marks)
-  factor_tells count values₀ values marks₀ marks a b = (e, (numbered, record { values_past = free_past count values₀ values a; all_marks = free b }))
+-- what a factor leaves free
+pub factor_left : (count : ℕ) (values₀ values : List Float) (marks₀ marks : List ℕ) → length values ≡ length values₀ → length marks ≡ length marks₀ → FactorFree count values₀ values marks₀ marks
+factor_left count values₀ values marks₀ marks a b = record { values_past = free_past count values₀ values a; all_marks = free b }

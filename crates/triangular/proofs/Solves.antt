@@ -64,9 +64,6 @@ sixteen r y e = rw e (by r)
     by Done = refl
     by Overflow = refl
 
-pub solve_tells : {f : Run (List Float) (List Float)} (r : Solved) (y : List Float) → f ≡ solve_out r y → (f ≡ solve_out r y) × (or_sixteen f ≡ solved_out r y)
-solve_tells r y e = (e, sixteen r y e)
-
 -- ---- along a column
 module _ {starts columns order : List ℕ} {n count j a b : ℕ} (spread : Spread starts columns order n count j a b) where
   pub down_skip : (values y : List Float) (v : Float) → Skips (plain (along_turn (transposed (numbers starts columns values) j) y)) (homes order n) a b v

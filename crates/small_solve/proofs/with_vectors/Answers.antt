@@ -94,4 +94,4 @@ slice_bounds-solve_position_pcg_prepared-end-9 c =
 
 pub returns : goal.returns
 returns c =
-    job_solved Position c.args.rows c.args.bodies c.args.mode c.args.numbers.now c.args.words.now c.args.masses.now c.args.solution.now c.args.impulses.now _ (length c.args.centres.now) (length c.args.new-centres.now) (length c.args.rule-words.now) (length c.args.rule-tolerances.now) (length c.args.rule-numbers.now) 0 c.requires.rule_numbers_value (lent_room 128 64 c.requires.rows_bound c.requires.factor_room _ _ _ _ _ _ _ _ _ refl refl refl refl refl refl refl refl refl) c.solve_position_pcg_prepared.ensures
+    job_solved Position c.args.rows c.args.bodies c.args.mode c.args.numbers.now c.args.words.now c.args.masses.now c.args.solution.now c.args.impulses.now _ (length c.args.centres.now) (length c.args.new_centres.now) (length c.args.rule_words.now) (length c.args.rule_tolerances.now) (length c.args.rule_numbers.now) 0 c.requires.rule_numbers_value (lent_room 128 64 c.requires.rows_bound c.requires.factor_room _ _ _ _ _ _ _ _ _ refl refl refl refl refl refl refl refl refl) c.solve_position_pcg_prepared.ensures

@@ -56,7 +56,7 @@ loop-row-smaller-then-column-row c =
 
 pub loop-row-preserved-then-column-row : goal.loop-row-preserved-then-column-row
 loop-row-preserved-then-column-row c =
-    (search known, pairs_column _ _ _ c.loop-row.invariant.1 (omega arith) (pair_on _ _ _ _ _ _ c.Cell-at.ensures _ c.in-Number.is) (omega arith))
+    (search known, pairs_column _ _ _ c.loop-row.invariant.1 (omega arith) (pair_on _ _ _ _ _ _ c.cell_at.ensures _ c.in-Number.is) (omega arith))
 
 pub overflow_add-row : goal.overflow_add-row
 overflow_add-row c =
@@ -68,7 +68,7 @@ loop-row-smaller c =
 
 pub loop-row-preserved : goal.loop-row-preserved
 loop-row-preserved c =
-    (search known, pairs_row _ _ _ c.loop-row.invariant.1 (omega arith) (pair_on _ _ _ _ _ _ c.Cell-at.ensures _ c.in-Number.is) (omega arith))
+    (search known, pairs_row _ _ _ c.loop-row.invariant.1 (omega arith) (pair_on _ _ _ _ _ _ c.cell_at.ensures _ c.in-Number.is) (omega arith))
 
 pub put_block-requires : goal.put_block-requires
 put_block-requires c =
@@ -96,4 +96,4 @@ returns-then-len-gt6 c =
 
 pub returns-in-Refused : goal.returns-in-Refused
 returns-in-Refused c =
-    blocks_stop _ _ _ _ _ c.runs.invariant.2 (omega arith) (run_out _ _ _ _ _ (c.runs.invariant.2.first (omega arith)) c.run_length-len.ensures.is (omega arith) (pairs_stop _ _ _ c.loop-row.invariant.1 (omega arith) (pair_out _ _ _ _ _ _ c.Cell-at.ensures _ c.in-Refused.is)))
+    blocks_stop _ _ _ _ _ c.runs.invariant.2 (omega arith) (run_out _ _ _ _ _ (c.runs.invariant.2.first (omega arith)) c.run_length-len.ensures.is (omega arith) (pairs_stop _ _ _ c.loop-row.invariant.1 (omega arith) (pair_out _ _ _ _ _ _ c.cell_at.ensures _ c.in-Refused.is)))

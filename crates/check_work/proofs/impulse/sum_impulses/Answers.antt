@@ -20,7 +20,7 @@ clear-requires-2 c =
 
 pub loop-i-init : goal.loop-i-init
 loop-i-init c =
-    (search loops, none_yet _ _ _ c.args.impulses.now c.requires.impulses_len.0 c.clear.ensures, none_yet _ _ _ c.args.size-impulses.now c.requires.impulses_len.1 c.clear-2.ensures)
+    (search loops, none_yet _ _ _ c.args.impulses.now c.requires.impulses_len.0 c.clear.ensures, none_yet _ _ _ c.args.size_impulses.now c.requires.impulses_len.1 c.clear-2.ensures)
 
 pub offset_bounds-multipliers-i : goal.offset_bounds-multipliers-i
 offset_bounds-multipliers-i c =

@@ -9,15 +9,14 @@ use Rattle.closing_check.proofs.Measured.{named_is, reached_is, reached_none, ve
 use Rattle.closing_check.proofs.check.judged_check.Goals as goal
 
 pub judge_table-judged-requires : goal.judge_table-judged-requires
-judge_table-judged-requires c =
-    (
-      omega (arith, c.requires.room.numbers),
-      omega (arith, c.requires.room.words),
-      omega (arith, c.requires.room.masses),
-      omega (arith, c.requires.room.multipliers),
-      omega (arith, c.requires.rule_words_len.0),
-      c.requires.rows_bound.1,
-    )
+judge_table-judged-requires c = (
+  omega (arith, c.requires.room.numbers),
+  omega (arith, c.requires.room.words),
+  omega (arith, c.requires.room.masses),
+  omega (arith, c.requires.room.multipliers),
+  omega (arith, c.requires.rule_words_len.0),
+  c.requires.rows_bound.1,
+)
 
 pub returns-in-Refused : goal.returns-in-Refused
 returns-in-Refused c =
@@ -25,27 +24,30 @@ returns-in-Refused c =
 
 pub measure_rows-requires : goal.measure_rows-requires
 measure_rows-requires c =
-    record { multipliers_in_bounds = (
+    record {
+      multipliers_in_bounds = (
         omega (arith, c.requires.room.numbers, c.requires.room.multipliers),
         omega (arith, c.requires.room.words, c.requires.room.multipliers),
         omega (arith, c.requires.room.masses),
-      ); impulses_len = (
-          c.requires.room.impulses,
-          c.requires.room.size_impulses,
-          omega (arith, c.requires.room.values, c.requires.room.multipliers),
-          omega (arith, c.requires.room.sizes, c.requires.room.multipliers),
-        ); valid = valid_same c.requires.room.multipliers
-            (valid_judged_lem c.args.kind _ _ _ _ _ _ _ (coefficients c.args.given.now) _ c.judge_table-judged.ensures c.in-Passed.is) }
+      );
+      impulses_len = (
+        c.requires.room.impulses,
+        c.requires.room.size_impulses,
+        omega (arith, c.requires.room.values, c.requires.room.multipliers),
+        omega (arith, c.requires.room.sizes, c.requires.room.multipliers),
+      );
+      valid = valid_same c.requires.room.multipliers
+          (valid_judged_lem c.args.kind _ _ _ _ _ _ _ (coefficients c.args.given.now) _ c.judge_table-judged.ensures c.in-Passed.is);
+    }
 
 pub measure_reaches-requires : goal.measure_reaches-requires
-measure_reaches-requires c =
-    (
-      c.requires.rows_bound.0,
-      omega (arith, c.requires.room.numbers),
-      omega (arith, c.sizes-1.given, c.requires.room.sizes),
-      c.values-1.given ∙ c.requires.room.values,
-      c.requires.rows_bound.1,
-    )
+measure_reaches-requires c = (
+  c.requires.rows_bound.0,
+  omega (arith, c.requires.room.numbers),
+  omega (arith, c.sizes-1.given, c.requires.room.sizes),
+  c.values-1.given ∙ c.requires.room.values,
+  c.requires.rows_bound.1,
+)
 
 pub name_rules-requires : goal.name_rules-requires
 name_rules-requires c =
@@ -53,25 +55,32 @@ name_rules-requires c =
 
 pub verdict-requires : goal.verdict-requires
 verdict-requires c =
-    record { rows_in_bounds = (
+    record {
+      rows_in_bounds = (
         omega (arith, c.requires.room.words),
         omega (arith, c.values-2-1.given, c.values-1.given, c.requires.room.values),
         omega (arith, c.requires.rule_words_len.0),
-      ); rows_value = ruled_judged c.args.kind _ _ _ _ _ _ _ (coefficients c.args.given.now) _
+      );
+      rows_value = ruled_judged c.args.kind _ _ _ _ _ _ _ (coefficients c.args.given.now) _
           c.judge_table-judged.ensures
-          c.in-Passed.is }
+          c.in-Passed.is;
+    }
 
 pub returns : goal.returns
 returns c =
-    record { value = verdict_is c.args.kind _ c.args.given.now _
+    record {
+      value = verdict_is c.args.kind _ c.args.given.now _
           c.measure_rows.ensures.measured
           c.requires.room.multipliers
           c.measure_reaches.ensures c.verdict.ensures
           (passed_judged _
           c.judge_table-judged.ensures
-          c.in-Passed.is); rule_numbers_after = named_is _ _ _ _ _ _ _ c.args.kind (coefficients c.args.given.now) _ _ _ c.verdict.ensures
-            c.requires.rule_words_len.2
-            c.name_rules.ensures; reached = reached_is c.args.kind _ c.args.given.now _
-            c.measure_rows.ensures.measured
-            c.requires.room.multipliers
-            c.measure_reaches.ensures }
+          c.in-Passed.is);
+      rule_numbers_after = named_is _ _ _ _ _ _ _ c.args.kind (coefficients c.args.given.now) _ _ _ c.verdict.ensures
+          c.requires.rule_words_len.2
+          c.name_rules.ensures;
+      reached = reached_is c.args.kind _ c.args.given.now _
+          c.measure_rows.ensures.measured
+          c.requires.room.multipliers
+          c.measure_reaches.ensures;
+    }

@@ -11,28 +11,28 @@ use Rattle.closing_check.proofs.prepared.check_prepared.Goals as goal
 
 pub returns-then-not-fits : goal.returns-then-not-fits
 returns-then-not-fits c =
-    checked_3 c.args.kind _ _ _ (coefficients c.args.beside.now) (placed_in c.args.kind c.args.bodies c.args.beside.now) _ _ c.fits2.ensures c.if-not-fits.true-raw
+    checked_3 c.args.kind _ _ _ (coefficients c.args.beside.now) (placed_in c.args.kind c.args.bodies c.args.beside.now) _ _ c.fits.ensures c.if-not-fits.true-raw
 
 pub beside_placed-placed-requires : goal.beside_placed-placed-requires
 beside_placed-placed-requires c =
-    placed_3 c.args.kind c.args.rows c.args.bodies _ _ (passed_3 c.fits2.ensures c.if-not-fits.false-raw)
+    placed_3 c.args.kind c.args.rows c.args.bodies _ _ (passed_3 c.fits.ensures c.if-not-fits.false-raw)
 
 pub judged_check-answer-requires : goal.judged_check-answer-requires
 judged_check-answer-requires c =
-    record { room = room_3 c.args.kind _ _ _ _ _ _ _ _ _ _ _ (passed_3 c.fits2.ensures c.if-not-fits.false-raw); rule_words_len = rules_3 c.args.kind c.args.rows c.args.bodies _ _ (passed_3 c.fits2.ensures c.if-not-fits.false-raw); rows_bound = (rows_3 c.args.kind c.args.rows c.args.bodies _ _ (passed_3 c.fits2.ensures c.if-not-fits.false-raw), residual_3 c.args.kind c.args.rows c.args.bodies _ _ (passed_3 c.fits2.ensures c.if-not-fits.false-raw)) }
+    record { room = room_3 c.args.kind _ _ _ _ _ _ _ _ _ _ _ (passed_3 c.fits.ensures c.if-not-fits.false-raw); rule_words_len = rules_3 c.args.kind c.args.rows c.args.bodies _ _ (passed_3 c.fits.ensures c.if-not-fits.false-raw); rows_bound = (rows_3 c.args.kind c.args.rows c.args.bodies _ _ (passed_3 c.fits.ensures c.if-not-fits.false-raw), residual_3 c.args.kind c.args.rows c.args.bodies _ _ (passed_3 c.fits.ensures c.if-not-fits.false-raw)) }
 
 pub returns : goal.returns
 returns c =
-    checked_on c.args.kind (rules_in c.args.rule-words.now c.args.rule-tolerances.now) (table_of c.args.rows c.args.bodies c.args.numbers.now c.args.words.now c.args.masses.now) (coefficients c.args.multipliers.now) (coefficients c.args.beside.now) (placed_in c.args.kind c.args.bodies c.args.beside.now) _ _
-    c.fits2.ensures
+    checked_on c.args.kind (rules_in c.args.rule_words.now c.args.rule_tolerances.now) (table_of c.args.rows c.args.bodies c.args.numbers.now c.args.words.now c.args.masses.now) (coefficients c.args.multipliers.now) (coefficients c.args.beside.now) (placed_in c.args.kind c.args.bodies c.args.beside.now) _ _
+    c.fits.ensures
     c.if-not-fits.false-raw
-    (held_of c.args.kind c.args.rows c.args.bodies c.args.numbers.now c.args.words.now c.args.masses.now c.args.beside.now c.args.multipliers.now c.args.rule-words.now c.args.rule-tolerances.now (placed_in c.args.kind c.args.bodies c.args.beside.now)
+    (held_of c.args.kind c.args.rows c.args.bodies c.args.numbers.now c.args.words.now c.args.masses.now c.args.beside.now c.args.multipliers.now c.args.rule_words.now c.args.rule_tolerances.now (placed_in c.args.kind c.args.bodies c.args.beside.now)
     c.shared_slice_known-1.given
     c.shared_slice_known-3-1.given
     c.shared_slice_known-4-1.given
     c.shared_slice_known-5-1.given
     c.shared_slice_known-7-1.given)
-    (rows_3 c.args.kind c.args.rows c.args.bodies _ _ (passed_3 c.fits2.ensures c.if-not-fits.false-raw))
+    (rows_3 c.args.kind c.args.rows c.args.bodies _ _ (passed_3 c.fits.ensures c.if-not-fits.false-raw))
     c.beside_placed-placed.ensures
     c.judged_check-answer.ensures.value
     c.judged_check-answer.ensures.rule_numbers_after

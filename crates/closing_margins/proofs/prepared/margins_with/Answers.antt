@@ -14,5 +14,5 @@ list_closed-requires c =
 
 pub returns : goal.returns
 returns c =
-    held_on c.args.kind c.args.rows c.args.bodies c.args.numbers.now c.args.words.now c.args.masses.now c.args.beside.now c.args.multipliers.now (rules_in c.args.rule-words.now c.args.rule-tolerances.now)
+    held_on c.args.kind c.args.rows c.args.bodies c.args.numbers.now c.args.words.now c.args.masses.now c.args.beside.now c.args.multipliers.now (rules_in c.args.rule_words.now c.args.rule_tolerances.now)
     (same_fits _ c.requires.2 c.requires.1) c.gaps_prepared-answer.ensures c.list_closed.ensures

@@ -8,7 +8,7 @@ use Rattle.closing_margins.proofs.small.margins_small.Goals as goal
 
 pub returns-then-not-given_fits : goal.returns-then-not-given_fits
 returns-then-not-given_fits c =
-    margins_alone_3 (margins_lent c.args.n (length c.args.margin-rows.now) (length c.args.margins.now)) _ _ _ _ _ c.given_fits.ensures c.if-not-given_fits.true-raw
+    margins_alone_3 (margins_lent c.args.n (length c.args.margin_rows.now) (length c.args.margins.now)) _ _ _ _ _ c.given_fits.ensures c.if-not-given_fits.true-raw
 
 pub with_small_memory-requires : goal.with_small_memory-requires
 with_small_memory-requires c =

@@ -48,4 +48,4 @@ slice_bounds-closing_margins-end-4 c =
 
 pub returns : goal.returns
 returns c =
-    margins_alone Position (margins_lent c.args.n (length c.args.margin-rows.now) (length c.args.margins.now)) _ c.requires.rule_numbers_value (taken 128 64 _ _ _ _ c.requires.n_bound.0 c.requires.n_bound.1 refl refl refl refl) c.closing_margins.ensures
+    margins_alone Position (margins_lent c.args.n (length c.args.margin_rows.now) (length c.args.margins.now)) _ c.requires.rule_numbers_value (taken 128 64 _ _ _ _ c.requires.n_bound.0 c.requires.n_bound.1 refl refl refl refl) c.closing_margins.ensures

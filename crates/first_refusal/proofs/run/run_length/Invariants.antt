@@ -10,7 +10,7 @@ use Rattle.first_refusal.proofs.run.run_length.Given as goal
 
 abbrev pub invariant-loop-k : goal.invariant-loop-k
 invariant-loop-k l =
-    Led (λ l.k. eqb (owner_at l.words (l.start + l.k)) (owner_at l.words l.start)) (l.rows - l.start) l.k
+    Led (λ k. eqb (owner_at l.words (l.start + k)) (owner_at l.words l.start)) (l.rows - l.start) l.k
 
 abbrev pub decreases-loop-k : goal.decreases-loop-k
 decreases-loop-k l = l.rows - l.start - l.k

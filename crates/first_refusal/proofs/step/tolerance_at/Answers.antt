@@ -9,8 +9,8 @@ one_rule-r-requires c =
 
 pub returns-then-r-rule_tolerances : goal.returns-then-r-rule_tolerances
 returns-then-r-rule_tolerances c =
-    tolerance_some c.args.words.now c.args.rule-words.now c.args.rule-tolerances.now c.args.i c.one_rule-r.ensures
+    tolerance_some c.args.words.now c.args.rule_words.now c.args.rule_tolerances.now c.args.i c.one_rule-r.ensures
 
 pub returns : goal.returns
 returns c =
-    tolerance_none c.args.words.now c.args.rule-words.now c.args.rule-tolerances.now c.args.i c.one_rule-r.ensures c.if-r-rule_tolerances.false
+    tolerance_none c.args.words.now c.args.rule_words.now c.args.rule_tolerances.now c.args.i c.one_rule-r.ensures c.if-r-rule_tolerances.false

@@ -14,11 +14,11 @@ overflow_add-g c =
 
 pub put_bodies-requires : goal.put_bodies-requires
 put_bodies-requires c =
-    record { bodies_in_bounds = (c.requires.rows_in_bounds.1, omega (arith, placed_few c.args.kind c.args.bodies, c.Placed-of.ensures)); bodies_in_bounds_2 = (omega (arith, c.requires.table_room.impulses_long), omega (arith, c.requires.table_room_2.impulses_long), omega (arith, c.requires.table_room.centres_long, c.Placed-of.ensures), omega (arith, c.requires.table_room_2.centres_long, c.Placed-of.ensures)) }
+    record { bodies_in_bounds = (c.requires.rows_in_bounds.1, omega (arith, placed_few c.args.kind c.args.bodies, c.placed_of-placed.ensures)); bodies_in_bounds_2 = (omega (arith, c.requires.table_room.impulses_long), omega (arith, c.requires.table_room_2.impulses_long), omega (arith, c.requires.table_room.centres_long, c.placed_of-placed.ensures), omega (arith, c.requires.table_room_2.centres_long, c.placed_of-placed.ensures)) }
 
 pub returns-in-Accepted : goal.returns-in-Accepted
 returns-in-Accepted c =
-    record { delivered = accepted_there _ _ _ _ _ _ _ _ _ _ _ _ _ _ _ _ c.Placed-of.ensures c.put_rows.ensures c.put_bodies.ensures _ _ c.in-Accepted.is; table_kept = accepted_else _ _ _ _ _ _ _ _ _ _ _ _ _ _ _ _ c.Placed-of.ensures c.put_rows.ensures c.put_bodies.ensures }
+    record { delivered = accepted_there _ _ _ _ _ _ _ _ _ _ _ _ _ _ _ _ c.placed_of-placed.ensures c.put_rows.ensures c.put_bodies.ensures _ _ c.in-Accepted.is; table_kept = accepted_else _ _ _ _ _ _ _ _ _ _ _ _ _ _ _ _ c.placed_of-placed.ensures c.put_rows.ensures c.put_bodies.ensures }
 
 pub returns-in-Refused : goal.returns-in-Refused
 returns-in-Refused c =

@@ -13,4 +13,4 @@ pick_group-requires c =
 
 pub returns : goal.returns
 returns c =
-    own_solved c.args.kind c.args.rows c.args.bodies c.args.words.now c.args.masses.now c.args.centres.now c.args.given.now (rules_in c.args.rule-words.now c.args.rule-tolerances.now) c.args.limit c.args.mode c.args.shift c.args.numbers.now (rows_of c.args.groups.now c.args.g c.args.rows) c.args.k c.requires.rows_in_bounds.2 c.pick_group.ensures (own_fits c.args.kind c.args.rows c.args.bodies c.args.mode c.args.k (rows_of c.args.groups.now c.args.g c.args.rows) c.requires.rows_in_bounds.2 (omega (arith, c.requires.rows_in_bounds.2, rows_within c.args.groups.now c.args.g c.args.rows)) c.args.numbers.now c.args.words.now c.args.given.now c.args.masses.now c.args.centres.now c.args.rule-words.now c.args.rule-tolerances.now _ _ _ _ _ _ _ _ _ _ c.requires.bench_room c.requires.own_room c.pick_group.ensures) c.solve_table.ensures
+    own_solved c.args.kind c.args.rows c.args.bodies c.args.words.now c.args.masses.now c.args.centres.now c.args.given.now (rules_in c.args.rule_words.now c.args.rule_tolerances.now) c.args.limit c.args.mode c.args.shift c.args.numbers.now (rows_of c.args.groups.now c.args.g c.args.rows) c.args.k c.requires.rows_in_bounds.2 c.pick_group.ensures (own_fits c.args.kind c.args.rows c.args.bodies c.args.mode c.args.k (rows_of c.args.groups.now c.args.g c.args.rows) c.requires.rows_in_bounds.2 (omega (arith, c.requires.rows_in_bounds.2, rows_within c.args.groups.now c.args.g c.args.rows)) c.args.numbers.now c.args.words.now c.args.given.now c.args.masses.now c.args.centres.now c.args.rule_words.now c.args.rule_tolerances.now _ _ _ _ _ _ _ _ _ _ c.requires.bench_room c.requires.own_room c.pick_group.ensures) c.solve_table.ensures

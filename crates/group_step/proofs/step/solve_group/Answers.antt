@@ -20,4 +20,4 @@ tell_group-requires c =
 
 pub returns : goal.returns
 returns c =
-    group_step (bench_of c.args.kind c.args.rows c.args.bodies c.args.words.now c.args.masses.now c.args.centres.now c.args.given.now (rules_in c.args.rule-words.now c.args.rule-tolerances.now) c.args.limit c.args.mode c.args.shift) _ _ _ _ _ refl c.solve_own-answer.ensures c.deliver_group.ensures.delivered c.deliver_group.ensures.table_kept c.tell_group.ensures
+    group_step (bench_of c.args.kind c.args.rows c.args.bodies c.args.words.now c.args.masses.now c.args.centres.now c.args.given.now (rules_in c.args.rule_words.now c.args.rule_tolerances.now) c.args.limit c.args.mode c.args.shift) _ _ _ _ _ refl c.solve_own-answer.ensures c.deliver_group.ensures.delivered c.deliver_group.ensures.table_kept c.tell_group.ensures

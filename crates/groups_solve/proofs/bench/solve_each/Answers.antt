@@ -17,11 +17,11 @@ overflow_mul-body_numbers c =
 
 pub overflow_mul-centre_numbers : goal.overflow_mul-centre_numbers
 overflow_mul-centre_numbers c =
-    omega (arith, c.requires.bench_room.bodies_few, placed_few c.args.kind c.args.bodies, c.Placed-of.ensures)
+    omega (arith, c.requires.bench_room.bodies_few, placed_few c.args.kind c.args.bodies, c.placed_of.ensures)
 
 pub loop-g-init : goal.loop-g-init
 loop-g-init c =
-    (round_none (bench_of c.args.kind c.args.rows c.args.bodies c.args.words.now c.args.masses.now c.args.centres.now c.args.given.now (rules_in c.args.rule-words.now c.args.rule-tolerances.now) c.args.limit c.args.mode c.args.shift) c.args.marks.now c.args.groups.now c.requires.table_room.0 c.requires.table_room.1, record { numbers_long = refl; words_long = refl; given_long = refl; solution_long = refl; impulses_long = refl; centres_long = refl; rules_long = refl })
+    (round_none (bench_of c.args.kind c.args.rows c.args.bodies c.args.words.now c.args.masses.now c.args.centres.now c.args.given.now (rules_in c.args.rule_words.now c.args.rule_tolerances.now) c.args.limit c.args.mode c.args.shift) c.args.marks.now c.args.groups.now c.requires.table_room.0 c.requires.table_room.1, record { numbers_long = refl; words_long = refl; given_long = refl; solution_long = refl; impulses_long = refl; centres_long = refl; rules_long = refl })
 
 pub count_rows-k-requires : goal.count_rows-k-requires
 count_rows-k-requires c =
@@ -81,11 +81,11 @@ slice_bounds-solve_group-end-in-loop-g-4 c =
 
 pub slice_bounds-own_centres-end : goal.slice_bounds-own_centres-end
 slice_bounds-own_centres-end c =
-    within_long (fit_3 c.Placed-of.ensures (placed_few c.args.kind c.args.bodies) c.requires.bench_room.bodies_few) c.loop-g.invariant.1.centres_long
+    within_long (fit_3 c.placed_of.ensures (placed_few c.args.kind c.args.bodies) c.requires.bench_room.bodies_few) c.loop-g.invariant.1.centres_long
 
 pub slice_bounds-solve_group-end-in-loop-g-5 : goal.slice_bounds-solve_group-end-in-loop-g-5
 slice_bounds-solve_group-end-in-loop-g-5 c =
-    sym (length-take-le _ _ (within_long (fit_3 c.Placed-of.ensures (placed_few c.args.kind c.args.bodies) c.requires.bench_room.bodies_few) c.loop-g.invariant.1.centres_long))
+    sym (length-take-le _ _ (within_long (fit_3 c.placed_of.ensures (placed_few c.args.kind c.args.bodies) c.requires.bench_room.bodies_few) c.loop-g.invariant.1.centres_long))
 
 pub slice_bounds-own_rules-end : goal.slice_bounds-own_rules-end
 slice_bounds-own_rules-end c =
@@ -97,7 +97,7 @@ slice_bounds-solve_group-end-in-loop-g-6 c =
 
 pub solve_group-requires : goal.solve_group-requires
 solve_group-requires c =
-    record { groups_len = (c.requires.groups_len.0, c.requires.groups_len.1, below_rows c.loop-g-test.true c.requires.groups_len.2, c.count_rows-k.ensures); bench_room = c.requires.bench_room; table_room = (c.loop-g.invariant.0.table, c.loop-g.invariant.0.told); own_room = own_room c.args.kind c.args.bodies _ _ _ _ _ _ _ _ _ (fit_1 c.count_rows-k.ensures (rows_within c.args.groups.now c.loop-g.g c.args.rows) c.requires.bench_room.rows_few) c.requires.bench_room.bodies_few (fit_placed c.Placed-of.ensures (placed_few c.args.kind c.args.bodies) c.requires.bench_room.bodies_few) c.Placed-of.ensures c.loop-g.invariant.1.numbers_long c.loop-g.invariant.1.words_long c.loop-g.invariant.1.given_long c.loop-g.invariant.1.solution_long c.loop-g.invariant.1.impulses_long c.loop-g.invariant.1.centres_long c.loop-g.invariant.1.rules_long }
+    record { groups_len = (c.requires.groups_len.0, c.requires.groups_len.1, below_rows c.loop-g-test.true c.requires.groups_len.2, c.count_rows-k.ensures); bench_room = c.requires.bench_room; table_room = (c.loop-g.invariant.0.table, c.loop-g.invariant.0.told); own_room = own_room c.args.kind c.args.bodies _ _ _ _ _ _ _ _ _ (fit_1 c.count_rows-k.ensures (rows_within c.args.groups.now c.loop-g.g c.args.rows) c.requires.bench_room.rows_few) c.requires.bench_room.bodies_few (fit_placed c.placed_of.ensures (placed_few c.args.kind c.args.bodies) c.requires.bench_room.bodies_few) c.placed_of.ensures c.loop-g.invariant.1.numbers_long c.loop-g.invariant.1.words_long c.loop-g.invariant.1.given_long c.loop-g.invariant.1.solution_long c.loop-g.invariant.1.impulses_long c.loop-g.invariant.1.centres_long c.loop-g.invariant.1.rules_long }
 
 pub overflow_add-g : goal.overflow_add-g
 overflow_add-g c =
@@ -109,8 +109,8 @@ loop-g-smaller c =
 
 pub loop-g-preserved : goal.loop-g-preserved
 loop-g-preserved c =
-    (round_more (bench_of c.args.kind c.args.rows c.args.bodies c.args.words.now c.args.masses.now c.args.centres.now c.args.given.now (rules_in c.args.rule-words.now c.args.rule-tolerances.now) c.args.limit c.args.mode c.args.shift) c.args.marks.now c.args.groups.now c.loop-g.invariant.0 c.loop-g-test.true c.solve_group.ensures c.numbers-1.given c.solution-1.given c.impulses-1.given c.new_centres-1.given c.rule_numbers-1.given c.group_answers-1.given c.group_maxima-1.given, record { numbers_long = front_long _ _ c.solve_group.new.1.1.1.1.1.1.1.1.1.1.1.1.1.1.1.1.1.1.1.1.1.1.1.0 (fit_27 c.count_rows-k.ensures (rows_within c.args.groups.now c.loop-g.g c.args.rows) c.requires.bench_room.rows_few) c.loop-g.invariant.1.numbers_long c.own_numbers-in-loop-g-1.given; words_long = front_long _ _ c.solve_group.new.1.1.1.1.1.1.1.1.1.1.1.1.1.1.1.1.1.1.1.1.1.1.1.1.0 (fit_8 c.count_rows-k.ensures (rows_within c.args.groups.now c.loop-g.g c.args.rows) c.requires.bench_room.rows_few) c.loop-g.invariant.1.words_long c.own_words-in-loop-g-1.given; given_long = front_long _ _ c.solve_group.new.1.1.1.1.1.1.1.1.1.1.1.1.1.1.1.1.1.1.1.1.1.1.1.1.1.0 (fit_1 c.count_rows-k.ensures (rows_within c.args.groups.now c.loop-g.g c.args.rows) c.requires.bench_room.rows_few) c.loop-g.invariant.1.given_long c.own_given-in-loop-g-1.given; solution_long = front_long _ _ c.solve_group.new.1.1.1.1.1.1.1.1.1.1.1.1.1.1.1.1.1.1.1.1.1.1.1.1.1.1.0 (fit_1 c.count_rows-k.ensures (rows_within c.args.groups.now c.loop-g.g c.args.rows) c.requires.bench_room.rows_few) c.loop-g.invariant.1.solution_long c.own_solution-in-loop-g-1.given; impulses_long = front_long _ _ c.solve_group.new.1.1.1.1.1.1.1.1.1.1.1.1.1.1.1.1.1.1.1.1.1.1.1.1.1.1.1.0 (fit_6 c.requires.bench_room.bodies_few) c.loop-g.invariant.1.impulses_long c.own_impulses-in-loop-g-1.given; centres_long = front_long _ _ c.solve_group.new.1.1.1.1.1.1.1.1.1.1.1.1.1.1.1.1.1.1.1.1.1.1.1.1.1.1.1.1.0 (fit_3 c.Placed-of.ensures (placed_few c.args.kind c.args.bodies) c.requires.bench_room.bodies_few) c.loop-g.invariant.1.centres_long c.own_centres-in-loop-g-1.given; rules_long = front_long _ _ c.solve_group.new.1.1.1.1.1.1.1.1.1.1.1.1.1.1.1.1.1.1.1.1.1.1.1.1.1.1.1.1.1.0 (fit_1 c.count_rows-k.ensures (rows_within c.args.groups.now c.loop-g.g c.args.rows) c.requires.bench_room.rows_few) c.loop-g.invariant.1.rules_long c.own_rules-in-loop-g-1.given })
+    (round_more (bench_of c.args.kind c.args.rows c.args.bodies c.args.words.now c.args.masses.now c.args.centres.now c.args.given.now (rules_in c.args.rule_words.now c.args.rule_tolerances.now) c.args.limit c.args.mode c.args.shift) c.args.marks.now c.args.groups.now c.loop-g.invariant.0 c.loop-g-test.true c.solve_group.ensures c.numbers-1.given c.solution-1.given c.impulses-1.given c.new_centres-1.given c.rule_numbers-1.given c.group_answers-1.given c.group_maxima-1.given, record { numbers_long = front_long _ _ c.solve_group.new.1.1.1.1.1.1.1.1.1.1.1.1.1.1.1.1.1.1.1.1.1.1.1.0 (fit_27 c.count_rows-k.ensures (rows_within c.args.groups.now c.loop-g.g c.args.rows) c.requires.bench_room.rows_few) c.loop-g.invariant.1.numbers_long c.own_numbers-in-loop-g-1.given; words_long = front_long _ _ c.solve_group.new.1.1.1.1.1.1.1.1.1.1.1.1.1.1.1.1.1.1.1.1.1.1.1.1.0 (fit_8 c.count_rows-k.ensures (rows_within c.args.groups.now c.loop-g.g c.args.rows) c.requires.bench_room.rows_few) c.loop-g.invariant.1.words_long c.own_words-in-loop-g-1.given; given_long = front_long _ _ c.solve_group.new.1.1.1.1.1.1.1.1.1.1.1.1.1.1.1.1.1.1.1.1.1.1.1.1.1.0 (fit_1 c.count_rows-k.ensures (rows_within c.args.groups.now c.loop-g.g c.args.rows) c.requires.bench_room.rows_few) c.loop-g.invariant.1.given_long c.own_given-in-loop-g-1.given; solution_long = front_long _ _ c.solve_group.new.1.1.1.1.1.1.1.1.1.1.1.1.1.1.1.1.1.1.1.1.1.1.1.1.1.1.0 (fit_1 c.count_rows-k.ensures (rows_within c.args.groups.now c.loop-g.g c.args.rows) c.requires.bench_room.rows_few) c.loop-g.invariant.1.solution_long c.own_solution-in-loop-g-1.given; impulses_long = front_long _ _ c.solve_group.new.1.1.1.1.1.1.1.1.1.1.1.1.1.1.1.1.1.1.1.1.1.1.1.1.1.1.1.0 (fit_6 c.requires.bench_room.bodies_few) c.loop-g.invariant.1.impulses_long c.own_impulses-in-loop-g-1.given; centres_long = front_long _ _ c.solve_group.new.1.1.1.1.1.1.1.1.1.1.1.1.1.1.1.1.1.1.1.1.1.1.1.1.1.1.1.1.0 (fit_3 c.placed_of.ensures (placed_few c.args.kind c.args.bodies) c.requires.bench_room.bodies_few) c.loop-g.invariant.1.centres_long c.own_centres-in-loop-g-1.given; rules_long = front_long _ _ c.solve_group.new.1.1.1.1.1.1.1.1.1.1.1.1.1.1.1.1.1.1.1.1.1.1.1.1.1.1.1.1.1.0 (fit_1 c.count_rows-k.ensures (rows_within c.args.groups.now c.loop-g.g c.args.rows) c.requires.bench_room.rows_few) c.loop-g.invariant.1.rules_long c.own_rules-in-loop-g-1.given })
 
 pub returns : goal.returns
 returns c =
-    round_end (bench_of c.args.kind c.args.rows c.args.bodies c.args.words.now c.args.masses.now c.args.centres.now c.args.given.now (rules_in c.args.rule-words.now c.args.rule-tolerances.now) c.args.limit c.args.mode c.args.shift) c.args.marks.now c.args.groups.now c.loop-g.invariant.0 c.loop-g-test.false
+    round_end (bench_of c.args.kind c.args.rows c.args.bodies c.args.words.now c.args.masses.now c.args.centres.now c.args.given.now (rules_in c.args.rule_words.now c.args.rule_tolerances.now) c.args.limit c.args.mode c.args.shift) c.args.marks.now c.args.groups.now c.loop-g.invariant.0 c.loop-g-test.false

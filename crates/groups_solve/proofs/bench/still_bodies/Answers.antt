@@ -7,8 +7,8 @@ use Rattle.groups_solve.proofs.bench.still_bodies.Goals as goal
 
 pub put_bodies-requires : goal.put_bodies-requires
 put_bodies-requires c =
-    record { bodies_in_bounds = (c.requires.1, omega (arith, placed_few c.args.kind c.args.bodies, c.Placed-of.ensures)); bodies_in_bounds_2 = (omega (arith, c.requires.0), c.requires.2, omega (arith, c.requires.3, c.Placed-of.ensures), omega (arith, c.requires.4, c.Placed-of.ensures)) }
+    record { bodies_in_bounds = (c.requires.1, omega (arith, placed_few c.args.kind c.args.bodies, c.placed_of.ensures)); bodies_in_bounds_2 = (omega (arith, c.requires.0), c.requires.2, omega (arith, c.requires.3, c.placed_of.ensures), omega (arith, c.requires.4, c.placed_of.ensures)) }
 
 pub returns : goal.returns
 returns c =
-    still_put c.args.kind c.Placed-of.ensures c.put_bodies.ensures
+    still_put c.args.kind c.placed_of.ensures c.put_bodies.ensures

@@ -11,7 +11,7 @@ use Rattle.job_converter.proofs.bits.read_centre_bits.Given as goal
 
 abbrev pub invariant-loop-k : goal.invariant-loop-k
 invariant-loop-k l =
-    Fills 0 (λ l.k. centre_bits l.file l.offset l.spare (l.k / 3) (l.k % 3)) (length l.initial.centres) l.k l.centres
+    Fills 0 (λ k. centre_bits l.file l.offset l.spare (k / 3) (k % 3)) (length l.initial.centres) l.k l.centres
 
 abbrev pub decreases-loop-k : goal.decreases-loop-k
 decreases-loop-k l = length l.initial.centres - l.k

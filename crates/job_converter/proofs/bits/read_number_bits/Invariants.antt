@@ -9,7 +9,7 @@ use Rattle.job_converter.proofs.bits.read_number_bits.Given as goal
 
 abbrev pub invariant-loop-k : goal.invariant-loop-k
 invariant-loop-k l =
-    Fills 0 (λ l.k. row_bits l.file l.offset (l.k / 27) (l.k % 27)) (length l.initial.numbers) l.k l.numbers
+    Fills 0 (λ k. row_bits l.file l.offset (k / 27) (k % 27)) (length l.initial.numbers) l.k l.numbers
 
 abbrev pub decreases-loop-k : goal.decreases-loop-k
 decreases-loop-k l = length l.initial.numbers - l.k

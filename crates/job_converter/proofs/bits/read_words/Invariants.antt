@@ -8,7 +8,7 @@ use Rattle.job_converter.proofs.bits.read_words.Given as goal
 
 abbrev pub invariant-loop-k : goal.invariant-loop-k
 invariant-loop-k l =
-    Fills 0 (λ l.k. row_word l.file l.offset (l.k / 8) (l.k % 8)) (length l.initial.words) l.k l.words
+    Fills 0 (λ k. row_word l.file l.offset (k / 8) (k % 8)) (length l.initial.words) l.k l.words
 
 abbrev pub decreases-loop-k : goal.decreases-loop-k
 decreases-loop-k l = length l.initial.words - l.k

@@ -9,7 +9,7 @@ is_word-requires c =
 
 pub returns-then-is_word : goal.returns-then-is_word
 returns-then-is_word c =
-    named_old _ c.is_IsWord.ensures c.if-is_word.true
+    named_old _ c.is_word.ensures c.if-is_word.true
 
 pub is_word-requires-2 : goal.is_word-requires-2
 is_word-requires-2 c =
@@ -17,8 +17,8 @@ is_word-requires-2 c =
 
 pub returns-then-is_word-2 : goal.returns-then-is_word-2
 returns-then-is_word-2 c =
-    named_new _ c.is_IsWord.ensures c.if-is_word.false c.is_word-2.ensures c.if-is_word-2.true
+    named_new _ c.is_word.ensures c.if-is_word.false c.is_word-2.ensures c.if-is_word-2.true
 
 pub returns : goal.returns
 returns c =
-    named_none _ c.is_IsWord.ensures c.if-is_word.false c.is_word-2.ensures c.if-is_word-2.false
+    named_none _ c.is_word.ensures c.if-is_word.false c.is_word-2.ensures c.if-is_word-2.false

@@ -11,7 +11,7 @@ use Rattle.job_file.proofs.sections.read_centres.Given as goal
 
 abbrev pub invariant-loop-k : goal.invariant-loop-k
 invariant-loop-k l =
-    Fills nan (λ l.k. centre_number l.file l.offset l.spare (l.k / 3) (l.k % 3)) (length l.initial.centres) l.k l.centres
+    Fills nan (λ k. centre_number l.file l.offset l.spare (k / 3) (k % 3)) (length l.initial.centres) l.k l.centres
 
 abbrev pub decreases-loop-k : goal.decreases-loop-k
 decreases-loop-k l = length l.initial.centres - l.k

@@ -11,7 +11,7 @@ use Rattle.job_file.proofs.sections.read_masses.Given as goal
 
 abbrev pub invariant-loop-k : goal.invariant-loop-k
 invariant-loop-k l =
-    Fills nan (λ l.k. mass_number l.file l.offset l.spare (l.k / 10) (l.k % 10)) (length l.initial.masses) l.k l.masses
+    Fills nan (λ k. mass_number l.file l.offset l.spare (k / 10) (k % 10)) (length l.initial.masses) l.k l.masses
 
 abbrev pub decreases-loop-k : goal.decreases-loop-k
 decreases-loop-k l = length l.initial.masses - l.k

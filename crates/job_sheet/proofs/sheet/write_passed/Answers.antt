@@ -88,18 +88,22 @@ write_file-requires c =
     let trailer = c.args.trailer in
     let passed = c.requires.file_value in
     let rows = rows_few file trailer passed in
-    let bodies = bodies_few file trailer passed in record { file_value = passed; job_room = record {
-          few_rows = rows;
-          few_bodies = bodies;
-          mode_known = mode_small file trailer passed;
-          numbers_long = length-take-le _ _ (omega arith);
-          words_long = length-take-le _ _ (omega arith);
-          masses_long = length-take-le _ _ (omega arith);
-          centres_long = length-take-le _ _ (omega arith);
-          solution_long = length-take-le _ _ (omega arith);
-          impulses_long = length-take-le _ _ (omega arith);
-          new_centres_long = length-take-le _ _ (omega arith);
-        }; in_bounds = c.requires.in_bounds }
+    let bodies = bodies_few file trailer passed in record {
+      file_value = passed;
+      job_room = record {
+        few_rows = rows;
+        few_bodies = bodies;
+        mode_known = mode_small file trailer passed;
+        numbers_long = length-take-le _ _ (omega arith);
+        words_long = length-take-le _ _ (omega arith);
+        masses_long = length-take-le _ _ (omega arith);
+        centres_long = length-take-le _ _ (omega arith);
+        solution_long = length-take-le _ _ (omega arith);
+        impulses_long = length-take-le _ _ (omega arith);
+        new_centres_long = length-take-le _ _ (omega arith);
+      };
+      in_bounds = c.requires.in_bounds;
+    }
 
 pub returns : goal.returns
 returns c =

@@ -14,7 +14,7 @@ slice_bounds-print_last-end-then-more-eq0 c =
 
 pub print_more-printed-requires : goal.print_more-printed-requires
 print_more-printed-requires c =
-    let h = filled_within c.read_Some.ensures c.in-Read.is in (search rules, search rules)
+    let h = filled_within c.read_some-read.ensures c.in-Read.is in (search rules, search rules)
 
 pub loop-left-preserved : goal.loop-left-preserved
 loop-left-preserved c =

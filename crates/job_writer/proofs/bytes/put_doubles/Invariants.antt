@@ -9,7 +9,7 @@ use Rattle.job_writer.proofs.bytes.put_doubles.Given as goal
 
 abbrev pub invariant-loop-k : goal.invariant-loop-k
 invariant-loop-k l =
-    Writing l.initial.out l.at (λ l.k. little 8 (get_or l.from (l.first + l.k) 0)) l.n l.k l.out l.next
+    Writing l.initial.out l.at (λ k. little 8 (get_or l.from (l.first + k) 0)) l.n l.k l.out l.next
 
 abbrev pub decreases-loop-k : goal.decreases-loop-k
 decreases-loop-k l = l.n - l.k

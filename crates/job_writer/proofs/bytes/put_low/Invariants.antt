@@ -9,7 +9,7 @@ use Rattle.job_writer.proofs.bytes.put_low.Given as goal
 
 abbrev pub invariant-loop-k : goal.invariant-loop-k
 invariant-loop-k l =
-    Writing l.initial.out l.at (λ l.k. l.x / 2 ^ (8 * l.k) % 256 ∷ []) l.n l.k l.out l.next
+    Writing l.initial.out l.at (λ k. l.x / 2 ^ (8 * k) % 256 ∷ []) l.n l.k l.out l.next
 
 abbrev pub decreases-loop-k : goal.decreases-loop-k
 decreases-loop-k l = l.n - l.k

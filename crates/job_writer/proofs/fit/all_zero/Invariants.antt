@@ -8,7 +8,7 @@ use Rattle.job_writer.proofs.fit.all_zero.Given as goal
 
 abbrev pub invariant-loop-k : goal.invariant-loop-k
 invariant-loop-k l =
-    Holds (λ l.k. eqb (get_or l.centres l.k 0) 0) (length l.centres) l.k
+    Holds (λ k. eqb (get_or l.centres k 0) 0) (length l.centres) l.k
 
 abbrev pub decreases-loop-k : goal.decreases-loop-k
 decreases-loop-k l = length l.centres - l.k

@@ -8,7 +8,7 @@ use Rattle.joint_refusals.proofs.judge.centres_finite.Given as goal
 
 abbrev pub invariant-loop-b : goal.invariant-loop-b
 invariant-loop-b l =
-    Holds (λ l.b. is_finite_of (vec_of l.centres (3 * l.b))) l.bodies l.b
+    Holds (λ b. is_finite_of (vec_of l.centres (3 * b))) l.bodies l.b
 
 abbrev pub decreases-loop-b : goal.decreases-loop-b
 decreases-loop-b l = l.bodies - l.b

@@ -32,4 +32,4 @@ vec_finite_at-requires-5 c =
 pub returns : goal.returns
 unfolding jacobians_finite_of row_of
 returns c =
-    rw (c.vec_finite_at.ensures, c.vec_finite_at-2.ensures, c.vec_finite_at-3.ensures, c.vec_finite_at-4.ensures, c.vec_finite_at-5.ensures)
+    λ words. rw (c.vec_finite_at.ensures, c.vec_finite_at-2.ensures, c.vec_finite_at-3.ensures, c.vec_finite_at-4.ensures, c.vec_finite_at-5.ensures)

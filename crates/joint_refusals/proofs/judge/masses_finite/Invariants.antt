@@ -8,7 +8,7 @@ use Rattle.joint_refusals.proofs.judge.masses_finite.Given as goal
 
 abbrev pub invariant-loop-b : goal.invariant-loop-b
 invariant-loop-b l =
-    Holds (λ l.b. mass_finite_of (mass_of l.masses l.b)) l.bodies l.b
+    Holds (λ b. mass_finite_of (mass_of l.masses b)) l.bodies l.b
 
 abbrev pub decreases-loop-b : goal.decreases-loop-b
 decreases-loop-b l = l.bodies - l.b

@@ -9,7 +9,7 @@ use Rattle.joint_refusals.proofs.judge.residuals_finite.Given as goal
 
 abbrev pub invariant-loop-i : goal.invariant-loop-i
 invariant-loop-i l =
-    Holds (λ l.i. finite (get_or l.residuals l.i nan)) l.rows l.i
+    Holds (λ i. finite (get_or l.residuals i nan)) l.rows l.i
 
 abbrev pub decreases-loop-i : goal.decreases-loop-i
 decreases-loop-i l = l.rows - l.i

@@ -8,7 +8,7 @@ use Rattle.joint_refusals.proofs.judge.rows_valid.Given as goal
 
 abbrev pub invariant-loop-i : goal.invariant-loop-i
 invariant-loop-i l =
-    Holds (λ l.i. is_valid_of l.bodies (row_of l.numbers l.words l.i)) l.rows l.i
+    Holds (λ i. is_valid_of l.bodies (row_of l.numbers l.words i)) l.rows l.i
 
 abbrev pub decreases-loop-i : goal.decreases-loop-i
 decreases-loop-i l = l.rows - l.i

@@ -8,7 +8,7 @@ use Rattle.joint_refusals.proofs.judge.velocity_rows_open.Given as goal
 
 abbrev pub invariant-loop-i : goal.invariant-loop-i
 invariant-loop-i l =
-    Holds (λ l.i. velocity_opens_of (scalars_of l.numbers (27 * l.i + 15)) (words_of l.words (8 * l.i))) l.rows l.i
+    Holds (λ i. velocity_opens_of (scalars_of l.numbers (27 * i + 15)) (words_of l.words (8 * i))) l.rows l.i
 
 abbrev pub decreases-loop-i : goal.decreases-loop-i
 decreases-loop-i l = l.rows - l.i

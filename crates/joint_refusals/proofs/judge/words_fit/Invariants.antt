@@ -8,7 +8,7 @@ use Rattle.joint_refusals.proofs.judge.words_fit.Given as goal
 
 abbrev pub invariant-loop-i : goal.invariant-loop-i
 invariant-loop-i l =
-    Holds (λ l.i. words_fit_of (words_of l.words (8 * l.i))) l.rows l.i
+    Holds (λ i. words_fit_of (words_of l.words (8 * i))) l.rows l.i
 
 abbrev pub decreases-loop-i : goal.decreases-loop-i
 decreases-loop-i l = l.rows - l.i

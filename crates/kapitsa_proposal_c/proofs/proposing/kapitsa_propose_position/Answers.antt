@@ -14,7 +14,7 @@ use Rattle.kapitsa_proposal_c.proofs.proposing.kapitsa_propose_position.Goals as
 pub returns-then-maxima-ne2 : goal.returns-then-maxima-ne2
 returns-then-maxima-ne2 c =
     proposal_told (position_apart _ _ _ _)
-    (unproposed {m = (record { words = c.args.proposal.now; solution = c.args.solution.now; impulses = c.args.impulses.now; centres = c.args.new-centres.now; started = c.args.started.now })} (ruled_three kinds.Position (rules_in c.args.rule-words.now c.args.rule-tolerances.now) c.args.rows c.args.bodies c.args.numbers.now c.args.words.now c.args.masses.now c.args.centres.now [] c.args.shift (mode_of c.args.mode c.args.shift) c.args.limit (record { numbers = c.args.numbers.now; solution = c.args.solution.now; impulses = c.args.impulses.now; centres = c.args.new-centres.now }) _ _ (maxima_fit c.args.maxima.now) (maxima_fit c.args.maxima.now) _ refl (maxima_unfit c.args.maxima.now c.if-maxima-ne2.true)))
+    (unproposed {m = (record { words = c.args.proposal.now; solution = c.args.solution.now; impulses = c.args.impulses.now; centres = c.args.new_centres.now; started = c.args.started.now })} (ruled_three kinds.Position (rules_in c.args.rule_words.now c.args.rule_tolerances.now) c.args.rows c.args.bodies c.args.numbers.now c.args.words.now c.args.masses.now c.args.centres.now [] c.args.shift (mode_of c.args.mode c.args.shift) c.args.limit (record { numbers = c.args.numbers.now; solution = c.args.solution.now; impulses = c.args.impulses.now; centres = c.args.new_centres.now }) _ _ (maxima_fit c.args.maxima.now) (maxima_fit c.args.maxima.now) _ refl (maxima_unfit c.args.maxima.now c.if-maxima-ne2.true)))
     (told_three c.args.maxima.now)
 
 pub propose_position-answer-requires : goal.propose_position-answer-requires

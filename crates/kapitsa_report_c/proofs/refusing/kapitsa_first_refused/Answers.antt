@@ -14,8 +14,8 @@ returns-then-not-velocities-place c =
 
 pub tell_place-requires : goal.tell_place-requires
 tell_place-requires c =
-    two_long c.args.velocities c.args.place.now (place_in (kind_for c.args.velocities) c.args.rows c.args.bodies c.args.numbers.now c.args.words.now c.args.masses.now c.args.beside.now (rules_in c.args.rule-words.now c.args.rule-tolerances.now) c.args.number c.args.limit) c.if-not-velocities-place.false-raw
+    two_long c.args.velocities c.args.place.now (place_in (kind_for c.args.velocities) c.args.rows c.args.bodies c.args.numbers.now c.args.words.now c.args.masses.now c.args.beside.now (rules_in c.args.rule_words.now c.args.rule_tolerances.now) c.args.number c.args.limit) c.if-not-velocities-place.false-raw
 
 pub returns : goal.returns
 returns c =
-    told_on c.args.velocities c.args.place.now (place_in (kind_for c.args.velocities) c.args.rows c.args.bodies c.args.numbers.now c.args.words.now c.args.masses.now c.args.beside.now (rules_in c.args.rule-words.now c.args.rule-tolerances.now) c.args.number c.args.limit) c.if-not-velocities-place.false-raw (c.first_refused-found.ensures ∙ ap (λ (k : Kind). place_in k c.args.rows c.args.bodies c.args.numbers.now c.args.words.now c.args.masses.now c.args.beside.now (rules_in c.args.rule-words.now c.args.rule-tolerances.now) c.args.number c.args.limit) c.kind_for.ensures) c.tell_place.ensures
+    told_on c.args.velocities c.args.place.now (place_in (kind_for c.args.velocities) c.args.rows c.args.bodies c.args.numbers.now c.args.words.now c.args.masses.now c.args.beside.now (rules_in c.args.rule_words.now c.args.rule_tolerances.now) c.args.number c.args.limit) c.if-not-velocities-place.false-raw (c.first_refused-found.ensures ∙ ap (λ (k : Kind). place_in k c.args.rows c.args.bodies c.args.numbers.now c.args.words.now c.args.masses.now c.args.beside.now (rules_in c.args.rule_words.now c.args.rule_tolerances.now) c.args.number c.args.limit) c.kind_for.ensures) c.tell_place.ensures

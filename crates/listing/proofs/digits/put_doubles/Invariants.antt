@@ -10,7 +10,7 @@ use Rattle.listing.proofs.digits.put_doubles.Given as goal
 
 abbrev pub invariant-loop-k : goal.invariant-loop-k
 invariant-loop-k l =
-    Writing l.initial.out l.at (λ l.k. double (get_or l.list (l.first + l.k) nan)) l.n l.k l.out l.next
+    Writing l.initial.out l.at (λ k. double (get_or l.list (l.first + k) nan)) l.n l.k l.out l.next
 
 abbrev pub decreases-loop-k : goal.decreases-loop-k
 decreases-loop-k l = l.n - l.k

@@ -9,7 +9,7 @@ use Rattle.listing.proofs.lines.body_lines.Given as goal
 
 abbrev pub invariant-loop-b : goal.invariant-loop-b
 invariant-loop-b l =
-    Writing l.initial.out l.at (λ l.b. body_line l.b l.impulses l.spare l.centres) l.bodies l.b l.out l.next
+    Writing l.initial.out l.at (λ b. body_line b l.impulses l.spare l.centres) l.bodies l.b l.out l.next
 
 abbrev pub decreases-loop-b : goal.decreases-loop-b
 decreases-loop-b l = l.bodies - l.b

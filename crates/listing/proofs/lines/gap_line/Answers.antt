@@ -13,20 +13,14 @@ put_text-a-requires c =
 pub put_maxima-b-requires : goal.put_maxima-b-requires
 unfolding gap_line
 put_maxima-b-requires c =
-    let name = c in
-    room_rest (room_first _ name.requires) (wrote_as gap_name_lem name.put-text.ensures)
+    room_rest (room_first _ c.requires) (wrote_as gap_name_lem c.put_text-a.ensures)
 
 pub put_byte-requires : goal.put_byte-requires
 unfolding gap_line
 put_byte-requires c =
-    let words = c in
-    let name = words in
-    room_rest name.requires (wrote_join (wrote_as gap_name_lem name.put-text.ensures) words.put-maxima.ensures)
+    room_rest c.requires (wrote_join (wrote_as gap_name_lem c.put_text-a.ensures) c.put_maxima-b.ensures)
 
 pub returns : goal.returns
 unfolding gap_line
 returns c =
-    let end = c in
-    let words = end in
-    let name = words in
-    wrote_join (wrote_join (wrote_as gap_name_lem name.put-text.ensures) words.put-maxima.ensures) end.put_byte.ensures
+    wrote_join (wrote_join (wrote_as gap_name_lem c.put_text-a.ensures) c.put_maxima-b.ensures) c.put_byte.ensures

@@ -81,7 +81,7 @@ bounds-words-place c =
 pub row_gap_line-next-requires : goal.row_gap_line-next-requires
 unfolding gap_lines
 row_gap_line-next-requires c =
-    room_as (row_gap_as c.args.words.now c.args.gaps.now c.args.rule-numbers.now c.args.tolerances.now _ c.wide-rule.ensures) (writing_room c.loop-i.invariant (omega arith))
+    room_as (row_gap_as c.args.words.now c.args.gaps.now c.args.rule_numbers.now c.args.tolerances.now _ c.wide-rule.ensures) (writing_room c.loop-i.invariant (omega arith))
 
 pub overflow_add-i : goal.overflow_add-i
 unfolding gap_lines
@@ -96,7 +96,7 @@ loop-i-smaller c =
 pub loop-i-preserved : goal.loop-i-preserved
 unfolding gap_lines
 loop-i-preserved c =
-    writing_more c.loop-i.invariant (omega arith) (wrote_as (row_gap_as c.args.words.now c.args.gaps.now c.args.rule-numbers.now c.args.tolerances.now _ c.wide-rule.ensures) c.row_gap_line-next.ensures)
+    writing_more c.loop-i.invariant (omega arith) (wrote_as (row_gap_as c.args.words.now c.args.gaps.now c.args.rule_numbers.now c.args.tolerances.now _ c.wide-rule.ensures) c.row_gap_line-next.ensures)
 
 pub returns : goal.returns
 unfolding gap_lines

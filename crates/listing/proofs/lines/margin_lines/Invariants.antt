@@ -11,7 +11,7 @@ use Rattle.listing.proofs.lines.margin_lines.Given as goal
 
 abbrev pub invariant-loop-k : goal.invariant-loop-k
 invariant-loop-k l =
-    Writing l.initial.out l.at (λ l.k. margin_line (get_or l.margin_rows l.k 0) (get_or l.margins l.k nan)) l.n l.k l.out l.next
+    Writing l.initial.out l.at (λ k. margin_line (get_or l.margin_rows k 0) (get_or l.margins k nan)) l.n l.k l.out l.next
 
 abbrev pub decreases-loop-k : goal.decreases-loop-k
 decreases-loop-k l = l.n - l.k

@@ -13,20 +13,14 @@ put_text-a-requires c =
 pub put_text-b-requires : goal.put_text-b-requires
 unfolding no_gap_line
 put_text-b-requires c =
-    let name = c in
-    room_as none_name_lem (room_rest (room_first _ name.requires) (wrote_as gap_name_lem name.put-text.ensures))
+    room_as none_name_lem (room_rest (room_first _ c.requires) (wrote_as gap_name_lem c.put_text-a.ensures))
 
 pub put_byte-requires : goal.put_byte-requires
 unfolding no_gap_line
 put_byte-requires c =
-    let none = c in
-    let name = none in
-    room_rest name.requires (wrote_join (wrote_as gap_name_lem name.put-text.ensures) (wrote_as none_name_lem none.put-text2.ensures))
+    room_rest c.requires (wrote_join (wrote_as gap_name_lem c.put_text-a.ensures) (wrote_as none_name_lem c.put_text-b.ensures))
 
 pub returns : goal.returns
 unfolding no_gap_line
 returns c =
-    let end = c in
-    let none = end in
-    let name = none in
-    wrote_join (wrote_join (wrote_as gap_name_lem name.put-text.ensures) (wrote_as none_name_lem none.put-text2.ensures)) end.put_byte.ensures
+    wrote_join (wrote_join (wrote_as gap_name_lem c.put_text-a.ensures) (wrote_as none_name_lem c.put_text-b.ensures)) c.put_byte.ensures

@@ -11,12 +11,9 @@ put_double-a-requires c =
 pub put_double-requires : goal.put_double-requires
 unfolding maxima_words
 put_double-requires c =
-    let linear = c in
-    room_rest linear.requires linear.put-double.ensures
+    room_rest c.requires c.put_double-a.ensures
 
 pub returns : goal.returns
 unfolding maxima_words
 returns c =
-    let angular = c in
-    let linear = angular in
-    wrote_join linear.put-double.ensures angular.put-double2.ensures
+    wrote_join c.put_double-a.ensures c.put_double.ensures

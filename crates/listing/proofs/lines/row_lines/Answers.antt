@@ -57,7 +57,7 @@ loop-i-smaller c =
 pub loop-i-preserved : goal.loop-i-preserved
 unfolding row_lines
 loop-i-preserved c =
-    writing_more c.loop-i.invariant (omega arith) c.row_Line.ensures
+    writing_more c.loop-i.invariant (omega arith) c.row_line-next.ensures
 
 pub returns : goal.returns
 unfolding row_lines

@@ -11,7 +11,7 @@ use Rattle.listing.proofs.lines.row_lines.Given as goal
 
 abbrev pub invariant-loop-i : goal.invariant-loop-i
 invariant-loop-i l =
-    Writing l.initial.out l.at (λ l.i. row_line l.i (get_or l.numbers (27 * l.i + 24) nan)) l.rows l.i l.out l.next
+    Writing l.initial.out l.at (λ i. row_line i (get_or l.numbers (27 * i + 24) nan)) l.rows l.i l.out l.next
 
 abbrev pub decreases-loop-i : goal.decreases-loop-i
 decreases-loop-i l = l.rows - l.i

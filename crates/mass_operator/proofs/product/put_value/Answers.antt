@@ -5,4 +5,4 @@ use Rattle.mass_operator.proofs.product.put_value.Goals as goal
 
 pub returns : goal.returns
 returns c =
-    rw c.row_value-value.ensures (refl, refl)
+    record { product_after = rw c.row_value-value.ensures; value = rw c.row_value-value.ensures }

@@ -30,4 +30,4 @@ loop-i-preserved c =
 
 pub returns : goal.returns
 returns c =
-    valued_all _ (omega (arith, c.requires.responses_len.1)) c.loop-i.invariant (search known)
+    let all = valued_all (length c.args.product.now) (omega (arith, c.requires.responses_len.1)) c.loop-i.invariant (search known) in record { product_after = all.0; value = all.1 }

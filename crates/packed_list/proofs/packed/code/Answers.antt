@@ -19,4 +19,4 @@ code_in-requires c =
 
 pub returns : goal.returns
 returns c =
-    code_at_lem _ _ _ _ _ c.half.ensures.value c.Code-in.ensures
+    code_at_lem _ _ _ _ _ c.half.ensures.value c.code_in.ensures

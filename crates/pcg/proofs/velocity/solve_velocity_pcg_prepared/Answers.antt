@@ -21,6 +21,6 @@ solve_prepared-requires c =
 
 pub returns : goal.returns
 returns c =
-    let rules = rules_lent c.args.rows (length c.args.rule-words.now) (length c.args.rule-tolerances.now) (length c.args.rule-numbers.now) in
-    let passed = passes3 c.args.rows c.args.bodies c.args.mode c.args.numbers.now c.args.words.now c.args.masses.now c.args.solution.now c.args.impulses.now (work_memory c.args.jacobians.now c.args.links.now c.args.tolerances.now c.args.diagonal.now c.args.residual.now c.args.pending.now c.args.direction.now c.args.product.now c.args.body-impulses.now c.args.pattern.now c.args.order.now c.args.values.now) in
+    let rules = rules_lent c.args.rows (length c.args.rule_words.now) (length c.args.rule_tolerances.now) (length c.args.rule_numbers.now) in
+    let passed = passes3 c.args.rows c.args.bodies c.args.mode c.args.numbers.now c.args.words.now c.args.masses.now c.args.solution.now c.args.impulses.now (work_memory c.args.jacobians.now c.args.links.now c.args.tolerances.now c.args.diagonal.now c.args.residual.now c.args.pending.now c.args.direction.now c.args.product.now c.args.body_impulses.now c.args.pattern.now c.args.order.now c.args.values.now) in
     moving_ruled rules c.args.rows (length c.args.given.now) passed _ c.no_centres-2-1.given c.solve_prepared.ensures

@@ -12,7 +12,7 @@ use Rattle.position.proofs.centre.moved_finite.Given as goal
 
 abbrev pub invariant-loop-b : goal.invariant-loop-b
 invariant-loop-b l =
-    Holds (λ l.b. is_finite_of ((moved_by (mass_of l.masses) (paired_of l.impulses) (centres_in l.bodies l.centres)).at l.b)) l.bodies l.b
+    Holds (λ b. is_finite_of ((moved_by (mass_of l.masses) (paired_of l.impulses) (centres_in l.bodies l.centres)).at b)) l.bodies l.b
 
 abbrev pub decreases-loop-b : goal.decreases-loop-b
 decreases-loop-b l = l.bodies - l.b

@@ -15,7 +15,7 @@ proposal_lent-requires c =
 
 pub returns-then-not-proposal_lent : goal.returns-then-not-proposal_lent
 returns-then-not-proposal_lent c =
-    unproposed {m = (record { words = c.args.proposal.now; solution = c.args.solution.now; impulses = c.args.impulses.now; centres = c.args.new-centres.now; started = c.args.started.now })} (ruled_three kinds.Position (rules_in c.args.rule-words.now c.args.rule-tolerances.now) c.args.rows c.args.bodies c.args.numbers.now c.args.words.now c.args.masses.now c.args.centres.now [] c.args.shift (mode_of c.args.mode c.args.shift) c.args.limit (record { numbers = c.args.numbers.now; solution = c.args.solution.now; impulses = c.args.impulses.now; centres = c.args.new-centres.now }) _ _ _ _ _ c.proposal_lent.ensures c.if-not-proposal_lent.true-raw)
+    unproposed {m = (record { words = c.args.proposal.now; solution = c.args.solution.now; impulses = c.args.impulses.now; centres = c.args.new_centres.now; started = c.args.started.now })} (ruled_three kinds.Position (rules_in c.args.rule_words.now c.args.rule_tolerances.now) c.args.rows c.args.bodies c.args.numbers.now c.args.words.now c.args.masses.now c.args.centres.now [] c.args.shift (mode_of c.args.mode c.args.shift) c.args.limit (record { numbers = c.args.numbers.now; solution = c.args.solution.now; impulses = c.args.impulses.now; centres = c.args.new_centres.now }) _ _ _ _ _ c.proposal_lent.ensures c.if-not-proposal_lent.true-raw)
 
 pub slice_bounds-propose_by_rules-end : goal.slice_bounds-propose_by_rules-end
 slice_bounds-propose_by_rules-end c =
@@ -36,6 +36,6 @@ note_accepted-requires c =
 pub returns : goal.returns
 returns c =
     let l = fitting _ _ _ _ _ _ _ _ _ c.proposal_lent.ensures c.if-not-proposal_lent.false-raw in
-    proposed_of {m = (record { words = c.args.proposal.now; solution = c.args.solution.now; impulses = c.args.impulses.now; centres = c.args.new-centres.now; started = c.args.started.now })} l.started_long
-    (ruled_on kinds.Position (rules_in c.args.rule-words.now c.args.rule-tolerances.now) c.args.rows c.args.bodies c.args.numbers.now c.args.words.now c.args.masses.now c.args.centres.now [] c.args.shift (mode_of c.args.mode c.args.shift) c.args.limit (record { numbers = c.args.numbers.now; solution = c.args.solution.now; impulses = c.args.impulses.now; centres = c.args.new-centres.now }) _ _ _ _ _ c.proposal_lent.ensures c.if-not-proposal_lent.false-raw c.propose_by_rules-answer.ensures _ _ l.numbers_long c.name_accepted.ensures)
+    proposed_of {m = (record { words = c.args.proposal.now; solution = c.args.solution.now; impulses = c.args.impulses.now; centres = c.args.new_centres.now; started = c.args.started.now })} l.started_long
+    (ruled_on kinds.Position (rules_in c.args.rule_words.now c.args.rule_tolerances.now) c.args.rows c.args.bodies c.args.numbers.now c.args.words.now c.args.masses.now c.args.centres.now [] c.args.shift (mode_of c.args.mode c.args.shift) c.args.limit (record { numbers = c.args.numbers.now; solution = c.args.solution.now; impulses = c.args.impulses.now; centres = c.args.new_centres.now }) _ _ _ _ _ c.proposal_lent.ensures c.if-not-proposal_lent.false-raw c.propose_by_rules-answer.ensures _ _ l.numbers_long c.name_accepted.ensures)
     c.note_accepted.ensures.proposal_after c.note_accepted.ensures.started_after c.solution-1.given

@@ -8,7 +8,7 @@ use Rattle.position_solve.proofs.solve.solve_table.Goals as goal
 
 pub returns-then-not-job_fits : goal.returns-then-not-job_fits
 returns-then-not-job_fits c =
-    job_refused _ _ _ _ _ _ _ _ _ _ (solve_apart c.args.kind c.args.rows c.args.bodies c.args.numbers.now c.args.words.now c.args.masses.now c.args.centres.now c.args.given.now (rules_in c.args.rule-words.now c.args.rule-tolerances.now) c.args.shift) c.job_fits.ensures c.if-not-job_fits.true-raw
+    job_refused _ _ _ _ _ _ _ _ _ _ (solve_apart c.args.kind c.args.rows c.args.bodies c.args.numbers.now c.args.words.now c.args.masses.now c.args.centres.now c.args.given.now (rules_in c.args.rule_words.now c.args.rule_tolerances.now) c.args.shift) c.job_fits.ensures c.if-not-job_fits.true-raw
 
 pub with_diagonal-requires : goal.with_diagonal-requires
 with_diagonal-requires c =

@@ -93,4 +93,4 @@ slice_bounds-solve_prepared-end-9 c =
 
 pub returns : goal.returns
 returns c =
-    job_solved c.args.kind c.args.rows c.args.bodies c.args.mode c.args.numbers.now c.args.words.now c.args.masses.now c.args.solution.now c.args.impulses.now _ (length c.args.centres.now) (length c.args.new-centres.now) (length c.args.rule-words.now) (length c.args.rule-tolerances.now) (length c.args.rule-numbers.now) (length c.args.given.now) c.requires.given_value (lent_room 512 256 c.requires.rows_bound c.requires.factor_room _ _ _ _ _ _ _ _ _ refl refl refl refl refl refl refl refl refl) c.solve_prepared.ensures
+    job_solved c.args.kind c.args.rows c.args.bodies c.args.mode c.args.numbers.now c.args.words.now c.args.masses.now c.args.solution.now c.args.impulses.now _ (length c.args.centres.now) (length c.args.new_centres.now) (length c.args.rule_words.now) (length c.args.rule_tolerances.now) (length c.args.rule_numbers.now) (length c.args.given.now) c.requires.given_value (lent_room 512 256 c.requires.rows_bound c.requires.factor_room _ _ _ _ _ _ _ _ _ refl refl refl refl refl refl refl refl refl) c.solve_prepared.ensures

@@ -31,7 +31,7 @@ begin-requires c =
 
 pub returns-in-Refused-begin : goal.returns-in-Refused-begin
 returns-in-Refused-begin c =
-    record { start_held = start_refused c.args.kind _ _ _ _ _ c.args.given.now (rules_in c.args.rule-words.now c.args.rule-tolerances.now) _ c.in-Done.is _ _ c.requires.jacobians_len.2 c.gather_tolerances.ensures _ _ c.requires.jacobians_len.5 c.start_residual.ensures _ c.is_velocity.ensures _ c.requires.jacobians_len.3 _ _ _ c.begin.ensures.begun_held _ _ _ _ c.in-Refused-begin.is; start_free = record { jacobians_free = record { long = refl }; links_free = record { long = refl }; tolerances_free = record { long = c.tolerances-1.given }; diagonal_free = record { long = c.diagonal-1.given }; pending_free = record { long = refl }; residual_free = record { long = c.residual-2-1.given ∙ c.residual-1.given } } }
+    record { start_held = start_refused c.args.kind _ _ _ _ _ c.args.given.now (rules_in c.args.rule_words.now c.args.rule_tolerances.now) _ c.in-Done.is _ _ c.requires.jacobians_len.2 c.gather_tolerances.ensures _ _ c.requires.jacobians_len.5 c.start_residual.ensures _ c.is_velocity.ensures _ c.requires.jacobians_len.3 _ _ _ c.begin.ensures.begun_held _ _ _ _ c.in-Refused-begin.is; start_free = record { jacobians_free = record { long = refl }; links_free = record { long = refl }; tolerances_free = record { long = c.tolerances-1.given }; diagonal_free = record { long = c.diagonal-1.given }; pending_free = record { long = refl }; residual_free = record { long = c.residual-2-1.given ∙ c.residual-1.given } } }
 
 pub gather-requires : goal.gather-requires
 gather-requires c =
@@ -43,4 +43,4 @@ clear-requires c =
 
 pub returns : goal.returns
 returns c =
-    record { start_held = start_done c.args.kind _ _ _ _ _ c.args.given.now (rules_in c.args.rule-words.now c.args.rule-tolerances.now) _ c.in-Done.is _ _ c.requires.jacobians_len.2 c.gather_tolerances.ensures _ _ c.requires.jacobians_len.5 c.start_residual.ensures _ c.is_velocity.ensures _ c.requires.jacobians_len.3 _ _ _ c.begin.ensures.begun_held c.in-Done-begin.is _ (c.clear.ensures ∙ ap zeros c.requires.jacobians_len.4) c.args.jacobians.now _ c.args.links.now _ _ c.requires.numbers_len.0 c.requires.numbers_len.1 c.requires.jacobians_len.0 c.requires.jacobians_len.1 (c.diagonal-1.given ∙ c.requires.jacobians_len.3) c.gather.ensures; start_free = record { jacobians_free = record { long = c.jacobians-1.given }; links_free = record { long = c.links-1.given }; tolerances_free = record { long = c.tolerances-1.given }; diagonal_free = record { long = c.diagonal-1.given }; pending_free = record { long = c.pending-1.given }; residual_free = record { long = c.residual-2-1.given ∙ c.residual-1.given } } }
+    record { start_held = start_done c.args.kind _ _ _ _ _ c.args.given.now (rules_in c.args.rule_words.now c.args.rule_tolerances.now) _ c.in-Done.is _ _ c.requires.jacobians_len.2 c.gather_tolerances.ensures _ _ c.requires.jacobians_len.5 c.start_residual.ensures _ c.is_velocity.ensures _ c.requires.jacobians_len.3 _ _ _ c.begin.ensures.begun_held c.in-Done-begin.is _ (c.clear.ensures ∙ ap zeros c.requires.jacobians_len.4) c.args.jacobians.now _ c.args.links.now _ _ c.requires.numbers_len.0 c.requires.numbers_len.1 c.requires.jacobians_len.0 c.requires.jacobians_len.1 (c.diagonal-1.given ∙ c.requires.jacobians_len.3) c.gather.ensures; start_free = record { jacobians_free = record { long = c.jacobians-1.given }; links_free = record { long = c.links-1.given }; tolerances_free = record { long = c.tolerances-1.given }; diagonal_free = record { long = c.diagonal-1.given }; pending_free = record { long = c.pending-1.given }; residual_free = record { long = c.residual-2-1.given ∙ c.residual-1.given } } }

@@ -31,4 +31,4 @@ clear_steps-requires c =
 
 pub returns : goal.returns
 returns c =
-    record { count_held = count_held c.args.kind _ _ _ _ _ c.args.given.now (rules_in c.args.rule-words.now c.args.rule-tolerances.now) _ _ _ _ _ _ _ _ _ _ c.start-begun.ensures.start_held (c.residual-1.given ∙ c.requires.work_room.table.residual_long) _ c.is_velocity.ensures _ c.wide.ensures _ _ _ c.run_steps-counted.ensures.limit_value _ _ (steps_since _ _ _ _ _ _ _ c.args.tolerances.now c.args.diagonal.now c.args.direction.now c.args.product.now c.args.pattern.now c.args.order.now c.args.values.now _ c.clear_steps.ensures c.tolerances-1.given (c.diagonal-2-1.given ∙ c.diagonal-1.given) c.direction-1.given c.product-1.given c.pattern-1.given c.order-1.given c.values-1.given); count_free = record { jacobians_free = record { long = c.jacobians-1.given }; links_free = record { long = c.links-1.given }; residual_free = record { long = c.residual-2-1.given ∙ c.residual-1.given }; pending_free = record { long = c.pending-2-1.given ∙ c.pending-1.given }; body_impulses_free = record { long = c.body_impulses-1.given } } }
+    record { count_held = count_held c.args.kind _ _ _ _ _ c.args.given.now (rules_in c.args.rule_words.now c.args.rule_tolerances.now) _ _ _ _ _ _ _ _ _ _ c.start-begun.ensures.start_held (c.residual-1.given ∙ c.requires.work_room.table.residual_long) _ c.is_velocity.ensures _ c.wide.ensures _ _ _ c.run_steps-counted.ensures.limit_value _ _ (steps_since _ _ _ _ _ _ _ c.args.tolerances.now c.args.diagonal.now c.args.direction.now c.args.product.now c.args.pattern.now c.args.order.now c.args.values.now _ c.clear_steps.ensures c.tolerances-1.given (c.diagonal-2-1.given ∙ c.diagonal-1.given) c.direction-1.given c.product-1.given c.pattern-1.given c.order-1.given c.values-1.given); count_free = record { jacobians_free = record { long = c.jacobians-1.given }; links_free = record { long = c.links-1.given }; residual_free = record { long = c.residual-2-1.given ∙ c.residual-1.given }; pending_free = record { long = c.pending-2-1.given ∙ c.pending-1.given }; body_impulses_free = record { long = c.body_impulses-1.given } } }

@@ -2,7 +2,7 @@
 use mathlib.Core.Path.{sym, ◌∙◌}
 use native.Mathlib.Omega.{arith}
 use Rattle.loops.proofs.Loop.{loops}
-use Rattle.triangular.proofs.Solves.{solve_tells}
+use Rattle.triangular.proofs.Solves.{sixteen}
 use Rattle.triangular.specs.declared.substitution.Solved.TheVariants.{Done}
 use Rattle.preconditioner.proofs.Applies.{apply_diagonal, apply_blocks, factor_applied, factor_lent, blocks_lent}
 use Rattle.preconditioner.proofs.apply.apply_preconditioner.Goals as goal
@@ -31,12 +31,12 @@ apply_block_jacobi_preconditioner-requires c =
 
 pub returns-in-Diagonal : goal.returns-in-Diagonal
 returns-in-Diagonal c =
-    solve_tells Done _ (search known)
+    record { residual_value = search known; residual_value_2 = sixteen Done _ (search known) }
 
 pub returns-in-IncompleteCholesky : goal.returns-in-IncompleteCholesky
 returns-in-IncompleteCholesky c =
-    solve_tells c.solve_factor.result _ (factor_applied _ _ _ _ _ _ _ c.args.output.now _ _ _ _ c.in-IncompleteCholesky.is (c.output-in-IncompleteCholesky-1.given ∙ sym c.requires.residual_len) c.clear.ensures c.requires.residual_len c.solve_factor.ensures)
+    let run = factor_applied _ _ _ _ _ _ _ c.args.output.now _ _ _ _ c.in-IncompleteCholesky.is (c.output-in-IncompleteCholesky-1.given ∙ sym c.requires.residual_len) c.clear.ensures c.requires.residual_len c.solve_factor.ensures in record { residual_value = run; residual_value_2 = sixteen _ _ run }
 
 pub returns-in-BlockJacobi : goal.returns-in-BlockJacobi
 returns-in-BlockJacobi c =
-    solve_tells c.apply_block_jacobi_preconditioner.result _ (apply_blocks _ _ _ _ _ _ c.args.output.now _ c.clear-in-BlockJacobi.ensures c.requires.residual_len c.in-BlockJacobi.is c.apply_block_jacobi_preconditioner.ensures)
+    let run = apply_blocks _ _ _ _ _ _ c.args.output.now _ c.clear-in-BlockJacobi.ensures c.requires.residual_len c.in-BlockJacobi.is c.apply_block_jacobi_preconditioner.ensures in record { residual_value = run; residual_value_2 = sixteen _ _ run }

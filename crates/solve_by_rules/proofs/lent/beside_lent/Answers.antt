@@ -16,4 +16,4 @@ centres_lent-requires c =
 
 pub returns : goal.returns
 returns c =
-    rw (c.residual_lent.ensures, c.centres_lent.ensures, c.Placed-of.ensures)
+    rw (c.residual_lent.ensures, c.centres_lent.ensures, c.placed_of.ensures)

@@ -37,8 +37,8 @@ returns-then-not-fits c =
     let a = c.args in
     let work = work_memory a.jacobians.now a.links.now a.tolerances.now a.diagonal.now a.residual.now a.pending.now a.direction.now a.product.now a.body-impulses.now a.pattern.now a.order.now a.values.now in
     let fits = fits_three _ _ _ a.numbers.now a.words.now a.masses.now a.solution.now a.impulses.now work _ _ _ _ _
-    c.Mode-of.ensures c.counts_fit.ensures c.table_fits.ensures c.vectors_fit.ensures c.factor_fits.ensures in
-    proposed_three _ _ _ _ _ _ _ _ _ (solve_apart c.args.kind c.args.rows c.args.bodies c.args.numbers.now c.args.words.now c.args.masses.now c.args.centres.now c.args.given.now (rules_in c.args.rule-words.now c.args.rule-tolerances.now) c.args.shift) fits c.if-not-fits.true-raw
+    c.mode_of.ensures c.counts_fit.ensures c.table_fits.ensures c.vectors_fit.ensures c.factor_fits.ensures in
+    proposed_three _ _ _ _ _ _ _ _ _ (solve_apart c.args.kind c.args.rows c.args.bodies c.args.numbers.now c.args.words.now c.args.masses.now c.args.centres.now c.args.given.now (rules_in c.args.rule_words.now c.args.rule_tolerances.now) c.args.shift) fits c.if-not-fits.true-raw
 
 pub placed_of-placed-requires : goal.placed_of-placed-requires
 placed_of-placed-requires c =
@@ -50,14 +50,14 @@ overflow_cast-placed c =
 
 pub centres_finite-requires : goal.centres_finite-requires
 centres_finite-requires c =
-    omega (arith, c.Placed-of.ensures, c.requires.centres_len.0)
+    omega (arith, c.placed_of-placed.ensures, c.requires.centres_len.0)
 
 pub open_table-opened-requires : goal.open_table-opened-requires
 open_table-opened-requires c =
     let a = c.args in
     let work = work_memory a.jacobians.now a.links.now a.tolerances.now a.diagonal.now a.residual.now a.pending.now a.direction.now a.product.now a.body-impulses.now a.pattern.now a.order.now a.values.now in
     let fits = fits_three _ _ _ a.numbers.now a.words.now a.masses.now a.solution.now a.impulses.now work _ _ _ _ _
-    c.Mode-of.ensures c.counts_fit.ensures c.table_fits.ensures c.vectors_fit.ensures c.factor_fits.ensures in
+    c.mode_of.ensures c.counts_fit.ensures c.table_fits.ensures c.vectors_fit.ensures c.factor_fits.ensures in
     let passed = fits_true _ _ fits c.if-not-fits.false-raw in
     let rows = rows_room _ _ _ a.numbers.now a.words.now a.masses.now a.solution.now a.impulses.now work passed in
     let room = work_room _ _ _ a.numbers.now a.words.now a.masses.now a.solution.now a.impulses.now work passed a.shift in
@@ -72,11 +72,11 @@ count_steps-counted-requires c =
     let a = c.args in
     let work = work_memory a.jacobians.now a.links.now a.tolerances.now a.diagonal.now a.residual.now a.pending.now a.direction.now a.product.now a.body-impulses.now a.pattern.now a.order.now a.values.now in
     let fits = fits_three _ _ _ a.numbers.now a.words.now a.masses.now a.solution.now a.impulses.now work _ _ _ _ _
-    c.Mode-of.ensures c.counts_fit.ensures c.table_fits.ensures c.vectors_fit.ensures c.factor_fits.ensures in
+    c.mode_of.ensures c.counts_fit.ensures c.table_fits.ensures c.vectors_fit.ensures c.factor_fits.ensures in
     let passed = fits_true _ _ fits c.if-not-fits.false-raw in
     let rows = rows_room _ _ _ a.numbers.now a.words.now a.masses.now a.solution.now a.impulses.now work passed in
     let room = work_room _ _ _ a.numbers.now a.words.now a.masses.now a.solution.now a.impulses.now work passed a.shift in
-    record { rows_room = rows; work_room = rw c.mode_of-2.ensures room; rule_tolerances_in_bounds = c.requires.rule_tolerances_in_bounds; given_room = (c.requires.centres_len.2, opened_ruled c.args.kind c.args.rows c.args.bodies c.args.numbers.now c.args.words.now c.args.masses.now c.args.given.now (rules_in c.args.rule-words.now c.args.rule-tolerances.now) c.args.shift _ c.args.limit _ c.open_table-opened.ensures) }
+    record { rows_room = rows; work_room = rw c.mode_of-2.ensures room; rule_tolerances_in_bounds = c.requires.rule_tolerances_in_bounds; given_room = (c.requires.centres_len.2, opened_ruled c.args.kind c.args.rows c.args.bodies c.args.numbers.now c.args.words.now c.args.masses.now c.args.given.now (rules_in c.args.rule_words.now c.args.rule_tolerances.now) c.args.shift _ c.args.limit _ c.open_table-opened.ensures) }
 
 pub place_of-requires : goal.place_of-requires
 place_of-requires c =
@@ -87,23 +87,23 @@ propose_and_clear-requires c =
     let a = c.args in
     let work = work_memory a.jacobians.now a.links.now a.tolerances.now a.diagonal.now a.residual.now a.pending.now a.direction.now a.product.now a.body-impulses.now a.pattern.now a.order.now a.values.now in
     let fits = fits_three _ _ _ a.numbers.now a.words.now a.masses.now a.solution.now a.impulses.now work _ _ _ _ _
-    c.Mode-of.ensures c.counts_fit.ensures c.table_fits.ensures c.vectors_fit.ensures c.factor_fits.ensures in
+    c.mode_of.ensures c.counts_fit.ensures c.table_fits.ensures c.vectors_fit.ensures c.factor_fits.ensures in
     let passed = fits_true _ _ fits c.if-not-fits.false-raw in
     let rows = rows_room _ _ _ a.numbers.now a.words.now a.masses.now a.solution.now a.impulses.now work passed in
     let room = work_room _ _ _ a.numbers.now a.words.now a.masses.now a.solution.now a.impulses.now work passed a.shift in
     let lent = lent_room _ _ _ a.numbers.now a.words.now a.masses.now a.solution.now a.impulses.now work passed in
     let table = table_room_same _ _ _ _ room.table c.jacobians-1.given c.links-1.given c.residual-1.given c.pending-1.given c.body_impulses-1.given in
-    record { rows_room = rows; solution_len = lent; place_bound = placing c.args.kind c.args.bodies c.place_of.ensures c.Placed-of.ensures c.requires.centres_len.0 c.requires.centres_len.1; table_room = table; stands_after = c.count_steps-counted.ensures.count_held.counted }
+    record { rows_room = rows; solution_len = lent; place_bound = placing c.args.kind c.args.bodies c.place_of.ensures c.placed_of-placed.ensures c.requires.centres_len.0 c.requires.centres_len.1; table_room = table; stands_after = c.count_steps-counted.ensures.count_held.counted }
 
 pub returns : goal.returns
 returns c =
     let a = c.args in
     let work = work_memory a.jacobians.now a.links.now a.tolerances.now a.diagonal.now a.residual.now a.pending.now a.direction.now a.product.now a.body-impulses.now a.pattern.now a.order.now a.values.now in
     let fits = fits_three _ _ _ a.numbers.now a.words.now a.masses.now a.solution.now a.impulses.now work _ _ _ _ _
-    c.Mode-of.ensures c.counts_fit.ensures c.table_fits.ensures c.vectors_fit.ensures c.factor_fits.ensures in
+    c.mode_of.ensures c.counts_fit.ensures c.table_fits.ensures c.vectors_fit.ensures c.factor_fits.ensures in
     let since = table_since _ _ _ _ _ a.jacobians.now a.links.now a.residual.now a.pending.now a.body-impulses.now _
     c.propose_and_clear.ensures.body_impulses_after c.jacobians-1.given c.links-1.given c.residual-1.given c.pending-1.given c.body_impulses-1.given in
     let before : Lent = record { numbers = a.numbers.now; solution = a.solution.now; impulses = a.impulses.now; centres = a.new-centres.now } in
     solved_kind c.args.kind c.args.rows c.args.bodies c.args.numbers.now c.args.words.now c.args.masses.now c.args.centres.now c.args.given.now
-    (rules_in c.args.rule-words.now c.args.rule-tolerances.now) c.args.shift (mode_of c.args.mode c.args.shift) c.args.limit before work _ _ fits c.requires.centres_len.0 _ c.mode_of-2.ensures _ c.Placed-of.ensures _ c.centres_finite.ensures _ c.open_table-opened.ensures _ c.place_of.ensures
+    (rules_in c.args.rule_words.now c.args.rule_tolerances.now) c.args.shift (mode_of c.args.mode c.args.shift) c.args.limit before work _ _ fits c.requires.centres_len.0 _ c.mode_of-2.ensures _ c.placed_of-placed.ensures _ c.centres_finite.ensures _ c.open_table-opened.ensures _ c.place_of.ensures
     _ _ _ _ _ _ _ _ _ _ c.if-not-fits.false-raw c.count_steps-counted.ensures.count_held c.propose_and_clear.ensures.centres_value since

@@ -4,7 +4,7 @@ use mathlib.Core.Path.{◌≡◌}
 use lib.ListN.{length}
 use Rattle.loops.proofs.Loop.{At, loops}
 use Rattle.sparse.proofs.Marks.{most_clear, rows_on, rows_out}
-use Rattle.sparse.proofs.Left.{factor_tells}
+use Rattle.sparse.proofs.Left.{numbered, factor_left}
 use Rattle.sparse.specs.Cholesky.{factor_run, row_turn}
 use Rattle.sparse.specs.Kept.{numbers, start}
 use Rattle.sparse.specs.Marks.{AtMost}
@@ -26,7 +26,7 @@ row_at-requires c =
 pub returns-in_default : goal.returns-in_default
 unfolding factor_run
 returns-in_default c =
-    factor_tells Refused _ _ (search known) _ _ _ _ _ (search known) (search known)
+    record { pivots_value = search known; pivots_value_2 = numbered Refused (numbers c.args.starts.now c.args.columns.now c.row_at.new.values) c.row_at.new.pivots (search known); factor_free = factor_left _ _ _ _ _ (search known) (search known) }
 
 pub overflow_add-i : goal.overflow_add-i
 unfolding factor_run
@@ -46,4 +46,4 @@ loop-i-preserved c =
 pub returns : goal.returns
 unfolding factor_run
 returns c =
-    factor_tells Done _ _ (search known) _ _ _ _ _ (search known) (search known)
+    record { pivots_value = search known; pivots_value_2 = numbered Done _ _ (search known); factor_free = factor_left _ _ _ _ _ (search known) (search known) }

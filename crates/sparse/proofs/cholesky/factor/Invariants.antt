@@ -4,7 +4,7 @@ use mathlib.Core.Path.{◌≡◌}
 use lib.ListN.{length}
 use Rattle.loops.proofs.Loop.{At, loops}
 use Rattle.sparse.proofs.Marks.{most_clear, rows_on, rows_out}
-use Rattle.sparse.proofs.Left.{factor_tells}
+use Rattle.sparse.proofs.Left.{factor_left}
 use Rattle.sparse.specs.Cholesky.{factor_run, row_turn}
 use Rattle.sparse.specs.Kept.{numbers, start}
 use Rattle.sparse.specs.Marks.{AtMost}

@@ -1,7 +1,7 @@
 -- `triangular::substitution::solve` meets its contract. Assumes nothing.
 use Rattle.loops.proofs.Loop.{loops}
 use Rattle.triangular.proofs.Down.{indexed_places, indexed_room, indexed_same}
-use Rattle.triangular.proofs.Solves.{solve_on, solve_out_lem, solve_tells}
+use Rattle.triangular.proofs.Solves.{solve_on, solve_out_lem, sixteen}
 use Rattle.triangular.specs.declared.substitution.Solved.TheVariants.{Overflow}
 use Rattle.triangular.proofs.substitution.solve.Goals as goal
 
@@ -13,7 +13,7 @@ forward-requires c =
 
 pub returns-in_default : goal.returns-in_default
 returns-in_default c =
-    solve_tells Overflow _ (search known)
+    record { output_value = search known; output_value_2 = sixteen Overflow c.forward.new.output (search known) }
 
 pub backward-requires : goal.backward-requires
 backward-requires c =
@@ -21,4 +21,4 @@ backward-requires c =
 
 pub returns : goal.returns
 returns c =
-    solve_tells c.backward.result _ (search known)
+    record { output_value = search known; output_value_2 = sixteen c.backward.result _ (search known) }

@@ -27,4 +27,4 @@ clear-requires-4 c =
 
 pub returns : goal.returns
 returns c =
-    table_cleared c.args.jacobians.now _ c.args.links.now _ c.args.residual.now _ c.args.pending.now _ c.args.body-impulses.now _ c.clear.ensures c.clear_words.ensures c.clear-2.ensures c.clear-3.ensures c.clear-4.ensures
+    table_cleared c.args.jacobians.now _ c.args.links.now _ c.args.residual.now _ c.args.pending.now _ c.args.body_impulses.now _ c.clear.ensures c.clear_words.ensures c.clear-2.ensures c.clear-3.ensures c.clear-4.ensures
