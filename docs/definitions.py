@@ -16,7 +16,7 @@ ENTRIES = [
 ]
 SIGNATURE = re.compile(r"^(\s*)(?:unfoldable |abbrev )?(?:pub )?([^\s:(){}]+) : ")
 TYPE = re.compile(r"^(\s*)(?:pub )?(?:record|data) ([^\s:(){}]+)")
-USE = re.compile(r"^(?:ghost |unfoldable |pub )*use Rattle·(\w+)(?:·specs)?\.specs\.([\w.\-]+?)(?:\.\{([^}]*)\}| as (\S+));?$")
+USE = re.compile(r"^(?:ghost |unfoldable |pub )*use Rattle\.(\w+)\.specs\.([\w.\-]+?)(?:\.\{([^}]*)\}| as (\S+));?$")
 NAME = re.compile(r"[^\s(){}\[\],;«».λ]+")
 
 
@@ -55,7 +55,7 @@ class Module:
 
 
 def crates():
-    return [line.split(":")[0] for line in open("crates.txt", encoding="utf-8") if ":" in line and not line.startswith("#")]
+    return [line.split(":")[0].split()[0] for line in open("crates.txt", encoding="utf-8") if ":" in line and not line.startswith("#")]
 
 
 def modules():

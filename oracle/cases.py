@@ -8,8 +8,8 @@ every *.jsonl of the folder KAPITSA_CASES is read, by default ../shared/cases se
 repository's root. --library is a shared library with the functions that src/adapter.c declares:
 the port's (oracle/target/port.so, the default, made by oracle/port), or the model behind the same
 functions (oracle/target/reference_o0.so, made by oracle/build). --program is the job program, by
-default target/bin/job, --converter the converter, by default target/bin/convert, and --margins the
-program that lists margins, by default target/bin/margins. Where one of them is not there, its cases
+default crates/job/out/job, --converter the converter, by default crates/convert/out/convert, and --margins the
+program that lists margins, by default crates/margins/out/margins. Where one of them is not there, its cases
 are left out.
 
 Of document 02, e: a convert case is one run of the converter; a same case two, whose files must be
@@ -771,9 +771,9 @@ def main():
     parser = argparse.ArgumentParser(description="Replays worked cases of document 02.")
     parser.add_argument("files", nargs="*", type=pathlib.Path, metavar="FILE")
     parser.add_argument("--library", type=pathlib.Path, default=HOME / "target/port.so")
-    parser.add_argument("--program", type=pathlib.Path, default=HOME.parent / "target/bin/job")
-    parser.add_argument("--converter", type=pathlib.Path, default=HOME.parent / "target/bin/convert")
-    parser.add_argument("--margins", type=pathlib.Path, default=HOME.parent / "target/bin/margins")
+    parser.add_argument("--program", type=pathlib.Path, default=HOME.parent / "crates/job/out/job")
+    parser.add_argument("--converter", type=pathlib.Path, default=HOME.parent / "crates/convert/out/convert")
+    parser.add_argument("--margins", type=pathlib.Path, default=HOME.parent / "crates/margins/out/margins")
     asked = parser.parse_args()
     files = asked.files or sorted(cases.glob("*.jsonl"))
     if not files:

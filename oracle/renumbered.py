@@ -12,7 +12,7 @@ solution and rule numbers; each row's group and each group's answer; verdict, ga
 Impulses and centres of body b must be those of its new number. After a refusal nothing may be written.
 
 --library is a shared library with the functions that src/adapter.c declares, by default the port's,
-oracle/target/port.so; --program the job program, by default target/bin/job. Where one of them is not there, it is left
+oracle/target/port.so; --program the job program, by default crates/job/out/job. Where one of them is not there, it is left
 out.
 
 Prints how many came to each answer. The exit status is 1 where a pair differs, or none was compared.
@@ -299,7 +299,7 @@ def main():
     parser.add_argument("pairs", nargs="?", type=int, default=20_000)
     parser.add_argument("seed", nargs="?", type=int, default=1)
     parser.add_argument("--library", type=pathlib.Path, default=HOME / "target/port.so")
-    parser.add_argument("--program", type=pathlib.Path, default=HOME.parent / "target/bin/job")
+    parser.add_argument("--program", type=pathlib.Path, default=HOME.parent / "crates/job/out/job")
     asked = parser.parse_args()
     calls = []
     if asked.library.exists():

@@ -5,7 +5,7 @@ with the centres of their parts, and three mechanisms on one bench.
     python3 samples/make.py [CONVERTER]
 
 The same bytes each time, in the one written form of document 02, e: rows from byte 0, masses straight after, then
-the trailer. Each file is held to what the converter (by default target/bin/convert, where it is there) writes of it. A job file is little-endian: 248 bytes a row (27 doubles, then 8 words),
+the trailer. Each file is held to what the converter (by default crates/convert/out/convert, where it is there) writes of it. A job file is little-endian: 248 bytes a row (27 doubles, then 8 words),
 80 bytes a mass, and a trailer of 48 bytes that points back at both sections. Where the trailer's last word
 is 1 a mass has 104 bytes, its centre at its end.
 
@@ -188,7 +188,7 @@ def converted(converter, file, spare):
 
 if __name__ == "__main__":
     here = pathlib.Path(__file__).resolve().parent
-    converter = pathlib.Path(sys.argv[1] if sys.argv[1:] else here.parent / "target/bin/convert").resolve()
+    converter = pathlib.Path(sys.argv[1] if sys.argv[1:] else here.parent / "crates/convert/out/convert").resolve()
     plain = [("p1", p1()), ("four_bar", four_bar()), ("clock_train", clock_train()), ("bench", bench())]
     for name, job in plain + [("four_bar_centres", four_bar(1)), ("clock_train_centres", clock_train(1))]:
         file = job.bytes()

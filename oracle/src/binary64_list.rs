@@ -1,5 +1,5 @@
 //! Writes the recorded list of `crates/binary64_recorded` to standard output: what Rust's own f64 functions give, as bits.
-//! With two words, `PROGRAM COUNT`, it lends that program, `target/bin/binary64_recorded`, lists of random patterns instead until there
+//! With two words, `PROGRAM COUNT`, it lends that program, `crates/binary64_recorded/out/binary64_recorded`, lists of random patterns instead until there
 //! were COUNT of them, and tells how many differ; a differing list ends it with status 1.
 //!
 //! A record is five little-endian words of 64 bits: the bits of x; the bits of x.sqrt(), or all ones where x is a NaN or

@@ -70,7 +70,7 @@ const USAGE: &str = "usage: oracle/run COMMAND
   converted FILE [ARGUMENT..]     what the converter writes of a job file, to standard output
   convert PROGRAM [FILES] [SEED]  the converter's own process on such files, both layouts
   inertia record                  makes the recorded matrices in crates/inertia_recorded
-  inertia PROGRAM [COUNT] [SEED]  that program, target/bin/inertia_recorded, on drawn matrices
+  inertia PROGRAM [COUNT] [SEED]  that program, crates/inertia_recorded/out/inertia_recorded, on drawn matrices
   examples                        document 01's P1 to P9 as job files, in target/examples";
 
 fn main() {

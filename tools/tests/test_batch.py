@@ -41,21 +41,22 @@ while data and n < MOST:
 class Batches(Folder):
     def setUp(self):
         super().setUp()
-        self.jobs, self.bin = self.folder / "jobs", self.folder / "bin"
+        self.jobs, self.crates = self.folder / "jobs", self.folder / "crates"
         self.jobs.mkdir()
-        self.bin.mkdir()
+        self.crates.mkdir()
         for name in ["four_bar", "door", "worn_frame", "refused_09_fixed", "unjudged_18"]:
             shutil.copy(WORKSHOP / f"{name}.job", self.jobs)
             shutil.copy(WORKSHOP / f"{name}.job.names", self.jobs)
         (self.jobs / "cut.job").write_bytes((WORKSHOP / "door.job").read_bytes()[:-7])
-        patch = mock.patch.object(programs, "BIN", self.bin)
+        patch = mock.patch.object(programs, "CRATES", self.crates)
         patch.start()
         self.addCleanup(patch.stop)
 
     def program(self, name, body, kind="sheet", **words):
         for word, value in words.items():
             body = body.replace(word, str(value))
-        path = self.bin / name
+        path = self.crates / name / "out" / name
+        path.parent.mkdir(parents=True, exist_ok=True)
         path.write_text(ANSWER.replace("KIND", kind) + body)
         path.chmod(0o755)
 

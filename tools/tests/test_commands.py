@@ -73,10 +73,10 @@ class Commands(Folder):
         self.assertIn("line 13 is not 'row' with 2 words", err)
 
     def test_show_without_a_program(self):
-        with mock.patch.object(programs, "BIN", self.folder):
+        with mock.patch.object(programs, "CRATES", self.folder):
             status, _, err = self.run_it("show", WORKSHOP / "door.job")
         self.assertEqual(status, 1)
-        self.assertIn("rt check job", err)
+        self.assertIn("'rt run' in crates/job", err)
 
     def test_picture_of_stored_texts(self):
         for suffix in ("svg", "html"):

@@ -43,7 +43,7 @@ class Samples(unittest.TestCase):
             )
 
 
-@unittest.skipUnless(programs.found("job"), "whole ways through target/bin/job, which was not built")
+@unittest.skipUnless(programs.found("job"), "whole ways through crates/job/out/job, which was not built")
 class WholeWays(unittest.TestCase):
     def printed(self, program: str, path: pathlib.Path) -> str:
         return programs.run(programs.needed(program), path.read_bytes(), 60.0)
@@ -70,7 +70,7 @@ class WholeWays(unittest.TestCase):
                 for part, push, new in zip(body.centre, linear, centre):
                     self.assertEqual(part + body.inverse_mass * push, new)
 
-    @unittest.skipUnless(programs.found("gaps"), "each row's gap from target/bin/gaps, which was not built")
+    @unittest.skipUnless(programs.found("gaps"), "each row's gap from crates/gaps/out/gaps, which was not built")
     def test_gaps(self):
         """Where the program does not tell the place of a refusal, the rest is compared."""
         for name in NAMES:

@@ -11,7 +11,7 @@ from typing import Sequence
 from . import batch, job_file, making, names, outcome, page, picture, programs, refusals, report, sheet, units, words
 
 UNPROVED = (
-    "These tools are Python and are not proved. What the programs in target/bin print is; "
+    "These tools are Python and are not proved. What the programs job, gaps and jobs print is; "
     "the tools only make their input and tell their output."
 )
 
@@ -58,7 +58,7 @@ def _job_and_sheets(command: argparse.ArgumentParser) -> None:
     command.add_argument("job", type=pathlib.Path, metavar="JOB")
     stored = "stored texts of job and of gaps, in place of running them"
     command.add_argument("sheets", nargs="*", type=pathlib.Path, metavar="SHEET", help=stored)
-    command.add_argument("--program", type=pathlib.Path, help="the job program (target/bin/job)")
+    command.add_argument("--program", type=pathlib.Path, help="the job program (crates/job/out/job)")
 
 
 def _show_options(show: argparse.ArgumentParser) -> None:

@@ -35,5 +35,5 @@ def computed(data: bytes, job: Job, program: Optional[pathlib.Path] = None, seco
     text = programs.run(program or programs.needed("job"), data, seconds)
     whole, gaps = sheet.parsed(text, job), programs.found("gaps")
     if gaps is None:
-        return Outcome(whole, "Each joint's own gap is told by the program gaps: 'rt check gaps' proves and builds it.")
+        return Outcome(whole, "Each joint's own gap is told by the program gaps: 'rt run' in crates/gaps proves and builds it.")
     return Outcome(sheet.joined(whole, sheet.measured(programs.run(gaps, data, seconds), job)))

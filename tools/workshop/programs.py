@@ -6,7 +6,7 @@ import pathlib
 import subprocess
 from typing import Optional
 
-BIN = pathlib.Path(__file__).resolve().parents[2] / "target" / "bin"
+CRATES = pathlib.Path(__file__).resolve().parents[2] / "crates"
 
 
 class ProgramFailed(Exception):
@@ -15,7 +15,7 @@ class ProgramFailed(Exception):
 
 def found(name: str) -> Optional[pathlib.Path]:
     """Where a program is, if it was built."""
-    path = BIN / name
+    path = CRATES / name / "out" / name
     return path if path.is_file() else None
 
 
@@ -23,7 +23,7 @@ def needed(name: str) -> pathlib.Path:
     """Where a program is that nothing goes without."""
     path = found(name)
     if path is None:
-        raise ProgramFailed(f"there is no target/bin/{name}: 'rt check {name}' proves and builds it")
+        raise ProgramFailed(f"there is no crates/{name}/out/{name}: 'rt run' in crates/{name} proves and builds it")
     return path
 
 

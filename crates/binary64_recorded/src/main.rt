@@ -1,5 +1,8 @@
 // Replays the recorded list of what Rust's f64 functions give (oracle/src/binary64_list.rs has its layout and makes it) through `binary64`,
 // and prints how many records there were and how many differ.
+
+#![tactic(auto)]
+
 ghost use Rattle.std.specs.Prelude.{◌≡◌, ◌+◌, ◌≤◌, length};
 
 use binary64::RootAnswer;

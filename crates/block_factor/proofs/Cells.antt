@@ -1,16 +1,15 @@
 -- The ways through the functions that make a block's factor. Assumes nothing.
-use Prim.Native.Nat.{ℕ, zero, suc, ◌+◌, ◌*◌, ◌-◌, ◌<◌, ◌≤◌}
+use Prim.Native.Nat.{ℕ, ◌+◌, ◌*◌, ◌<◌, ◌≤◌}
 use mathlib.Core.Path.{◌≡◌, refl, sym, ap, ◌∙◌}
-use mathlib.Core.Bool.{Bool, true, false, not, ◌&&◌, cond}
+use mathlib.Core.Bool.{Bool, true, false, not}
 use mathlib.Core.List.{List}
 use native.Mathlib.Numerals.{add-one}
 use native.Mathlib.Omega.{arith}
-use lib.Dec.{eqb}
 use lib.ListN.{get_or, set, length}
 use lib.Ieee.{Float, nan, binary64, add, sub, mul, div, le}
 use lib.Ieee.Scale.{finite}
-use borrow.Author.Tests.{eq-eqb, ne_eqb, not-true, not-false}
-use Rattle.loops.specs.Run.{Run, going, ended, turns, check, on, next}
+use borrow.Author.Tests.{eq-eqb, ne_eqb, not-false}
+use Rattle.loops.specs.Run.{Run, going, ended}
 use Rattle.loops.proofs.Loop.{check_pass, check_fail, on_going, on_ended}
 use Rattle.binary64.specs.Order.{min_positive}
 use Rattle.binary64.specs.Answer.{root_of}
@@ -18,7 +17,7 @@ use Rattle.kapitsa_joint.specs.Mass.{mass_of, cross_of}
 use Rattle.kapitsa_joint.specs.declared.row.RowJacobian.{RowJacobian}
 use Rattle.kapitsa_joint.specs.declared.mass.SolverMass.{SolverMass}
 use Rattle.compact_table.specs.Compact.{compact_of}
-use Rattle.mass_operator.specs.System.{System, compact_system}
+use Rattle.mass_operator.specs.System.{System}
 use Rattle.compact_table.specs.Compact.{Linked}
 use Rattle.sparse.specs.Count.{count}
 use Rattle.sparse.specs.Cholesky.{fit, root_value}

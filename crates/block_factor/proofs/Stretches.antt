@@ -1,5 +1,5 @@
 -- The ways through the solves on the stretch of one block. Assumes nothing.
-use Prim.Native.Nat.{ℕ, zero, suc, ◌+◌, ◌*◌, ◌-◌, ◌<◌, ◌≤◌}
+use Prim.Native.Nat.{ℕ, ◌+◌, ◌*◌, ◌-◌, ◌≤◌}
 use mathlib.Core.Path.{◌≡◌, refl, sym, ap, ◌∙◌}
 use mathlib.Core.Bool.{Bool, true, false, not}
 use mathlib.Core.List.{List, ◌++◌, append-nil}
@@ -8,7 +8,7 @@ use lib.ListN.{get_or, set, length, take, drop, drop_of_length-le}
 use lib.Seq.{take_all, length-take-le}
 use lib.Ieee.{Float, nan, binary64, sub, mul, div}
 use lib.Ieee.Scale.{finite}
-use Rattle.loops.specs.Run.{Run, going, ended, turns, check}
+use Rattle.loops.specs.Run.{Run, going, ended}
 use Rattle.loops.proofs.Loop.{check_pass, check_fail}
 use Rattle.sparse.specs.Count.{count}
 use Rattle.triangular.specs.Answers.{solve_out}

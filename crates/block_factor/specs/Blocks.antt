@@ -1,18 +1,16 @@
 -- Mode 2. Document 01, "Blocks: runs of equal owner, at most 6 rows, all on one body_a and one body_b; the first row of a run that leaves its body pair ends the whole block test.
 -- The 36-number lower triangle of one block has row stride 6. Block values, diagonal ones too, are formed afresh: cross at body_a plus cross at body_b, higher row first; a replaced diagonal is not used."
 -- pcg.rs, build_velocity_block_jacobi_preconditioner. A Run that has ended carries document 01's number.
-use Rattle.std.specs.Prelude.{ℕ, ◌+◌, ◌*◌, Bool, not, ◌&&◌, cond, List, eqb, get_or, set, replicate, Float}
+use Rattle.std.specs.Prelude.{ℕ, ◌+◌, ◌*◌, Bool, not, ◌&&◌, cond, List, eqb, get_or, Float}
 use Rattle.std.specs.Float.{nan, binary64}
 use Rattle.std.specs.Float.Ieee.{add, sub, mul, div, le}
 use Rattle.std.specs.Float.Ieee.Scale.{finite}
-use Rattle.loops.specs.Run.{Run, going, ended, turns, check}
-use Rattle.loops.specs.Cleared.{plus_zero}
+use Rattle.loops.specs.Run.{Run, going, ended, check}
 use Rattle.binary64.specs.Order.{min_positive}
 use Rattle.binary64.specs.Answer.{root_of}
 use Rattle.kapitsa_joint.specs.Mass.{cross_of}
 use Rattle.kapitsa_joint.specs.declared.row.RowJacobian.{RowJacobian}
 use Rattle.kapitsa_joint.specs.declared.mass.SolverMass.{SolverMass}
-use Rattle.mass_operator.specs.System.{System}
 use Rattle.sparse.specs.Count.{count}
 use Rattle.sparse.specs.Cholesky.{root_value}
 

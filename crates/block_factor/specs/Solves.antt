@@ -3,7 +3,7 @@ use Rattle.std.specs.Prelude.{ℕ, ◌+◌, ◌*◌, ◌-◌, List, get_or, set,
 use Rattle.std.specs.Float.{nan, binary64}
 use Rattle.std.specs.Float.Ieee.{sub, mul, div}
 use Rattle.std.specs.Float.Ieee.Scale.{finite}
-use Rattle.loops.specs.Run.{Run, going, ended, turns, check, next}
+use Rattle.loops.specs.Run.{Run, going, ended, turns, check}
 use Rattle.sparse.specs.Count.{count}
 
 -- row r of the forward solve: the residual at r less the products with the earlier columns, ascending; by the pivot

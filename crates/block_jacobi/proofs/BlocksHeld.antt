@@ -1,5 +1,5 @@
 -- What the lent memory holds where no block was refused: every block, and runs of at most six rows. Assumes nothing.
-use Prim.Native.Nat.{ℕ, zero, suc, ◌+◌, ◌*◌, ◌-◌, ◌<◌, ◌≤◌}
+use Prim.Native.Nat.{ℕ, suc, ◌+◌, ◌*◌, ◌<◌, ◌≤◌}
 use mathlib.Core.Path.{◌≡◌, refl, sym, ap, ◌∙◌}
 use mathlib.Core.Bool.{Bool, true, false}
 use mathlib.Core.List.{List, ◌++◌}
@@ -7,11 +7,11 @@ use mathlib.Core.Logic.{◌⊎◌, inl, inr}
 use native.Mathlib.Nat.{eq-or-lt_of_le}
 use native.Mathlib.Omega.{arith}
 use lib.Dec.{leb}
-use lib.ListN.{length, take, drop, set, length-append, length-drop, length-set, length-replicate, take-append-drop}
-use lib.Seq.{length-take-le, take_at, drop_at, take-append-le, drop-append-le, drop-drop}
+use lib.ListN.{length, take, drop, set, length-append, length-drop, length-set, take-append-drop}
+use lib.Seq.{length-take-le, take_at, drop_at, take-append-le, drop-append-le}
 use lib.Ieee.{Float}
 use borrow.Author.Tests.{leb-true}
-use Rattle.loops.specs.Run.{Run, going, ended, on, turns, check}
+use Rattle.loops.specs.Run.{Run, going, ended, on, check}
 use Rattle.mass_operator.specs.System.{System}
 use Rattle.block_factor.specs.Answers.{cell_run, block_column_turn, block_row_turn, rows_run, no_numbers, block_of}
 use Rattle.block_jacobi.specs.Runs.{begins, run_length, RunsFit}

@@ -1,17 +1,15 @@
 -- The loop over the row pairs of one run, and a turn of the loop over the runs. Assumes nothing.
-use Prim.Native.Nat.{ℕ, zero, suc, ◌+◌, ◌*◌, ◌-◌, ◌<◌, ◌≤◌}
-use mathlib.Core.Path.{◌≡◌, refl, sym, ap, ◌∙◌}
-use mathlib.Core.Bool.{Bool, true, false, cond}
+use Prim.Native.Nat.{ℕ, ◌+◌, ◌*◌, ◌<◌, ◌≤◌}
+use mathlib.Core.Path.{◌≡◌, refl, ◌∙◌}
+use mathlib.Core.Bool.{true}
 use mathlib.Core.List.{List}
-use native.Mathlib.Decide.{le_ind}
 use native.Mathlib.Numerals.{add-one}
 use native.Mathlib.Omega.{arith}
-use lib.Dec.{leb}
-use lib.ListN.{set, length}
+use lib.ListN.{set}
 use lib.Ieee.{Float}
 use borrow.Author.Tests.{le-leb, lt-leb}
-use Rattle.loops.specs.Run.{Run, going, ended, on, turns, check}
-use Rattle.loops.proofs.Loop.{on_going, on_ended, At, at_more, at_stop, at_end, at_none}
+use Rattle.loops.specs.Run.{going, ended, turns, check}
+use Rattle.loops.proofs.Loop.{on_going, on_ended, at_stop, at_end}
 use Rattle.mass_operator.specs.System.{System}
 use Rattle.block_factor.specs.Answers.{cell_run, block_column_turn, block_row_turn, rows_run, no_numbers, block_of, cell_out}
 use Rattle.block_factor.specs.declared.block.Cell.{Cell}

@@ -1,7 +1,7 @@
 -- Runs of one owner, and a loop that goes from the beginning of each to that of the next. Assumes nothing.
 use Prim.Native.Nat.{ℕ, zero, suc, ◌+◌, ◌-◌, ◌<◌, ◌≤◌}
 use mathlib.Core.Path.{◌≡◌, refl, sym, ap, subst, ◌∙◌}
-use mathlib.Core.Bool.{Bool, true, false, not, ◌&&◌, cond}
+use mathlib.Core.Bool.{Bool, true, false, ◌&&◌, cond}
 use mathlib.Core.Logic.{◌⊎◌, inl, inr}
 use native.Mathlib.Decide.{le_ind, dec_lt}
 use native.Mathlib.Nat.{eq-or-lt_of_le}
@@ -9,7 +9,7 @@ use native.Mathlib.Omega.{arith}
 use lib.Dec.{eqb}
 use borrow.Author.Tests.{eq-eqb, ne_eqb, eqb-true, eqb-false}
 use Rattle.loops.specs.Run.{Run, going, ended, turns}
-use Rattle.loops.proofs.Loop.{on_going, on_ended, loops}
+use Rattle.loops.proofs.Loop.{on_going, on_ended}
 use Rattle.loops.proofs.Both.{both}
 use Rattle.sparse.proofs.Hop.{glide}
 use Rattle.block_jacobi.specs.Runs.{begins, leading, run_length, RunIs}

@@ -1,13 +1,13 @@
 -- A turn of the loop over the runs that solves: each block on its own stretch. Assumes nothing.
 use Prim.Native.Nat.{ℕ, ◌+◌, ◌*◌, ◌-◌, ◌<◌, ◌≤◌}
-use mathlib.Core.Path.{◌≡◌, refl, sym, ap, ◌∙◌}
-use mathlib.Core.Bool.{true, false}
+use mathlib.Core.Path.{◌≡◌, sym, ◌∙◌}
+use mathlib.Core.Bool.{true}
 use mathlib.Core.List.{List, ◌++◌}
 use native.Mathlib.Omega.{arith}
 use lib.ListN.{length, take, drop, length-drop}
 use lib.Seq.{length-take-le}
 use lib.Ieee.{Float}
-use Rattle.loops.specs.Run.{Run, going, ended, on, turns, check}
+use Rattle.loops.specs.Run.{going, ended, check}
 use Rattle.loops.proofs.Loop.{on_going, on_ended}
 use Rattle.triangular.specs.Answers.{solve_out}
 use Rattle.triangular.specs.declared.substitution.Solved.{Solved}

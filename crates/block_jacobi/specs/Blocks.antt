@@ -1,6 +1,6 @@
 -- Mode 2: the factors of all blocks, run by run, and the solves with them. pcg.rs, build_velocity_block_jacobi_preconditioner, apply_block_jacobi_preconditioner.
 -- "the first row of a run that leaves its body pair ends the whole block test": a Run that has ended carries document 01's number, and the blocks as they then stand.
-use Rattle.std.specs.Prelude.{ℕ, ◌+◌, ◌*◌, List, ◌++◌, length, take, drop, Float}
+use Rattle.std.specs.Prelude.{ℕ, ◌*◌, List, ◌++◌, length, take, drop, Float}
 use Rattle.loops.specs.Run.{Run, going, ended, on, turns, check}
 use Rattle.mass_operator.specs.System.{System}
 use Rattle.block_factor.specs.Answers.{block_of}

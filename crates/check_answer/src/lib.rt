@@ -1,4 +1,7 @@
 // The answer of the closing check. specs/ has which it is and what it means, proofs/ that it means that.
+
+#![tactic(auto)]
+
 ghost use Rattle.std.specs.Prelude.{◌≡◌};
 ghost use Rattle.check_answer.specs.Answer.{number_of, gap_of};
 

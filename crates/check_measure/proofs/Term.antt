@@ -1,6 +1,6 @@
 -- A number of the operator with its error bound and its upper bound, at a level: what the numbers of the same degree share. A level has the scale of its exact integers, and the powers of two (in units) that the sizes are zero or between.
 -- A sum of two terms stays on the level, a product with a listed number rises to the next. Assumes nothing.
-use Prim.Native.Nat.{ℕ, zero, suc, ◌+◌, ◌*◌, ◌^◌, ◌<◌, ◌≤◌, zero-le}
+use Prim.Native.Nat.{ℕ, suc, ◌+◌, ◌*◌, ◌^◌, ◌<◌, ◌≤◌, zero-le}
 use mathlib.Core.Path.{◌≡◌, refl, sym, subst}
 use mathlib.Core.Logic.{inl}
 use native.Mathlib.Nat.{add-zero, zero-add, mul-one, one-mul, zero-mul, lt_of_lt_of_le, le_refl, mul-le-mul_right}

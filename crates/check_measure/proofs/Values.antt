@@ -19,7 +19,7 @@ use Rattle.kapitsa_joint.specs.declared.impulse.GeneralizedImpulse.{GeneralizedI
 use Rattle.mass_operator.specs.System.{System}
 use Rattle.mass_operator.specs.Operator.{add_impulse_of, add_row_of, impulse_at, response_of, response_at, row_value_of, value_at}
 use Rattle.check_measure.specs.Verdict.{size_of_row, size_of_mass, sizes_of}
-use Rattle.check_measure.specs.Gap.{exact, exact_vec, ExactImpulse, nothing, add_impulse_z, add_row_z, impulse_z, response_z, row_value_z, value_z}
+use Rattle.check_measure.specs.Gap.{exact, exact_vec, ExactImpulse, add_impulse_z, add_row_z, impulse_z, response_z, row_value_z, value_z}
 use Rattle.check_measure.proofs.Term.{Level, one, two, three, four, one_two, two_three, three_four, Term, term_add, term_weaken, term_zero}
 use Rattle.check_measure.proofs.Vectors.{TermVec, vec_weaken, vec_add, vec_right, dot_term, mat_term}
 

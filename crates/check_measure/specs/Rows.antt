@@ -1,5 +1,5 @@
 -- Every row's reach and the verdict, from what the work memory holds.
-use Rattle.std.specs.Prelude.{ℕ, ◌+◌, ◌*◌, Bool, List, get_or, Float}
+use Rattle.std.specs.Prelude.{ℕ, Bool, List, get_or, Float}
 use Rattle.std.specs.Float.{nan}
 use Rattle.std.specs.Float.Ieee.{le}
 use Rattle.rules.specs.Rules.{Rules}

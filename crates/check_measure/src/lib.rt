@@ -1,4 +1,7 @@
 // A joint's measured gap, in doubles and without rounding: what the closing check of document 01 weighs against a tolerance.
+
+#![tactic(auto)]
+
 pub mod largest; // largest.rt: the largest reach of each dimension
 pub mod measure; // measure.rt: each row's reach, the rounded |r| + E
 pub mod size; // size.rt: the size of a row and of a mass

@@ -1,7 +1,7 @@
 -- Where all is passed at once, every test in the order passes. Assumes nothing.
 use Prim.Native.Nat.{ℕ, ◌<◌}
-use mathlib.Core.Path.{◌≡◌, refl, sym, ap, ◌∙◌}
-use mathlib.Core.Bool.{Bool, true, false, ◌&&◌, true≢false}
+use mathlib.Core.Path.{◌≡◌, refl, sym, ◌∙◌}
+use mathlib.Core.Bool.{Bool, true, ◌&&◌, true≢false}
 use mathlib.Core.List.{List}
 use lib.Ieee.{Float, nan, inf, fin, eq, le, lt, of_bits}
 use lib.Ieee.Scale.{finite}
@@ -26,7 +26,7 @@ use Rattle.rules.specs.Rules.{Rules, passes27}
 use Rattle.rules.specs.Rows.{rows_ruled}
 use Rattle.mass_operator.specs.Flat.{coefficients}
 use Rattle.check_range.specs.Closing.{Closing, closing_for, error_in, given_finite}
-use Rattle.check_range.specs.Range.{least, most, in_range, vec_in_range, mat_in_range, jacobian_in_range, mass_in_range, row_in_range, table_in_range}
+use Rattle.check_range.specs.Range.{in_range, vec_in_range, mat_in_range, jacobian_in_range, mass_in_range, row_in_range, table_in_range}
 use Rattle.check_refusals.specs.Judged.{table_tests}
 use Rattle.check_refusals.specs.Sound.{row_sound}
 use Rattle.check_refusals.proofs.Judgement.{rows_pass, given_pass, range_pass}

@@ -3,16 +3,16 @@ ghost use Rattle.std.specs.Prelude.{◌≤◌, length};
 
 use crate::replay::replay;
 use crate::tally::Tally;
-use libc::STDIN_FILENO;
 use little_endian::word;
+use program_io::read_full;
 
 // A case's length, then the rest of it, through short reads: how many bytes were read, none at the end.
 // Where the length is none, its word alone is a malformed case; one that ends too soon is malformed too.
-fn next_case(space: &mut [u8]) -> usize
+fn next_case(rt: &HostRuntime, space: &mut [u8]) -> usize
     requires { 8 ≤ length space.old }
     ensures { result ≤ length space.old }
 {
-    let head = io::read_full(STDIN_FILENO, &mut space[..8]);
+    let head = read_full(rt, &mut space[..8]);
     if head < 8 {
         return head;
     }
@@ -23,17 +23,17 @@ fn next_case(space: &mut [u8]) -> usize
     if space.len() < size {
         return 8;
     }
-    8 + io::read_full(STDIN_FILENO, &mut space[8..size])
+    8 + read_full(rt, &mut space[8..size])
 }
 
 // A list has far fewer cases than are read at most.
-pub fn tallied(space: &mut [u8]) -> Tally
+pub fn tallied(rt: &HostRuntime, space: &mut [u8]) -> Tally
     requires { 8 ≤ length space.old }
 {
     let mut tally = Tally::none();
     let mut left: u32 = 100000;
     while 0 < left {
-        let n = next_case(space);
+        let n = next_case(rt, space);
         if n == 0 {
             return tally;
         }

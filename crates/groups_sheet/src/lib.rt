@@ -1,4 +1,7 @@
 // What the groups program prints of a job file. Document 02, g: several mechanisms on one bench.
+
+#![tactic(auto)]
+
 pub mod bench; // bench.rt: the job read, its whole table judged, its rows grouped
 pub mod group; // group.rt: a group's line, and the sheet of its rows alone
 pub mod lines; // lines.rt: the lines that no other program prints

@@ -12,13 +12,14 @@ use job_file::{FileJudged, Trailer, judge_file};
 use program_io::{Input, read_input, write_output};
 
 // Whether all was written; where not, this is told, and nothing more is printed.
-fn print_first(refusal: u32, count: u32) -> bool {
+fn print_first(rt: &HostRuntime, refusal: u32, count: u32) -> bool {
     let mut text: [u8; 64] = [0; 64];
     let end = groups_line(refusal, count, &mut text);
-    write_output(b"mechanisms", &text[..end])
+    write_output(rt, b"mechanisms", &text[..end])
 }
 
 fn print_group(
+    rt: &HostRuntime,
     trailer: Trailer,
     groups: &[u32],
     g: u32,
@@ -33,11 +34,12 @@ fn print_group(
     let end = write_group(
         trailer, groups, g, numbers, words, masses, centres, &mut text,
     );
-    write_output(b"mechanisms", &text[..end])
+    write_output(rt, b"mechanisms", &text[..end])
 }
 
 // The first line, and then group by group.
 fn print_each(
+    rt: &HostRuntime,
     trailer: Trailer,
     groups: &[u32],
     count: u32,
@@ -48,12 +50,12 @@ fn print_each(
 )
     requires { BenchRoom trailer (length numbers.now) (length words.now) (length masses.now) (length centres.now) (length groups.now) }
 {
-    if !print_first(0, count) {
+    if !print_first(rt, 0, count) {
         return;
     }
     let mut g = 0;
     while g < count {
-        if !print_group(trailer, groups, g, numbers, words, masses, centres) {
+        if !print_group(rt, trailer, groups, g, numbers, words, masses, centres) {
             return;
         }
         g += 1;
@@ -62,6 +64,7 @@ fn print_each(
 
 // A file that has passed 1 to 4, with memory as long as its counts call for.
 fn print_bench(
+    rt: &HostRuntime,
     file: &[u8],
     trailer: Trailer,
     numbers: &mut [f64],
@@ -75,16 +78,16 @@ fn print_bench(
 {
     match read_bench(file, trailer, numbers, words, masses, centres, groups) {
         Grouping::Refused(number) => {
-            print_first(number, 0);
+            print_first(rt, number, 0);
         }
         Grouping::Groups(count) => {
-            print_each(trailer, groups, count, numbers, words, masses, centres);
+            print_each(rt, trailer, groups, count, numbers, words, masses, centres);
         }
     }
 }
 
 // Memory for what the program takes: 128 rows and 64 bodies.
-fn print_passed(file: &[u8], trailer: Trailer)
+fn print_passed(rt: &HostRuntime, file: &[u8], trailer: Trailer)
     requires { judged_of file.now ≡ Passed trailer }
 {
     let mut numbers: [f64; 3456] = [0.0; 3456];
@@ -99,6 +102,7 @@ fn print_passed(file: &[u8], trailer: Trailer)
     let mass_numbers = 10 * bodies;
     let centre_numbers = 3 * bodies;
     print_bench(
+        rt,
         file,
         trailer,
         &mut numbers[..row_numbers],
@@ -110,16 +114,16 @@ fn print_passed(file: &[u8], trailer: Trailer)
 }
 
 // A file has at most 65,536 bytes. One byte more is read, so that a longer one is refused whatever it begins with. Of a file that can't be read nothing is printed.
-pub fn print_groups() {
+pub fn print_groups(rt: &HostRuntime) {
     let mut file: [u8; 65537] = [0; 65537];
-    let read = read_input(b"mechanisms", &mut file);
+    let read = read_input(rt, b"mechanisms", &mut file);
     let Input::Read(length) = read else {
         return;
     };
     match judge_file(&file[..length]) {
         FileJudged::Refused(number) => {
-            print_first(number, 0);
+            print_first(rt, number, 0);
         }
-        FileJudged::Passed(trailer) => print_passed(&file[..length], trailer),
+        FileJudged::Passed(trailer) => print_passed(rt, &file[..length], trailer),
     }
 }

@@ -1,4 +1,7 @@
 // The solve by groups: several mechanisms on one bench, each answered as a table of its rows alone. Document 02, g.
+
+#![tactic(auto)]
+
 pub mod bench; // bench.rt: the groups numbered, and each of them solved
 pub mod grouping; // grouping.rt: how many groups there are, or the whole table's refusal
 pub mod judge; // judge.rt: what is judged of the whole table

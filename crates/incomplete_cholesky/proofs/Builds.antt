@@ -13,7 +13,7 @@ use Rattle.loops.specs.Run.{Run, going, ended, on, check}
 use Rattle.loops.specs.Cleared.{cleared_words}
 use Rattle.mass_operator.specs.System.{System}
 use Rattle.sparse.specs.Triangle.{Sparse}
-use Rattle.sparse.specs.Cholesky.{Factor, factor_run, or_thirteen}
+use Rattle.sparse.specs.Cholesky.{factor_run, or_thirteen}
 use Rattle.sparse.proofs.Left.{free, free_past}
 use Rattle.sparse.specs.Kept.{Kept, numbers}
 use Rattle.sparse.specs.Marks.{AtMost}

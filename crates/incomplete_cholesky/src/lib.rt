@@ -1,4 +1,7 @@
 // Mode 1: the incomplete Cholesky factor of a table's pairs, with its index by column.
+
+#![tactic(auto)]
+
 pub mod build; // build.rt: pairs, factor and index, with refusals 10, 12 and 13
 
 pub use build::{Built, build_incomplete_cholesky_preconditioner};

@@ -1,5 +1,5 @@
 -- The scale, the divided numbers and their symmetry, as the code puts them together. Assumes nothing.
-use mathlib.Core.Path.{◌≡◌, refl}
+use mathlib.Core.Path.{◌≡◌}
 use mathlib.Core.Bool.{Bool, not, ◌&&◌}
 use lib.Ieee.{Float, binary64, sub, lt}
 use Rattle.binary64.specs.Order.{absolute, larger}

@@ -2,7 +2,6 @@
 use Prim.Native.Nat.{ℕ}
 use mathlib.Core.Path.{◌≡◌, refl, ap, ◌∙◌}
 use mathlib.Core.Bool.{Bool, true, false, not}
-use mathlib.Core.List.{[]}
 use lib.Ieee.{Float, eq}
 use Rattle.loops.specs.Run.{ended}
 use Rattle.loops.specs.Judge.{judge}

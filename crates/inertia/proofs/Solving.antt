@@ -1,5 +1,5 @@
 -- The ways through `solve`. Assumes nothing.
-use mathlib.Core.Path.{◌≡◌, refl, sym, ap, ◌∙◌}
+use mathlib.Core.Path.{◌≡◌, sym, ap, ◌∙◌}
 use mathlib.Core.Bool.{Bool, true, false, not}
 use Rattle.loops.specs.Run.{going, ended}
 use Rattle.loops.proofs.Judge.{test_pass, test_fail}

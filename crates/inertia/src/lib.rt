@@ -1,4 +1,7 @@
 // Document 02 c: the inverse of a link's 3 by 3 local inertia, in the operation order of Kapitsa's matrix.rs and solver_mass.rs.
+
+#![tactic(auto)]
+
 pub mod divided; // divided.rt: the scale, the divided numbers, and whether they are symmetric
 pub mod factor; // factor.rt: factor_spd
 pub mod inverse; // inverse.rt: inverse_spd

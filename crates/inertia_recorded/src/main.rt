@@ -1,5 +1,8 @@
 // Replays a list of matrices, and of factors made by any hand, with what the Rust's factor_spd, Cholesky3::solve and inverse_spd give
 // (oracle/src/inertia.rs has its layout and makes it) through `inertia`, and prints how many were accepted or refused, and how many differ.
+
+#![tactic(auto)]
+
 mod matrix; // matrix.rt: one record read out of its bytes, beside what the port gives
 mod tally; // tally.rt: the counts
 

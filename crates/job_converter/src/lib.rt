@@ -1,4 +1,7 @@
 // The converter of job files, document 02, e: a job file's numbers by their 64 bits, and its job written in the layout asked for.
+
+#![tactic(auto)]
+
 pub mod bits; // bits.rt: one number of a row or mass by its bits, and all of them
 pub mod convert; // convert.rt: a job file to a job file
 pub mod judge; // judge.rt: what is judged after 1 to 3

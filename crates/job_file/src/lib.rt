@@ -1,4 +1,7 @@
 // The job file of document 01, with the centres of document 02: judged by refusals 1 to 4 and read into lent rows, masses and centres.
+
+#![tactic(auto)]
+
 pub mod fit; // fit.rt: refusals 1 to 4, each by itself; 4 of one row
 pub mod judge; // judge.rt: refusals 1 to 4 in their order
 pub mod layout; // layout.rt: sizes and limits

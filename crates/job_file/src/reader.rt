@@ -1,6 +1,4 @@
-// A reader of the row section: it refers to the lent file and stands at one row. The borrow checker covers no function over a struct
-// that holds a reference, so those here are few and thin, and each is proved by hand. The parameters of `keys_fit` and `read_rows`,
-// which walk a reader over all rows, are plain, so that who calls them needs no walk.
+// A reader of the row section: it refers to the lent file and stands at one row.
 ghost use Rattle.std.specs.Prelude.{◌≡◌, ◌+◌, ◌*◌, ◌<◌, ◌≤◌, length};
 ghost use Rattle.job_file.specs.Layout.{rows_end};
 ghost use Rattle.job_file.specs.File.{section_numbers, section_words};

@@ -1,4 +1,7 @@
 // The sheet of a job: what the job program, the margins program and the gaps program print of a file.
+
+#![tactic(auto)]
+
 pub mod accepted; // accepted.rt: an accepted job, checked and listed
 pub mod gaps; // gaps.rt: an accepted job, checked, and the measured numbers of its rows
 pub mod margins; // margins.rt: an accepted job, checked, and the margins of its rows

@@ -4,7 +4,6 @@ ghost use Rattle.std.specs.Prelude.{◌≤◌, length};
 use job_file::{FileJudged, Trailer, read_job};
 use kapitsa_c::{kapitsa_closing_check, kapitsa_solve_position};
 use kapitsa_joint::Maxima;
-use libc::STDOUT_FILENO;
 use listing::{write_listing, write_refusal};
 
 fn solved(
@@ -193,7 +192,7 @@ fn write_told(
     )
 }
 
-pub fn print_lent(file: &[u8], text: &mut [u8])
+pub fn print_lent(rt: &HostRuntime, file: &[u8], text: &mut [u8])
     requires { 16384 ≤ length text.old }
 {
     let mut numbers: [f64; 216] = [0.0; 216];
@@ -205,5 +204,5 @@ pub fn print_lent(file: &[u8], text: &mut [u8])
         return;
     };
     let end = write_told(trailer, &mut numbers, &words, &masses, &centres, text);
-    io::write_all(STDOUT_FILENO, &text[..end]);
+    let _ = rt.write_all(&text[..end]);
 }

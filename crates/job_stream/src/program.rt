@@ -6,7 +6,6 @@ ghost use Rattle.job_stream.specs.Left.{Leaves, Moves};
 
 use crate::chunk::write_jobs;
 use crate::front::write_front;
-use libc::STDERR_FILENO;
 use program_io::{Input, read_some, write_output};
 
 // The number of the job that is next, how many bytes are kept for it, and how many bytes that are still to come belong to a refused file and are passed over.
@@ -24,12 +23,12 @@ pub enum Printed {
     Stopped,
 }
 
-fn no_number() {
-    io::write_all(STDERR_FILENO, b"jobs: no number is left for the next job\n");
+fn no_number(rt: &HostRuntime) {
+    let _ = eprintln!(rt; "jobs: no number is left for the next job");
 }
 
 // Prints the jobs that these bytes have whole. The last of the bytes are kept.
-fn print_ready(number: u32, bytes: &[u8], text: &mut [u8]) -> Printed
+fn print_ready(rt: &HostRuntime, number: u32, bytes: &[u8], text: &mut [u8]) -> Printed
     requires { 16399 ≤ length text.old }
     ensures { Leaves result number bytes.now }
 {
@@ -37,7 +36,7 @@ fn print_ready(number: u32, bytes: &[u8], text: &mut [u8]) -> Printed
     let mut at = 0;
     while at < bytes.len() {
         if 4294967295 <= next {
-            no_number();
+            no_number(rt);
             return Printed::Stopped;
         }
         let left = bytes.len() - at;
@@ -50,7 +49,7 @@ fn print_ready(number: u32, bytes: &[u8], text: &mut [u8]) -> Printed
                 passed: 0,
             });
         }
-        if !write_output(b"jobs", &text[..wrote]) {
+        if !write_output(rt, b"jobs", &text[..wrote]) {
             return Printed::Stopped;
         }
         next = jobs.next;
@@ -84,7 +83,13 @@ fn move_down(space: &mut [u8], from: usize, to: usize)
 }
 
 // So many bytes more stand behind those that were kept at the front of the space. What is kept then stands there again.
-fn print_more(unread: Unread, more: usize, space: &mut [u8], text: &mut [u8]) -> Printed
+fn print_more(
+    rt: &HostRuntime,
+    unread: Unread,
+    more: usize,
+    space: &mut [u8],
+    text: &mut [u8],
+) -> Printed
     requires { (unread.kept + more ≤ length space.old) × (16399 ≤ length text.old) }
     ensures { Moves unread more space.old space.new result }
 {
@@ -97,7 +102,7 @@ fn print_more(unread: Unread, more: usize, space: &mut [u8], text: &mut [u8]) ->
             passed: passed - to,
         });
     }
-    let printed = print_ready(unread.number, &space[passed..to], text);
+    let printed = print_ready(rt, unread.number, &space[passed..to], text);
     let Printed::To(left) = printed else {
         return Printed::Stopped;
     };
@@ -106,18 +111,18 @@ fn print_more(unread: Unread, more: usize, space: &mut [u8], text: &mut [u8]) ->
 }
 
 // The stream has ended; where it ends inside a job, that is the last one.
-fn print_last(number: u32, bytes: &[u8], text: &mut [u8])
+fn print_last(rt: &HostRuntime, number: u32, bytes: &[u8], text: &mut [u8])
     requires { 16399 ≤ length text.old }
 {
     if bytes.len() == 0 {
         return;
     }
     let end = write_front(number, bytes, text);
-    write_output(b"jobs", &text[..end]);
+    write_output(rt, b"jobs", &text[..end]);
 }
 
 // No stream takes 2^64 reads: that is 584 years of one every nanosecond.
-fn print_stream(space: &mut [u8], text: &mut [u8])
+fn print_stream(rt: &HostRuntime, space: &mut [u8], text: &mut [u8])
     requires { (65540 ≤ length space.old) × (16399 ≤ length text.old) }
 {
     let mut number = 0;
@@ -125,15 +130,16 @@ fn print_stream(space: &mut [u8], text: &mut [u8])
     let mut passed = 0;
     let mut left: u64 = 18446744073709551615;
     while 0 < left {
-        let read = read_some(b"jobs", &mut space[kept..]);
+        let read = read_some(rt, b"jobs", &mut space[kept..]);
         let Input::Read(more) = read else {
             return;
         };
         if more == 0 {
-            print_last(number, &space[..kept], text);
+            print_last(rt, number, &space[..kept], text);
             return;
         }
         let printed = print_more(
+            rt,
             Unread {
                 number: number,
                 kept: kept,
@@ -153,8 +159,8 @@ fn print_stream(space: &mut [u8], text: &mut [u8])
     }
 }
 
-pub fn print_jobs() {
+pub fn print_jobs(rt: &HostRuntime) {
     let mut space: [u8; 131072] = [0; 131072];
     let mut text: [u8; 131072] = [0; 131072];
-    print_stream(&mut space, &mut text);
+    print_stream(rt, &mut space, &mut text);
 }

@@ -1,4 +1,7 @@
 // The writer of job files, document 02, e: one written form for each job, in lent bytes.
+
+#![tactic(auto)]
+
 pub mod bytes; // bytes.rt: numbers as bytes, the lowest first
 pub mod fit; // fit.rt: refusals 2, 3 and 24, each by itself
 pub mod head; // head.rt: counts, limit, mode, layout and tolerances

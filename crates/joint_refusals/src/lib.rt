@@ -1,4 +1,7 @@
 // Refusals 3 (of the counts) to 7 and 26 over the lent tables, each judged by itself: true where it does not apply.
+
+#![tactic(auto)]
+
 pub mod counts; // counts.rt: of the counts and the mode
 pub mod judge; // judge.rt: of one row or mass, and of a whole table
 pub mod tolerances; // tolerances.rt: of the two tolerances

@@ -53,8 +53,7 @@ pub fn tell_verdict(answer: CheckAnswer, verdict: &mut [u32], gap: &mut [f64]) -
 // For n rows, b bodies and t rules, at most 64: numbers 27n, words 8n, masses 10b, centres 3b, rule_words 3t (dimension, first key, last key), rule_tolerances t, multipliers n;
 // rule_numbers n (the rule of each row), verdict 1 (1 closed, 0 open) and gap 2 (the largest reach of linear and of angular rows), written where 0 is returned and nowhere else;
 // impulses 6b, size_impulses 6b, values n, sizes n: this work memory is 0 afterwards, except after 3, which writes nothing.
-#[unsafe(no_mangle)]
-pub extern "C" fn kapitsa_closing_check(
+pub fn kapitsa_closing_check(
     numbers: &[f64],
     words: &[u32],
     masses: &[f64],

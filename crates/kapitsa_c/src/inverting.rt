@@ -4,8 +4,7 @@ ghost use Rattle.inertia.specs.Lent.{InverseTold};
 use inertia::inverse_in;
 
 // inertia and inverse: 9 numbers each, by columns. inverse is written where 0 is returned and nowhere else.
-#[unsafe(no_mangle)]
-pub extern "C" fn kapitsa_inverse_spd(inertia: &[f64], inverse: &mut [f64]) -> u32
+pub fn kapitsa_inverse_spd(inertia: &[f64], inverse: &mut [f64]) -> u32
     ensures { InverseTold inertia.now inverse.old record { number = result; inverse = inverse.new } }
 {
     inverse_in(inertia, inverse)

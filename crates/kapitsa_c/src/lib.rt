@@ -1,6 +1,9 @@
-// The port for C and Rust. A slice is a pointer, then its length; work memory is lent, of exactly the lengths that the counts call for.
+// The functions for C that crates call too, and how an answer is told to C. A crate is a library or an archive for C, not both: kapitsa_position_c exports these, by their names and with their contracts.
+// A slice is a pointer, then its length; work memory is lent, of exactly the lengths that the counts call for.
 // No function asks anything of its caller but what the types say: what does not fit is refused.
-// What else C gets is in crates of their own, kapitsa_velocity_c and the others named so: in an archive where the solve has one caller, it is compiled into that caller and for its kind.
+
+#![tactic(auto)]
+
 pub mod closing; // closing.rt: the closing check
 pub mod inverting; // inverting.rt: the inverse of a local inertia
 pub mod solving; // solving.rt: the position solve

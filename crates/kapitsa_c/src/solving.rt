@@ -39,8 +39,7 @@ pub fn tell(answer: PositionPcg, counts: &mut [u32], maxima: &mut [f64]) -> u32
 // jacobians 12n, links 2n, tolerances n, diagonal n, residual n, pending n, direction n, product n, body_impulses 6b, and by mode
 // pattern 0, n + 1 + p or n, order 0, n + 2p or 0, values 0, p or 36n. The work memory, from jacobians on, is 0 afterwards.
 // After a refusal nothing else is written; 3 leaves the work memory too as it was.
-#[unsafe(no_mangle)]
-pub extern "C" fn kapitsa_solve_position(
+pub fn kapitsa_solve_position(
     numbers: &mut [f64],
     words: &[u32],
     masses: &[f64],

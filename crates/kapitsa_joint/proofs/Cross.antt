@@ -1,8 +1,8 @@
 -- The Rust's SolverMass::cross tests four results on the way. Testing the last one refuses exactly what those refuse. Assumes nothing.
-use mathlib.Core.Path.{◌≡◌, refl, sym, ap, ◌∙◌, subst}
-use mathlib.Core.Bool.{Bool, true, false, not, ◌&&◌}
+use mathlib.Core.Path.{◌≡◌, refl}
+use mathlib.Core.Bool.{Bool, true, false}
 use lib.Dec.{T}
-use lib.Ieee.{Float, binary64, add, mul}
+use lib.Ieee.{Float, binary64, mul}
 use lib.Ieee.Scale.{finite}
 use Rattle.loops.specs.Run.{check}
 use Rattle.rounding.proofs.Rounded.{add_finite, mul_finite}
@@ -12,7 +12,7 @@ use Rattle.kapitsa_math.specs.declared.scalar.Checked.TheVariants.{Value, Overfl
 use Rattle.kapitsa_math.specs.Vector.{dot_of, is_finite_of}
 use Rattle.kapitsa_math.specs.Matrix.{mul_vector_of}
 use Rattle.kapitsa_math.specs.Checked.{checked_value_of}
-use Rattle.kapitsa_math.proofs.Finite.{FiniteVector, finite_vector, dot_finite}
+use Rattle.kapitsa_math.proofs.Finite.{finite_vector, dot_finite}
 use Rattle.kapitsa_joint.specs.Mass.{cross_of}
 use Rattle.kapitsa_joint.specs.declared.mass.SolverMass.{SolverMass}
 

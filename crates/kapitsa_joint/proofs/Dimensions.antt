@@ -1,8 +1,6 @@
 -- The ways through a row's dimension and its tolerance. Assumes nothing.
 use Prim.Native.Nat.{ℕ, zero, suc}
-use mathlib.Core.Path.{◌≡◌, refl, sym}
-use native.Mathlib.Omega.{arith}
-use lib.Ieee.{Float}
+use mathlib.Core.Path.{◌≡◌, refl}
 use Rattle.kapitsa_joint.specs.Tolerance.{dimension_of, tolerance_of}
 use Rattle.kapitsa_joint.specs.declared.tolerance.RowDimension.{RowDimension}
 use Rattle.kapitsa_joint.specs.declared.tolerance.RowDimension.TheVariants.{Linear, Angular}

@@ -1,4 +1,7 @@
 // Constraint rows, masses, impulses and tolerances of Kapitsa's joint solver, read out of the lent tables.
+
+#![tactic(auto)]
+
 pub mod impulse; // impulse.rt: GeneralizedImpulse
 pub mod kind; // kind.rt: positions or velocities
 pub mod mass; // mass.rt: SolverMass with cross and diagonal

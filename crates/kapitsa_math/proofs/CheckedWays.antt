@@ -5,7 +5,7 @@ use mathlib.Core.Bool.{Bool, true, false, not, ◌&&◌}
 use lib.Ieee.{Float}
 use lib.Ieee.Scale.{finite}
 use borrow.Author.Tests.{not-true, not-false}
-use Rattle.loops.specs.Run.{Run, going, ended, check, next, on}
+use Rattle.loops.specs.Run.{check, on}
 use Rattle.loops.specs.Judge.{test}
 use Rattle.kapitsa_math.specs.Vector.{dot_of, is_finite_of}
 use Rattle.kapitsa_math.specs.Matrix.{mul_vector_of, finite_columns_of}

@@ -1,10 +1,9 @@
 -- A sum or product that went not finite stays so. So a dot product or a matrix product is finite only where all that it was made of is, and testing the result refuses exactly what the Rust's checked forms refuse. Assumes nothing.
-use mathlib.Core.Path.{◌≡◌, refl, sym, ◌∙◌, subst}
-use mathlib.Core.Bool.{Bool, true, false, not, ◌&&◌}
+use mathlib.Core.Path.{◌≡◌, refl, subst}
+use mathlib.Core.Bool.{Bool, true, false, ◌&&◌}
 use lib.Dec.{T}
 use lib.Ieee.{Float, binary64, add, mul}
 use lib.Ieee.Fits.{and_i, and_l, and_r}
-use lib.Ieee.Bits.{is_true}
 use lib.Ieee.Scale.{finite}
 use Rattle.loops.specs.Run.{check}
 use Rattle.rounding.proofs.Rounded.{add_finite, mul_finite}

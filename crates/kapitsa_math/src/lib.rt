@@ -1,4 +1,7 @@
 // Vectors and matrices in three dimensions, in the operation order of Kapitsa's vector.rs and matrix.rs.
+
+#![tactic(auto)]
+
 pub mod lent; // lent.rt: a vector in a lent slice
 pub mod matrix; // matrix.rt: Mat3
 pub mod scalar; // scalar.rt: a number that is finite, or Overflow

@@ -1,5 +1,5 @@
 -- How long a listing is: `listing_short`, at most 16,384 bytes at 128 rows and 64 bodies, `margins_short`, as many at 128 rows, `gaps_short`, as many at 128 rows, and `refused_short`, also with the place; hence `listing_room`, `margins_room`, `gaps_room` and `refused_room`. Assumes nothing.
-use Prim.Native.Nat.{ℕ, zero, suc, ◌+◌, ◌-◌, ◌*◌, ◌/◌, ◌%◌, ◌^◌, ◌<◌, ◌≤◌}
+use Prim.Native.Nat.{ℕ, zero, suc, ◌+◌, ◌*◌, ◌/◌, ◌%◌, ◌^◌, ◌<◌, ◌≤◌}
 use mathlib.Core.Path.{◌≡◌, refl}
 use mathlib.Core.Bool.{Bool, true, false, cond}
 use mathlib.Core.List.{List, [], ◌∷◌, ◌++◌}

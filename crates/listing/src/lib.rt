@@ -1,4 +1,7 @@
 // The listings of the job program, document 01, "Sheets to try", of the margins program, document 02, m, and of the gaps program, written into lent bytes.
+
+#![tactic(auto)]
+
 pub mod digits; // digits.rt: numbers as text
 pub mod lines; // lines.rt: one line, and those of all rows, bodies, margins and gaps
 pub mod whole; // whole.rt: the whole listing

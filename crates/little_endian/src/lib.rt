@@ -1,4 +1,7 @@
 // Little-endian words in lent bytes: a number's first byte is its lowest. Doubles stand as their 64 bits.
+
+#![tactic(auto)]
+
 ghost use Rattle.std.specs.Prelude.{◌≡◌, ◌+◌, ◌*◌, ◌<◌, ◌≤◌, length};
 ghost use Rattle.little_endian.specs.Words.{half_at, word_at, double_at, doubles_at, halves_at};
 

@@ -1,10 +1,10 @@
 -- At most three elements, written out one by one, and the ruleset `few` for them. Assumes nothing.
-use Prim.Native.Nat.{ℕ, ◌+◌, ◌<◌, ◌≤◌}
+use Prim.Native.Nat.{ℕ, ◌<◌, ◌≤◌}
 use mathlib.Core.Path.{◌≡◌, refl}
 use mathlib.Core.List.{List}
 use native.Mathlib.Omega.{arith}
 use borrow.Author.Rules.{rules}
-use lib.ListN.{length, get_or, set, replicate, length-set, length-replicate, get_or-replicate}
+use lib.ListN.{length, set, length-replicate, get_or-replicate}
 use Rattle.loops.specs.Cleared.{filled}
 use Rattle.loops.proofs.Fill.{Fills, fills_none, fills_more, fills_end}
 

@@ -1,6 +1,6 @@
 -- What holds along the turns of a loop, where none is refused. Assumes nothing.
 use Prim.Native.Nat.{ℕ, zero, suc, ◌<◌, ◌≤◌}
-use mathlib.Core.Path.{◌≡◌, refl, sym, ◌∙◌}
+use mathlib.Core.Path.{◌≡◌, refl}
 use native.Mathlib.Omega.{arith}
 use Rattle.loops.specs.Run.{Run, going, ended, on, turns}
 

@@ -1,4 +1,7 @@
 // The pairs of a table: rows that share a body, their columns and values in lent flat slices.
+
+#![tactic(auto)]
+
 pub mod arms; // arms.rt: what a row does at its bodies
 pub mod cross; // cross.rt: the value of one pair
 pub mod gathering; // gathering.rt: pattern and values, with refusals 10 and 12

@@ -1,4 +1,7 @@
 // The solves over lent tables: what is proposed is committed, and each row's rule named.
+
+#![tactic(auto)]
+
 pub mod prepared; // prepared.rt: of either kind, and the entry of positions
 pub mod velocity; // velocity.rt: the entry of velocities
 

@@ -1,10 +1,9 @@
 -- Step 0 with other tolerances, from another start, is the same where they agree on the rows. Assumes nothing.
 use Prim.Native.Nat.{ℕ, ◌<◌}
-use mathlib.Core.Path.{◌≡◌, refl, sym, ap, ◌∙◌}
-use mathlib.Core.Bool.{Bool, true, false}
+use mathlib.Core.Path.{◌≡◌, refl, sym, ◌∙◌}
+use mathlib.Core.Bool.{Bool}
 use mathlib.Core.List.{List}
 use lib.Ieee.{Float}
-use Rattle.loops.specs.Run.{check, next}
 use Rattle.loops.specs.Judge.{judged}
 use Rattle.loops.proofs.Same.{judged_same}
 use Rattle.loops.proofs.Tabulate.{tabulate_same}

@@ -1,4 +1,7 @@
 // The parts of the position solve beside its recurrence: step 0 with refusals 7 to 9, what is told of a residual, and what is delivered.
+
+#![tactic(auto)]
+
 pub mod centre; // centre.rt: the centres after the impulses
 pub mod multiplier; // multiplier.rt: the accumulated multipliers gain the solution
 pub mod prepare; // prepare.rt: diagonal and residual of step 0, with refusals 7 to 9

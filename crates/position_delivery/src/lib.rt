@@ -1,4 +1,7 @@
 // What is delivered of the step counted, with refusal 17, and the answer of a solve.
+
+#![tactic(auto)]
+
 pub mod answer; // answer.rt: flag, count and maxima, or a refusal
 pub mod delivery; // delivery.rt: multipliers, solution and impulses
 pub mod impulses; // impulses.rt: impulses in the order of document 01

@@ -1,4 +1,7 @@
 // The steps of a solve, of positions or velocities: what is judged before step 0, step 0, and on to the step that is counted.
+
+#![tactic(auto)]
+
 pub mod counting; // counting.rt: prepare, the count 0 test, and the steps
 pub mod running; // running.rt: factor, first direction and loop
 pub mod beginning; // beginning.rt: step 0

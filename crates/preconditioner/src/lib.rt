@@ -1,4 +1,7 @@
 // The preconditioners of pcg.rs by mode: the diagonal, the incomplete Cholesky factor and the blocks, built once and solved at every step.
+
+#![tactic(auto)]
+
 pub mod apply; // apply.rt: z from the residual
 pub mod mode; // mode.rt: the three modes
 pub mod owner; // owner.rt: the joint of each row, for the blocks

@@ -1,5 +1,8 @@
 // Standard input and standard output of the programs. A program here has no exit status: where its input can't be read or its output not be written whole,
 // one line on standard error tells of it, the program's name, which of the two and why. No contract can say what is read or written.
+
+#![tactic(auto)]
+
 ghost use Rattle.program_io.specs.Input.{Filled, IsPrefixLen};
 
 use std::io::{Error, Read};

@@ -1,4 +1,7 @@
 // The recurrence of preconditioned conjugate gradients over lent vectors: it knows residuals, a factor and the operator, and nothing of positions.
+
+#![tactic(auto)]
+
 pub mod diagonal; // diagonal.rt: a step of mode 0, with z and s
 pub mod direction; // direction.rt: z, s and direction, at first and anew
 pub mod length; // length.rt: how far a step goes

@@ -10,7 +10,6 @@ use lib.Ieee.Scale.{finite, grid}
 use lib.Pow.{pow_pos}
 use Rattle.rounding.proofs.Gap.{Gap, gap_cancel, gap_swap}
 use Rattle.rounding.proofs.Grid.{Within, grid_near, grid_whole, grid_zero}
-use Rattle.rounding.proofs.Integers.{under}
 use Rattle.rounding.proofs.Parts.{Parts}
 use Rattle.rounding.proofs.Rounded.{Rounded, downward, rounded_parts, upward}
 use Rattle.rounding.specs.Value.{less, plus}

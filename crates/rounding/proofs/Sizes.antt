@@ -5,7 +5,7 @@ use mathlib.Core.Path.{◌∙◌, ◌≡◌, ap, subst, sym}
 use native.Mathlib.Nat.{le_of_eq, lt_of_le_of_lt, mul-le-mul, mul-le-mul_right, mul-pos, mul-zero, zero-mul}
 use native.Mathlib.Omega.{arith}
 use lib.Dec.{T}
-use lib.Ieee.{Float, Format, add, fits, low, mul, top}
+use lib.Ieee.{Float, Format, add, fits, low, mul}
 use lib.Ieee.Scale.{finite, grid, overflow}
 use lib.Pow.{pow_pos}
 use Rattle.rounding.proofs.Grid.{grid_mono, grid_zero}

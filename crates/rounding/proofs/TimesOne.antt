@@ -1,12 +1,12 @@
 -- A double that is not negative, times 1.0, is itself: for the shift 0 of a pivot. Assumes nothing.
 use mathlib.Core.Path.{◌≡◌, refl, sym, ap, ◌∙◌}
-use Prim.Native.Nat.{ℕ, ◌+◌, ◌*◌, ◌^◌, ◌<◌, suc}
+use Prim.Native.Nat.{ℕ, ◌*◌, ◌^◌, ◌<◌, suc}
 use native.Mathlib.Nat.{mul-one, mul_comm}
 use mathlib.Core.Bool.{Bool, true, false}
 use lib.Dec.{T}
 use lib.Pow.{pow-add}
 use lib.IntN.{pos}
-use lib.Ieee.{Float, nan, inf, fin, Format, binary64, emax, low, up, down, round, fits, add, mul, of_bits, sum}
+use lib.Ieee.{Float, nan, inf, fin, Format, binary64, emax, low, up, down, round, fits, add, mul, of_bits}
 use lib.Ieee.Exact.{HasValue}
 use lib.Ieee.Fits.{down_pos, round-fits}
 use lib.Ieee.Scale.{grid, overflow}

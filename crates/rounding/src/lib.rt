@@ -1,1 +1,3 @@
 // Laws of rounding over whole numbers: definitions in specs/, laws in proofs/, and no code.
+
+#![tactic(auto)]

@@ -1,4 +1,7 @@
 // Tolerances by kind of joint: a table of rules, and the one that each row is judged by. Document 02, k.
+
+#![tactic(auto)]
+
 pub mod judge; // judge.rt: refusals 27 and 28
 pub mod plain; // plain.rt: the rule of a row where there is one tolerance for each dimension
 pub mod rows; // rows.rt: the rule and the tolerance of each row

@@ -1,4 +1,7 @@
 // The position solve with less stack, of a table of at most 128 rows and 64 bodies: 128 * 127 / 2 = 8,128 pairs at most. It differs from position_solve in its sizes alone, and has one kind.
+
+#![tactic(auto)]
+
 ghost use Rattle.std.specs.Prelude.{◌≡◌, true, ◌≤◌, length};
 ghost use Rattle.rules.specs.Rows.{rules_in};
 ghost use Rattle.kapitsa_joint.specs.declared.kind.Kind.TheVariants.{Position};

@@ -1,15 +1,14 @@
 -- Two bits of the root at a call: which digit from 0 to 3 comes next, what it takes, and that both bits are settled by it. Nothing here is about floats. Assumes nothing.
-use mathlib.Core.Path.{◌≡◌, refl, sym, ◌∙◌}
+use mathlib.Core.Path.{◌≡◌, refl, ◌∙◌}
 use Prim.Native.Nat.{ℕ, suc, ◌+◌, ◌-◌, ◌*◌, ◌/◌, ◌%◌, ◌^◌, ◌<◌, ◌≤◌}
 use mir.Val.{bool_byte}
 use native.Mathlib.Nat.{pow-succ'}
-use mathlib.Core.Bool.{Bool, true, false, not, cond}
-use lib.Dec.{T, ltb}
+use mathlib.Core.Bool.{Bool, true, false, cond}
+use lib.Dec.{ltb}
 use lib.Bits.{bit_and, and_mask}
-use native.Mathlib.Numerals.{add-one}
 use native.Mathlib.Omega.{arith}
 use borrow.Author.Tests.{ltb-true, ltb-false}
-use Rattle.binary64.specs.RootDigits.{Partial, Settles, digit_of, share_of}
+use Rattle.binary64.specs.RootDigits.{Settles, digit_of, share_of}
 
 -- ---- which digit it is
 pub digit_case : (a r : ℕ) (P : ℕ → Type 0) → (r ≤ a * 8 → P 0) → (a * 8 < r → r ≤ a * 16 + 3 → P 1) → (a * 16 + 3 < r → r ≤ a * 24 + 8 → P 2) → (a * 24 + 8 < r → P 3) → P (digit_of a r)

@@ -1,5 +1,5 @@
 -- `binary64_recorded::list_counted` reads within the list and ends: `at` is at most the length. Assumes nothing.
-use Rattle.std.proofs.Common.{◌-◌, ◌≤◌, length, rules}
+use Rattle.std.proofs.Common.{◌-◌, ◌≤◌, length}
 use Rattle.binary64_recorded.proofs.list_counted.Given as goal
 
 abbrev pub invariant-loop-at : goal.invariant-loop-at

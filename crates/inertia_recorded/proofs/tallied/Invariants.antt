@@ -1,5 +1,5 @@
 -- `inertia_recorded::tallied` keeps the space's length, and ends: `left` falls. Assumes nothing.
-use Rattle.std.proofs.Common.{◌≡◌, ◌≤◌, length, rules}
+use Rattle.std.proofs.Common.{◌≡◌, ◌≤◌, length}
 use Rattle.inertia_recorded.proofs.tallied.Given as goal
 
 abbrev pub invariant-loop-left : goal.invariant-loop-left

@@ -1,10 +1,7 @@
 -- `little_endian::read_doubles` meets its contract: the doubles below i are read. Assumes nothing.
-use Prim.Native.Nat.{◌*◌, ◌+◌, ◌-◌}
-use Rattle.little_endian.specs.Words.{double_at, doubles_at}
-use Rattle.loops.proofs.Fill.{Fills, fills}
+use Rattle.little_endian.specs.Words.{doubles_at}
+use Rattle.loops.proofs.Fill.{fills}
 use Rattle.loops.proofs.Tabulate.{filled_tabulate}
-use lib.Ieee.{nan}
-use lib.ListN.{length}
 use Rattle.little_endian.proofs.read_doubles.Goals as goal
 
 ruleset known = (filled_tabulate, fills)

@@ -1,8 +1,7 @@
 -- `little_endian::read_doubles` meets its contract: the doubles below i are read. Assumes nothing.
 use Prim.Native.Nat.{◌*◌, ◌+◌, ◌-◌}
-use Rattle.little_endian.specs.Words.{double_at, doubles_at}
-use Rattle.loops.proofs.Fill.{Fills, fills}
-use Rattle.loops.proofs.Tabulate.{filled_tabulate}
+use Rattle.little_endian.specs.Words.{double_at}
+use Rattle.loops.proofs.Fill.{Fills}
 use lib.Ieee.{nan}
 use lib.ListN.{length}
 use Rattle.little_endian.proofs.read_doubles.Given as goal

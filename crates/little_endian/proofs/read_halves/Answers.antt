@@ -1,9 +1,7 @@
 -- `little_endian::read_halves` meets its contract: the halves below i are read. Assumes nothing.
-use Prim.Native.Nat.{◌*◌, ◌+◌, ◌-◌}
-use Rattle.little_endian.specs.Words.{half_at, halves_at}
-use Rattle.loops.proofs.Fill.{Fills, fills}
+use Rattle.little_endian.specs.Words.{halves_at}
+use Rattle.loops.proofs.Fill.{fills}
 use Rattle.loops.proofs.Tabulate.{filled_tabulate}
-use lib.ListN.{length}
 use Rattle.little_endian.proofs.read_halves.Goals as goal
 
 ruleset known = (filled_tabulate, fills)

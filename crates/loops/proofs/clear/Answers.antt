@@ -1,10 +1,5 @@
 -- `loops::clear` meets its contract: after i turns the first i numbers are +0.0. Assumes nothing.
-use Prim.Native.Nat.{◌-◌}
-use lib.Ieee.{nan}
-use lib.ListN.{length}
-use borrow.Author.Rules.{rules}
-use Rattle.loops.specs.Cleared.{plus_zero}
-use Rattle.loops.proofs.Fill.{Fills, fills}
+use Rattle.loops.proofs.Fill.{fills}
 use Rattle.loops.proofs.clear.Goals as goal
 
 pub loop-i-init : goal.loop-i-init

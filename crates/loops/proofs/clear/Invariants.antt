@@ -2,9 +2,8 @@
 use Prim.Native.Nat.{◌-◌}
 use lib.Ieee.{nan}
 use lib.ListN.{length}
-use borrow.Author.Rules.{rules}
 use Rattle.loops.specs.Cleared.{plus_zero}
-use Rattle.loops.proofs.Fill.{Fills, fills}
+use Rattle.loops.proofs.Fill.{Fills}
 use Rattle.loops.proofs.clear.Given as goal
 
 abbrev pub invariant-loop-i : goal.invariant-loop-i

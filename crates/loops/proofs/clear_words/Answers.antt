@@ -1,8 +1,5 @@
 -- `loops::clear_words` meets its contract: after i turns the first i words are 0. Assumes nothing.
-use Prim.Native.Nat.{◌-◌}
-use lib.ListN.{length}
-use borrow.Author.Rules.{rules}
-use Rattle.loops.proofs.Fill.{Fills, fills}
+use Rattle.loops.proofs.Fill.{fills}
 use Rattle.loops.proofs.clear_words.Goals as goal
 
 pub loop-i-init : goal.loop-i-init

@@ -1,8 +1,5 @@
 -- `loops::copy` meets its contract: after i turns the first i numbers are those of `from`. Assumes nothing.
-use Prim.Native.Nat.{◌-◌}
-use lib.Ieee.{nan}
-use lib.ListN.{length, get_or}
-use Rattle.loops.proofs.Fill.{Fills, fills}
+use Rattle.loops.proofs.Fill.{fills}
 use Rattle.loops.proofs.copy.Goals as goal
 
 pub loop-i-init : goal.loop-i-init

@@ -2,7 +2,7 @@
 use Prim.Native.Nat.{◌-◌}
 use lib.Ieee.{nan}
 use lib.ListN.{length, get_or}
-use Rattle.loops.proofs.Fill.{Fills, fills}
+use Rattle.loops.proofs.Fill.{Fills}
 use Rattle.loops.proofs.copy.Given as goal
 
 abbrev pub invariant-loop-i : goal.invariant-loop-i

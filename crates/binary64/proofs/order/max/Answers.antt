@@ -1,5 +1,4 @@
 -- `binary64::max` meets its contract: its two ways are those of `larger`. Assumes nothing.
-use mathlib.Core.Path.{◌≡◌}
 use Rattle.binary64.specs.Order.{larger}
 use Rattle.binary64.proofs.order.max.Goals as goal
 

@@ -1,6 +1,5 @@
 -- `binary64::taken` meets its contract. Assumes nothing.
 use borrow.Author.Rules.{rules}
-use native.Mathlib.Omega.{arith}
 use Rattle.binary64.proofs.square_root.Pattern.{taken_low, taken_high, led_reach, led_small, shift_count, shift_fits, shift_room, shift_most, shift_reach, shift_small, shift_low, shift_high}
 use Rattle.binary64.proofs.square_root.taken.Goals as goal
 

@@ -1,9 +1,6 @@
 -- `binary64::whole_root` meets its contract. The invariant: the first 2 * bits digits of the radicand are root * root + rest, with rest at most 2 * root. Assumes nothing.
-use mathlib.Core.Path.{◌≡◌}
-use Prim.Native.Nat.{◌-◌, ◌%◌, ◌≤◌}
 use native.Mathlib.Omega.{arith}
 use borrow.Author.Rules.{rules}
-use Rattle.binary64.specs.RootDigits.{Partial}
 use Rattle.binary64.proofs.square_root.Digits.{none, more, room, all}
 use Rattle.binary64.proofs.square_root.whole_root.Goals as goal
 

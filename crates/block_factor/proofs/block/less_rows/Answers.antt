@@ -1,10 +1,7 @@
 -- `block_factor::block::less_rows` meets its contract: the columns before k are subtracted. Assumes nothing.
-use Prim.Native.Nat.{◌-◌}
-use denote.Index.{row}
-use denote.Struct.Rest.{rest}
 use borrow.Author.Rules.{rules}
-use Rattle.block_factor.proofs.Cells.{Counts, counts_end, counts_more, counts_none, less_turn_lem}
-use Rattle.block_factor.specs.Blocks.{less_of, block_less}
+use Rattle.block_factor.proofs.Cells.{counts_end, counts_more, counts_none, less_turn_lem}
+use Rattle.block_factor.specs.Blocks.{less_of}
 use Rattle.block_factor.proofs.block.less_rows.Goals as goal
 
 ruleset known = (counts_none, counts_more, counts_end, less_turn_lem, rules)

@@ -1,10 +1,7 @@
 -- `block_factor::stretch::backward` meets its contract: the last t rows are solved. Assumes nothing.
-use Prim.Native.Nat.{◌-◌}
-use mathlib.Core.Path.{◌≡◌}
-use lib.ListN.{length}
 use Rattle.block_factor.proofs.Stretches.{backs_on, backs_out}
-use Rattle.block_factor.specs.Solves.{block_backward_run, block_backward_turn}
-use Rattle.loops.proofs.Loop.{At, loops}
+use Rattle.block_factor.specs.Solves.{block_backward_run}
+use Rattle.loops.proofs.Loop.{loops}
 use Rattle.block_factor.proofs.stretch.backward.Goals as goal
 
 ruleset known = (backs_on, backs_out, loops)

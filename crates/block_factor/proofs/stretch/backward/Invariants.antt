@@ -2,9 +2,8 @@
 use Prim.Native.Nat.{◌-◌}
 use mathlib.Core.Path.{◌≡◌}
 use lib.ListN.{length}
-use Rattle.block_factor.proofs.Stretches.{backs_on, backs_out}
-use Rattle.block_factor.specs.Solves.{block_backward_run, block_backward_turn}
-use Rattle.loops.proofs.Loop.{At, loops}
+use Rattle.block_factor.specs.Solves.{block_backward_turn}
+use Rattle.loops.proofs.Loop.{At}
 use Rattle.block_factor.proofs.stretch.backward.Given as goal
 
 abbrev pub invariant-loop-t : goal.invariant-loop-t

@@ -1,12 +1,7 @@
 -- `block_factor::stretch::forward` meets its contract: the rows before `row` are solved. Assumes nothing.
-use Prim.Native.Nat.{◌-◌}
-use mathlib.Core.Path.{◌≡◌}
-use lib.ListN.{length}
-use denote.Index.{row}
 use borrow.Author.Rules.{rules}
-use Rattle.block_factor.proofs.Cells.{Counts, counts_end, counts_more, counts_none}
+use Rattle.block_factor.proofs.Cells.{counts_end, counts_more, counts_none}
 use Rattle.block_factor.proofs.Stretches.{forward_turn_lem}
-use Rattle.block_factor.specs.Solves.{block_forward_turn}
 use Rattle.block_factor.proofs.stretch.forward.Goals as goal
 
 ruleset known = (counts_none, counts_more, counts_end, forward_turn_lem, rules)

@@ -2,10 +2,7 @@
 use Prim.Native.Nat.{◌-◌}
 use mathlib.Core.Path.{◌≡◌}
 use lib.ListN.{length}
-use denote.Index.{row}
-use borrow.Author.Rules.{rules}
-use Rattle.block_factor.proofs.Cells.{Counts, counts_end, counts_more, counts_none}
-use Rattle.block_factor.proofs.Stretches.{forward_turn_lem}
+use Rattle.block_factor.proofs.Cells.{Counts}
 use Rattle.block_factor.specs.Solves.{block_forward_turn}
 use Rattle.block_factor.proofs.stretch.forward.Given as goal
 

@@ -1,11 +1,7 @@
 -- `block_factor::stretch::less_earlier` meets its contract: the columns before k are subtracted. Assumes nothing.
-use Prim.Native.Nat.{◌-◌}
-use denote.Index.{row}
-use denote.Struct.Rest.{rest}
 use borrow.Author.Rules.{rules}
-use Rattle.block_factor.proofs.Cells.{Counts, counts_end, counts_more, counts_none}
+use Rattle.block_factor.proofs.Cells.{counts_end, counts_more, counts_none}
 use Rattle.block_factor.proofs.Stretches.{forward_less}
-use Rattle.block_factor.specs.Solves.{block_forward_less}
 use Rattle.block_factor.proofs.stretch.less_earlier.Goals as goal
 
 ruleset known = (counts_none, counts_more, counts_end, forward_less, rules)

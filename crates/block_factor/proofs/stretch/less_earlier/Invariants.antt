@@ -1,10 +1,6 @@
 -- `block_factor::stretch::less_earlier` meets its contract: the columns before k are subtracted. Assumes nothing.
 use Prim.Native.Nat.{◌-◌}
-use denote.Index.{row}
-use denote.Struct.Rest.{rest}
-use borrow.Author.Rules.{rules}
-use Rattle.block_factor.proofs.Cells.{Counts, counts_end, counts_more, counts_none}
-use Rattle.block_factor.proofs.Stretches.{forward_less}
+use Rattle.block_factor.proofs.Cells.{Counts}
 use Rattle.block_factor.specs.Solves.{block_forward_less}
 use Rattle.block_factor.proofs.stretch.less_earlier.Given as goal
 

@@ -1,12 +1,7 @@
 -- `block_factor::stretch::less_later` meets its contract: the k rows below are subtracted. Assumes nothing.
-use Prim.Native.Nat.{◌-◌}
-use lib.Ieee.{below}
-use denote.Index.{row}
-use denote.Struct.Rest.{rest}
 use borrow.Author.Rules.{rules}
-use Rattle.block_factor.proofs.Cells.{Counts, counts_end, counts_more, counts_none}
+use Rattle.block_factor.proofs.Cells.{counts_end, counts_more, counts_none}
 use Rattle.block_factor.proofs.Stretches.{backward_less}
-use Rattle.block_factor.specs.Solves.{block_backward_less}
 use Rattle.block_factor.proofs.stretch.less_later.Goals as goal
 
 ruleset known = (counts_none, counts_more, counts_end, backward_less, rules)

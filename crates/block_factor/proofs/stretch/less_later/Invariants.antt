@@ -1,11 +1,6 @@
 -- `block_factor::stretch::less_later` meets its contract: the k rows below are subtracted. Assumes nothing.
 use Prim.Native.Nat.{◌-◌}
-use lib.Ieee.{below}
-use denote.Index.{row}
-use denote.Struct.Rest.{rest}
-use borrow.Author.Rules.{rules}
-use Rattle.block_factor.proofs.Cells.{Counts, counts_end, counts_more, counts_none}
-use Rattle.block_factor.proofs.Stretches.{backward_less}
+use Rattle.block_factor.proofs.Cells.{Counts}
 use Rattle.block_factor.specs.Solves.{block_backward_less}
 use Rattle.block_factor.proofs.stretch.less_later.Given as goal
 

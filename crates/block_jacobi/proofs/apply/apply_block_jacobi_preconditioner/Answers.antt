@@ -1,12 +1,8 @@
 -- `block_jacobi::apply::apply_block_jacobi_preconditioner` meets its contract: the stretches of the runs before `start` are solved. Assumes nothing.
-use Prim.Native.Nat.{◌+◌, ◌*◌, ◌-◌, ◌<◌, ◌≤◌}
-use mathlib.Core.Path.{◌≡◌}
-use lib.ListN.{length}
+use Prim.Native.Nat.{◌*◌}
 use native.Mathlib.Omega.{arith}
 use Rattle.loops.proofs.Loop.{loops}
-use Rattle.block_jacobi.specs.Runs.{owner_in}
-use Rattle.block_jacobi.specs.Blocks.{block_in, solve_turn}
-use Rattle.block_jacobi.proofs.RunsOf.{Runs, runs_none, runs_more, runs_stop, runs_end, run_within, run_some}
+use Rattle.block_jacobi.proofs.RunsOf.{runs_none, runs_more, runs_stop, runs_end, run_within, run_some}
 use Rattle.block_jacobi.proofs.Solving.{solves_stop, solves_end, solve_on, solve_out_lem, solves_pass, six_rows, part_length, lent_six, lent_alike}
 use Rattle.block_jacobi.proofs.apply.apply_block_jacobi_preconditioner.Goals as goal
 
@@ -82,11 +78,11 @@ slice_bounds-solve_block-end-in-loop-start-2 c =
 
 pub solve_block-requires : goal.solve_block-requires
 solve_block-requires c =
-    (part_length c.args.blocks.now (36 * c.loop-start.start) 36 (omega (arith, c.run_length-len.ensures, c.loop-start.invariant, (c.requires.owners_len, c.requires.runs_fit))), lent_six _ _ _ (omega (arith, c.run_length-len.ensures, c.loop-start.invariant, (c.requires.owners_len, c.requires.runs_fit))) (six_rows _ _ _ _ c.requires.runs_fit (omega arith) (c.loop-start.invariant.1.first (omega arith)) c.run_length-len.ensures.is), lent_alike c.args.residual.now c.loop-start.output c.loop-start.start _ (omega (arith, c.run_length-len.ensures, c.loop-start.invariant, (c.requires.owners_len, c.requires.runs_fit))) (omega (arith, c.run_length-len.ensures, c.loop-start.invariant, (c.requires.owners_len, c.requires.runs_fit))))
+    (part_length c.args.blocks.now (36 * c.loop-start.start) 36 (omega (arith, c.run_length-len.ensures, c.loop-start.invariant, c.requires.owners_len, c.requires.runs_fit)), lent_six _ _ _ (omega (arith, c.run_length-len.ensures, c.loop-start.invariant, c.requires.owners_len, c.requires.runs_fit)) (six_rows _ _ _ _ c.requires.runs_fit (omega arith) (c.loop-start.invariant.1.first (omega arith)) c.run_length-len.ensures.is), lent_alike c.args.residual.now c.loop-start.output c.loop-start.start _ (omega (arith, c.run_length-len.ensures, c.loop-start.invariant, c.requires.owners_len, c.requires.runs_fit)) (omega (arith, c.run_length-len.ensures, c.loop-start.invariant, c.requires.owners_len, c.requires.runs_fit)))
 
 pub returns-in_default : goal.returns-in_default
 returns-in_default c =
-    solves_stop _ _ _ _ _ _ _ (omega (arith, (c.requires.owners_len, c.requires.runs_fit))) c.loop-start.invariant.1 (omega arith) (solve_out_lem _ _ _ _ _ _ _ _ _ (c.loop-start.invariant.1.first (omega arith)) c.run_length-len.ensures.is (omega (arith, (c.requires.owners_len, c.requires.runs_fit))) c.solve_block.ensures c.in_default.is)
+    solves_stop _ _ _ _ _ _ _ (omega (arith, c.requires.owners_len, c.requires.runs_fit)) c.loop-start.invariant.1 (omega arith) (solve_out_lem _ _ _ _ _ _ _ _ _ (c.loop-start.invariant.1.first (omega arith)) c.run_length-len.ensures.is (omega (arith, c.requires.owners_len, c.requires.runs_fit)) c.solve_block.ensures c.in_default.is)
 
 pub loop-start-smaller : goal.loop-start-smaller
 loop-start-smaller c =
@@ -94,8 +90,8 @@ loop-start-smaller c =
 
 pub loop-start-preserved : goal.loop-start-preserved
 loop-start-preserved c =
-    (search known, runs_more c.loop-start.invariant.1 (solves_pass _ _ _) (omega arith) c.run_length-len.ensures.is (solve_on _ _ _ _ _ _ _ _ _ (c.loop-start.invariant.1.first (omega arith)) c.run_length-len.ensures.is (omega (arith, (c.requires.owners_len, c.requires.runs_fit))) c.solve_block.ensures c.in-Done.is))
+    (search known, runs_more c.loop-start.invariant.1 (solves_pass _ _ _) (omega arith) c.run_length-len.ensures.is (solve_on _ _ _ _ _ _ _ _ _ (c.loop-start.invariant.1.first (omega arith)) c.run_length-len.ensures.is (omega (arith, c.requires.owners_len, c.requires.runs_fit)) c.solve_block.ensures c.in-Done.is))
 
 pub returns : goal.returns
 returns c =
-    solves_end _ _ _ _ _ _ _ (omega (arith, (c.requires.owners_len, c.requires.runs_fit))) c.loop-start.invariant.1 (omega arith)
+    solves_end _ _ _ _ _ _ _ (omega (arith, c.requires.owners_len, c.requires.runs_fit)) c.loop-start.invariant.1 (omega arith)

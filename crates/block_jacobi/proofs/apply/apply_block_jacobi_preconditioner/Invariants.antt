@@ -1,13 +1,10 @@
 -- `block_jacobi::apply::apply_block_jacobi_preconditioner` meets its contract: the stretches of the runs before `start` are solved. Assumes nothing.
-use Prim.Native.Nat.{◌+◌, ◌*◌, ◌-◌, ◌<◌, ◌≤◌}
+use Prim.Native.Nat.{◌-◌}
 use mathlib.Core.Path.{◌≡◌}
 use lib.ListN.{length}
-use native.Mathlib.Omega.{arith}
-use Rattle.loops.proofs.Loop.{loops}
 use Rattle.block_jacobi.specs.Runs.{owner_in}
 use Rattle.block_jacobi.specs.Blocks.{block_in, solve_turn}
-use Rattle.block_jacobi.proofs.RunsOf.{Runs, runs_none, runs_more, runs_stop, runs_end, run_within, run_some}
-use Rattle.block_jacobi.proofs.Solving.{solves_stop, solves_end, solve_on, solve_out_lem, solves_pass, six_rows, part_length, lent_six, lent_alike}
+use Rattle.block_jacobi.proofs.RunsOf.{Runs}
 use Rattle.block_jacobi.proofs.apply.apply_block_jacobi_preconditioner.Given as goal
 
 abbrev pub invariant-loop-start : goal.invariant-loop-start

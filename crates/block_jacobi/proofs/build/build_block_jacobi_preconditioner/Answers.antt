@@ -1,15 +1,8 @@
 -- `block_jacobi::build::build_block_jacobi_preconditioner` meets its contract: the runs before `start` have their blocks, and of the run at `start` the pairs before (row, column) are made. Assumes nothing.
-use Prim.Native.Nat.{◌+◌, ◌*◌, ◌-◌, ◌<◌, ◌≤◌}
-use mathlib.Core.Path.{◌≡◌}
-use lib.ListN.{length}
 use native.Mathlib.Omega.{arith}
 use Rattle.loops.proofs.Loop.{loops}
-use Rattle.mass_operator.specs.System.{compact_system}
-use Rattle.block_jacobi.specs.Runs.{owner_in, run_length}
-use Rattle.block_jacobi.specs.Blocks.{block_turn}
-use Rattle.block_jacobi.specs.declared.build.Blocked.TheVariants as blocked
-use Rattle.block_jacobi.proofs.RunsOf.{Runs, runs_none, runs_more, runs_stop, runs_end, run_within, run_some}
-use Rattle.block_jacobi.proofs.RowPairs.{Pairs, pairs_none, pairs_column, pairs_row, pairs_stop, pairs_end, pair_on, pair_out, run_eleven, run_out, run_on, blocks_pass, blocks_end, blocks_stop}
+use Rattle.block_jacobi.proofs.RunsOf.{runs_none, runs_more, runs_stop, runs_end, run_within, run_some}
+use Rattle.block_jacobi.proofs.RowPairs.{pairs_none, pairs_column, pairs_row, pairs_stop, pairs_end, pair_on, pair_out, run_eleven, run_out, run_on, blocks_pass, blocks_end, blocks_stop}
 use Rattle.block_jacobi.proofs.build.build_block_jacobi_preconditioner.Goals as goal
 
 ruleset known = (runs_none, runs_more, runs_stop, runs_end, run_within, run_some, pairs_none, pairs_column, pairs_row, pairs_stop, pairs_end, pair_on, pair_out, run_eleven, run_out, run_on, blocks_pass, loops)

@@ -1,8 +1,6 @@
 -- `block_jacobi::run::run_length` meets its contract: the k rows from `start` on have its owner. Assumes nothing.
 use Prim.Native.Nat.{◌-◌}
-use Rattle.block_jacobi.proofs.Leading.{Owned, owned_more, owned_none, run_end, run_stop}
-use Rattle.loops.proofs.Loop.{loops}
-use Rattle.sparse.specs.Kept.{start}
+use Rattle.block_jacobi.proofs.Leading.{Owned}
 use Rattle.block_jacobi.proofs.run.run_length.Given as goal
 
 abbrev pub invariant-loop-k : goal.invariant-loop-k

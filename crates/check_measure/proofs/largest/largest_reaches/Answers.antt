@@ -1,12 +1,8 @@
 -- `check_measure::largest::largest_reaches` meets its contract: maxima are those of the rows below i. Assumes nothing.
-use Prim.Native.Nat.{◌*◌, ◌+◌, ◌-◌}
 use mathlib.Core.Path.{refl}
 use native.Mathlib.Omega.{arith}
-use lib.ListN.{get_or}
-use lib.Ieee.{nan}
 use borrow.Author.Rules.{rules}
-use Rattle.kapitsa_joint.specs.Tolerance.{dimension_of}
-use Rattle.kapitsa_joint.proofs.Largest.{Largest, largest_end, largest_more, largest_none}
+use Rattle.kapitsa_joint.proofs.Largest.{largest_end, largest_more, largest_none}
 use Rattle.check_measure.proofs.largest.largest_reaches.Goals as goal
 
 ruleset known = (largest_none, largest_end, rules)

@@ -1,12 +1,9 @@
 -- `check_measure::largest::largest_reaches` meets its contract: maxima are those of the rows below i. Assumes nothing.
 use Prim.Native.Nat.{◌*◌, ◌+◌, ◌-◌}
-use mathlib.Core.Path.{refl}
-use native.Mathlib.Omega.{arith}
 use lib.ListN.{get_or}
 use lib.Ieee.{nan}
-use borrow.Author.Rules.{rules}
 use Rattle.kapitsa_joint.specs.Tolerance.{dimension_of}
-use Rattle.kapitsa_joint.proofs.Largest.{Largest, largest_end, largest_more, largest_none}
+use Rattle.kapitsa_joint.proofs.Largest.{Largest}
 use Rattle.check_measure.proofs.largest.largest_reaches.Given as goal
 
 abbrev pub invariant-loop-i : goal.invariant-loop-i

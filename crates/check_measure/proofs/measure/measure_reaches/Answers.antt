@@ -1,8 +1,6 @@
 -- `check_measure::measure::measure_reaches` meets its contract: the values below i are reaches, the others as they were. Assumes nothing.
-use Prim.Native.Nat.{◌-◌}
-use Rattle.check_range.specs.Closing.{error_in}
 use Rattle.check_range.proofs.Errors.{given_below}
-use Rattle.check_measure.proofs.InPlace.{Replaced, replaced_none, reaching, reaches_more, reaches_made}
+use Rattle.check_measure.proofs.InPlace.{replaced_none, reaches_more, reaches_made}
 use mathlib.Core.Path.{refl}
 use Rattle.loops.proofs.Loop.{loops}
 use Rattle.check_measure.proofs.measure.measure_reaches.Goals as goal

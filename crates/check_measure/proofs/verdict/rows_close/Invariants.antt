@@ -1,9 +1,8 @@
 -- `check_measure::verdict::rows_close` meets its contract: the rows below i close. Assumes nothing.
 use Prim.Native.Nat.{◌-◌}
 use Rattle.check_measure.specs.Rows.{within_in}
-use Rattle.loops.proofs.Every.{Holds, called}
+use Rattle.loops.proofs.Every.{Holds}
 use Rattle.rules.specs.Rows.{rules_in}
-use Rattle.rules.proofs.EachRow.{row_ruled}
 use Rattle.check_measure.proofs.verdict.rows_close.Given as goal
 
 abbrev pub invariant-loop-i : goal.invariant-loop-i

@@ -1,5 +1,4 @@
 -- `check_range::table::mass_in_range_at` meets its contract. Assumes nothing.
-use borrow.Author.Rules.{rules}
 use Rattle.check_range.proofs.table.mass_in_range_at.Goals as goal
 
 pub returns : goal.returns

@@ -1,9 +1,5 @@
 -- `check_range::table::masses_in_range` meets its contract: the bodies below b have passed. Assumes nothing.
-use Prim.Native.Nat.{◌-◌}
-use Rattle.check_range.specs.Range.{mass_in_range}
 use Rattle.loops.proofs.Every.{called}
-use Rattle.kapitsa_joint.specs.Mass.{mass_of}
-use Rattle.loops.proofs.Every.{Holds}
 use Rattle.check_range.proofs.table.masses_in_range.Goals as goal
 
 pub loop-b-init : goal.loop-b-init

@@ -1,7 +1,6 @@
 -- `check_range::table::masses_in_range` meets its contract: the bodies below b have passed. Assumes nothing.
 use Prim.Native.Nat.{◌-◌}
 use Rattle.check_range.specs.Range.{mass_in_range}
-use Rattle.loops.proofs.Every.{called}
 use Rattle.kapitsa_joint.specs.Mass.{mass_of}
 use Rattle.loops.proofs.Every.{Holds}
 use Rattle.check_range.proofs.table.masses_in_range.Given as goal

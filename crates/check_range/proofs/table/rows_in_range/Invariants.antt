@@ -4,8 +4,6 @@ use lib.Ieee.{nan}
 use lib.ListN.{get_or}
 use Rattle.check_range.specs.Closing.{error_in}
 use Rattle.check_range.specs.Range.{row_in_range}
-use Rattle.check_range.proofs.Errors.{given_below}
-use Rattle.loops.proofs.Every.{called}
 use Rattle.kapitsa_joint.specs.Row.{jacobian_of, row_of}
 use Rattle.loops.proofs.Every.{Holds}
 use Rattle.check_range.proofs.table.rows_in_range.Given as goal

@@ -1,5 +1,4 @@
 -- `check_refusals::fit::beside` meets its contract. Assumes nothing.
-use borrow.Author.Rules.{rules}
 use Rattle.check_refusals.proofs.fit.beside.Goals as goal
 
 pub returns-in-Position : goal.returns-in-Position

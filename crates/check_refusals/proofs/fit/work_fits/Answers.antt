@@ -1,6 +1,5 @@
 -- `check_refusals::fit::work_fits` meets its contract. Assumes nothing.
 use mathlib.Core.Path.{refl}
-use borrow.Author.Rules.{rules}
 use Rattle.check_refusals.specs.Refusals.{work_fits}
 use Rattle.check_refusals.proofs.fit.work_fits.Goals as goal
 

@@ -1,5 +1,4 @@
 -- `check_refusals::judge::judge_table` meets its contract. Assumes nothing.
-use borrow.Author.Rules.{rules}
 use Rattle.check_refusals.proofs.AtOnce.{all_at_once}
 use Rattle.check_refusals.proofs.judge.judge_table.Goals as goal
 

@@ -1,12 +1,6 @@
 -- `check_refusals::sound::rows_sound` meets its contract: so far it tells whether the rows below i are sound. Assumes nothing.
-use Prim.Native.Nat.{◌-◌}
-use lib.Ieee.{nan}
-use lib.ListN.{get_or}
-use Rattle.kapitsa_joint.specs.Row.{row_of}
-use Rattle.mass_operator.proofs.AllFinite.{SoFar, sofar}
-use Rattle.check_range.specs.Closing.{error_in}
+use Rattle.mass_operator.proofs.AllFinite.{sofar}
 use Rattle.check_range.proofs.Errors.{given_below}
-use Rattle.check_refusals.specs.Sound.{row_sound}
 use Rattle.check_refusals.proofs.sound.rows_sound.Goals as goal
 
 ruleset known = (given_below, sofar)

@@ -3,9 +3,8 @@ use Prim.Native.Nat.{◌-◌}
 use lib.Ieee.{nan}
 use lib.ListN.{get_or}
 use Rattle.kapitsa_joint.specs.Row.{row_of}
-use Rattle.mass_operator.proofs.AllFinite.{SoFar, sofar}
+use Rattle.mass_operator.proofs.AllFinite.{SoFar}
 use Rattle.check_range.specs.Closing.{error_in}
-use Rattle.check_range.proofs.Errors.{given_below}
 use Rattle.check_refusals.specs.Sound.{row_sound}
 use Rattle.check_refusals.proofs.sound.rows_sound.Given as goal
 

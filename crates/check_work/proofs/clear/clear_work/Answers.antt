@@ -1,5 +1,4 @@
 -- `check_work::clear::clear_work` meets its contract. Assumes nothing.
-use borrow.Author.Rules.{rules}
 use Rattle.check_work.proofs.clear.clear_work.Goals as goal
 
 pub returns : goal.returns

@@ -1,5 +1,4 @@
 -- `check_work::impulse::add_both` meets its contract. Assumes nothing.
-use borrow.Author.Rules.{rules}
 use Rattle.check_work.proofs.Bodies.{read, size_read}
 use Rattle.check_work.proofs.impulse.add_both.Goals as goal
 

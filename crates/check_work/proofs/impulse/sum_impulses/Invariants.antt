@@ -1,13 +1,9 @@
 -- `check_work::impulse::sum_impulses` meets its contract: after i turns each body has the impulses of the rows below i. Assumes nothing.
 use Prim.Native.Nat.{◌-◌, ◌≤◌}
 use lib.ListN.{length}
-use Rattle.loops.proofs.Loop.{loops}
 use Rattle.mass_operator.specs.Flat.{coefficients}
 use Rattle.mass_operator.specs.Lent.{Summing}
-use Rattle.mass_operator.proofs.Sums.{all_rows, none_yet}
 use Rattle.check_work.specs.Rows.{rows_in, row_sizes_in, sizes_in}
-use Rattle.check_work.proofs.Added.{one_more}
-use Rattle.check_work.proofs.Bodies.{below_a, below_b, size_below_a, size_below_b, room}
 use Rattle.check_work.proofs.impulse.sum_impulses.Given as goal
 
 abbrev pub invariant-loop-i : goal.invariant-loop-i

@@ -1,9 +1,8 @@
 -- `check_work::response::respond` meets its contract: the bodies below b have their responses. Assumes nothing.
 use Prim.Native.Nat.{◌-◌, ◌≤◌}
 use mathlib.Core.List.{map}
-use Rattle.loops.proofs.Loop.{loops}
 use Rattle.binary64.specs.Order.{absolute}
-use Rattle.mass_operator.proofs.Sums.{Turned, turned_all, turned_more, turned_none}
+use Rattle.mass_operator.proofs.Sums.{Turned}
 use Rattle.check_work.proofs.response.respond.Given as goal
 
 abbrev pub invariant-loop-b : goal.invariant-loop-b

@@ -1,5 +1,4 @@
 -- `check_work::response::turn` meets its contract. Assumes nothing.
-use borrow.Author.Rules.{rules}
 use Rattle.check_work.proofs.response.turn.Goals as goal
 
 pub returns : goal.returns

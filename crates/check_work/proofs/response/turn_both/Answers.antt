@@ -1,5 +1,4 @@
 -- `check_work::response::turn_both` meets its contract. Assumes nothing.
-use borrow.Author.Rules.{rules}
 use Rattle.check_measure.proofs.SizesOf.{mass_size}
 use Rattle.check_work.proofs.response.turn_both.Goals as goal
 

@@ -1,7 +1,6 @@
 -- `check_work::rows::measure_rows` meets its contract. Assumes nothing.
 use native.Mathlib.Omega.{arith}
 use mathlib.Core.Path.{◌∙◌}
-use borrow.Author.Rules.{rules}
 use Rattle.check_work.proofs.Bodies.{valid_same}
 use Rattle.check_work.proofs.Product.{measured}
 use Rattle.check_work.proofs.rows.measure_rows.Goals as goal

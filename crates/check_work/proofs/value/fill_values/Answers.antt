@@ -1,13 +1,8 @@
 -- `check_work::value::fill_values` meets its contract: the rows below i have their values. Assumes nothing.
-use Prim.Native.Nat.{◌-◌}
 use native.Mathlib.Omega.{arith}
 use mathlib.Core.Path.{refl}
-use lib.Ieee.{nan}
-use lib.ListN.{length}
-use Rattle.loops.proofs.Fill.{Fills, fills, fills_put, fills_none}
+use Rattle.loops.proofs.Fill.{fills, fills_put, fills_none}
 use Rattle.loops.proofs.Tabulate.{filled_tabulate}
-use Rattle.mass_operator.specs.Lent.{value_in}
-use Rattle.check_work.specs.Rows.{rows_in, row_sizes_in}
 use Rattle.check_work.proofs.Bodies.{room}
 use Rattle.check_work.proofs.value.fill_values.Goals as goal
 

@@ -1,5 +1,4 @@
 -- `check_work::value::value_at` meets its contract. Assumes nothing.
-use borrow.Author.Rules.{rules}
 use Rattle.check_work.proofs.Bodies.{read, size_read}
 use Rattle.check_work.proofs.value.value_at.Goals as goal
 

@@ -1,7 +1,6 @@
 -- `closing_check::check::judged_check` meets its contract. Assumes nothing.
 use mathlib.Core.Path.{refl, ◌∙◌}
 use native.Mathlib.Omega.{arith}
-use borrow.Author.Rules.{rules}
 use Rattle.mass_operator.specs.Flat.{coefficients}
 use Rattle.check_work.proofs.Bodies.{valid_same}
 use Rattle.closing_check.proofs.Judged.{passed_judged, refused_judged, ruled_judged, valid_judged_lem}

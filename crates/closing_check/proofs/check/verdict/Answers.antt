@@ -1,5 +1,4 @@
 -- `closing_check::check::verdict` meets its contract. Assumes nothing.
-use borrow.Author.Rules.{rules}
 use Rattle.closing_check.proofs.Measured.{all_within, one_misses}
 use Rattle.closing_check.proofs.check.verdict.Goals as goal
 

@@ -1,8 +1,6 @@
 -- `compact_table::compact::gather` meets its contract: the rows below i are in the compact table. Assumes nothing.
 use Prim.Native.Nat.{◌-◌, ◌≤◌}
 use Rattle.kapitsa_joint.specs.Row.{jacobian_of, row_of}
-use Rattle.loops.proofs.Loop.{loops}
-use Rattle.compact_table.proofs.Table.{gathered_all, gathered_more, gathered_none}
 use Rattle.compact_table.specs.Compact.{Gathered}
 use Rattle.compact_table.proofs.compact.gather.Given as goal
 

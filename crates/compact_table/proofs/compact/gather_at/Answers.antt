@@ -1,5 +1,4 @@
 -- `compact_table::compact::gather_at` meets its contract. Assumes nothing.
-use borrow.Author.Rules.{rules}
 use Rattle.compact_table.proofs.compact.gather_at.Goals as goal
 
 pub returns : goal.returns

@@ -1,8 +1,6 @@
 -- `group_table::copy::copy_marked` meets its contract: those below b are copied. Assumes nothing.
-use Prim.Native.Nat.{◌-◌}
 use native.Mathlib.Omega.{arith}
-use lib.Ieee.{nan}
-use Rattle.group_table.proofs.Picks.{MarkedBelow, row_fits, picks}
+use Rattle.group_table.proofs.Picks.{row_fits, picks}
 use Rattle.group_table.proofs.copy.copy_marked.Goals as goal
 
 pub loop-b-init : goal.loop-b-init

@@ -1,8 +1,7 @@
 -- `group_table::copy::copy_marked` meets its contract: those below b are copied. Assumes nothing.
 use Prim.Native.Nat.{◌-◌}
-use native.Mathlib.Omega.{arith}
 use lib.Ieee.{nan}
-use Rattle.group_table.proofs.Picks.{MarkedBelow, row_fits, picks}
+use Rattle.group_table.proofs.Picks.{MarkedBelow}
 use Rattle.group_table.proofs.copy.copy_marked.Given as goal
 
 abbrev pub invariant-loop-b : goal.invariant-loop-b

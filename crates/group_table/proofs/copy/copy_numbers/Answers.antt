@@ -1,7 +1,5 @@
 -- `group_table::copy::copy_numbers` meets its contract: c of the block are copied. Assumes nothing.
-use Prim.Native.Nat.{◌-◌}
-use lib.Ieee.{nan}
-use Rattle.group_table.proofs.Picks.{Copying, picks}
+use Rattle.group_table.proofs.Picks.{picks}
 use Rattle.group_table.proofs.copy.copy_numbers.Goals as goal
 
 pub loop-c-init : goal.loop-c-init

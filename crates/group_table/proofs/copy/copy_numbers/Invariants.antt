@@ -1,7 +1,7 @@
 -- `group_table::copy::copy_numbers` meets its contract: c of the block are copied. Assumes nothing.
 use Prim.Native.Nat.{◌-◌}
 use lib.Ieee.{nan}
-use Rattle.group_table.proofs.Picks.{Copying, picks}
+use Rattle.group_table.proofs.Picks.{Copying}
 use Rattle.group_table.proofs.copy.copy_numbers.Given as goal
 
 abbrev pub invariant-loop-c : goal.invariant-loop-c

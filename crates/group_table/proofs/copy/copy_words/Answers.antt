@@ -1,6 +1,5 @@
 -- `group_table::copy::copy_words` meets its contract: c of the block are copied. Assumes nothing.
-use Prim.Native.Nat.{◌-◌}
-use Rattle.group_table.proofs.Picks.{Copying, picks}
+use Rattle.group_table.proofs.Picks.{picks}
 use Rattle.group_table.proofs.copy.copy_words.Goals as goal
 
 pub loop-c-init : goal.loop-c-init

@@ -1,6 +1,6 @@
 -- `group_table::copy::copy_words` meets its contract: c of the block are copied. Assumes nothing.
 use Prim.Native.Nat.{◌-◌}
-use Rattle.group_table.proofs.Picks.{Copying, picks}
+use Rattle.group_table.proofs.Picks.{Copying}
 use Rattle.group_table.proofs.copy.copy_words.Given as goal
 
 abbrev pub invariant-loop-c : goal.invariant-loop-c

@@ -1,7 +1,6 @@
 -- `group_table::pick::count_rows` meets its contract: those below i are counted. Assumes nothing.
 use Prim.Native.Nat.{◌-◌}
 use Rattle.group_table.specs.Steps.{Counting}
-use Rattle.group_table.proofs.Picks.{picks}
 use Rattle.group_table.proofs.pick.count_rows.Given as goal
 
 abbrev pub invariant-loop-i : goal.invariant-loop-i

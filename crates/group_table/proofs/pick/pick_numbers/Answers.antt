@@ -1,7 +1,4 @@
 -- `group_table::pick::pick_numbers` meets its contract: the rows below i are picked. Assumes nothing.
-use Prim.Native.Nat.{◌-◌}
-use lib.Ieee.{nan}
-use Rattle.group_table.specs.Steps.{Picking}
 use Rattle.group_table.proofs.Picks.{row_fits, room_pick, picks}
 use native.Mathlib.Omega.{arith}
 use Rattle.group_table.proofs.pick.pick_numbers.Goals as goal

@@ -1,6 +1,4 @@
 -- `group_table::pick::pick_words` meets its contract: the rows below i are picked. Assumes nothing.
-use Prim.Native.Nat.{◌-◌}
-use Rattle.group_table.specs.Steps.{Picking}
 use Rattle.group_table.proofs.Picks.{row_fits, room_pick, picks}
 use native.Mathlib.Omega.{arith}
 use Rattle.group_table.proofs.pick.pick_words.Goals as goal

@@ -1,8 +1,6 @@
 -- `group_table::pick::pick_words` meets its contract: the rows below i are picked. Assumes nothing.
 use Prim.Native.Nat.{◌-◌}
 use Rattle.group_table.specs.Steps.{Picking}
-use Rattle.group_table.proofs.Picks.{row_fits, room_pick, picks}
-use native.Mathlib.Omega.{arith}
 use Rattle.group_table.proofs.pick.pick_words.Given as goal
 
 abbrev pub invariant-loop-i : goal.invariant-loop-i

@@ -2,8 +2,6 @@
 use Prim.Native.Nat.{◌-◌}
 use lib.Ieee.{nan}
 use Rattle.group_table.specs.Steps.{Scattering}
-use Rattle.group_table.proofs.Picks.{row_fits, room_put, picks}
-use native.Mathlib.Omega.{arith}
 use Rattle.group_table.proofs.put.put_numbers.Given as goal
 
 abbrev pub invariant-loop-i : goal.invariant-loop-i

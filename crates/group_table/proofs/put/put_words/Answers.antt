@@ -1,6 +1,4 @@
 -- `group_table::put::put_words` meets its contract: the rows below i are put back. Assumes nothing.
-use Prim.Native.Nat.{◌-◌}
-use Rattle.group_table.specs.Steps.{Scattering}
 use Rattle.group_table.proofs.Picks.{row_fits, room_put, picks}
 use native.Mathlib.Omega.{arith}
 use Rattle.group_table.proofs.put.put_words.Goals as goal

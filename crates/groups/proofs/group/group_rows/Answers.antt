@@ -1,5 +1,4 @@
 -- `groups::group::group_rows` meets its contract. Assumes nothing.
-use borrow.Author.Rules.{rules}
 use native.Mathlib.Omega.{arith}
 use Rattle.groups.proofs.Number.{zeroed_long, zeroed_zeros, zeroed_all, group_keys, grouped, group_rest}
 use Rattle.groups.proofs.group.group_rows.Goals as goal

@@ -1,8 +1,6 @@
 -- `groups::group::join_rows` meets its contract: the rows below i have joined their bodies. Assumes nothing.
-use Prim.Native.Nat.{◌-◌}
 use Rattle.loops.proofs.Loop.{loops}
-use Rattle.groups.specs.Together.{links_in, joins_in}
-use Rattle.groups.proofs.Join.{Joining, joining_none, joining_more, joining_end, linked_a, linked_b}
+use Rattle.groups.proofs.Join.{joining_none, joining_more, joining_end, linked_a, linked_b}
 use native.Mathlib.Omega.{arith}
 use Rattle.groups.proofs.group.join_rows.Goals as goal
 

@@ -1,9 +1,7 @@
 -- `groups::group::join_rows` meets its contract: the rows below i have joined their bodies. Assumes nothing.
 use Prim.Native.Nat.{◌-◌}
-use Rattle.loops.proofs.Loop.{loops}
 use Rattle.groups.specs.Together.{links_in, joins_in}
-use Rattle.groups.proofs.Join.{Joining, joining_none, joining_more, joining_end, linked_a, linked_b}
-use native.Mathlib.Omega.{arith}
+use Rattle.groups.proofs.Join.{Joining}
 use Rattle.groups.proofs.group.join_rows.Given as goal
 
 abbrev pub invariant-loop-i : goal.invariant-loop-i

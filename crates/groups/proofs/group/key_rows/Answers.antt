@@ -1,9 +1,6 @@
 -- `groups::group::key_rows` meets its contract: the rows below i have their key. Assumes nothing.
-use Prim.Native.Nat.{◌-◌}
-use Rattle.groups.specs.Together.{links_in, joins_in}
-use Rattle.groups.specs.Steps.{key_of}
 use Rattle.groups.proofs.Join.{linked_a, linked_b}
-use Rattle.groups.proofs.Front.{Writing, writing_more, fronts}
+use Rattle.groups.proofs.Front.{writing_more, fronts}
 use mathlib.Core.Path.{refl}
 use native.Mathlib.Omega.{arith}
 use Rattle.groups.proofs.group.key_rows.Goals as goal

@@ -2,10 +2,7 @@
 use Prim.Native.Nat.{◌-◌}
 use Rattle.groups.specs.Together.{links_in, joins_in}
 use Rattle.groups.specs.Steps.{key_of}
-use Rattle.groups.proofs.Join.{linked_a, linked_b}
-use Rattle.groups.proofs.Front.{Writing, writing_more, fronts}
-use mathlib.Core.Path.{refl}
-use native.Mathlib.Omega.{arith}
+use Rattle.groups.proofs.Front.{Writing}
 use Rattle.groups.proofs.group.key_rows.Given as goal
 
 abbrev pub invariant-loop-i : goal.invariant-loop-i

@@ -1,6 +1,5 @@
 -- `groups::group::number_rows` meets its contract: the keys below i are numbered. Assumes nothing.
-use Prim.Native.Nat.{◌-◌}
-use Rattle.groups.proofs.Number.{Numbering, numbering_none, numbering_more, numbering_end, numbering_key}
+use Rattle.groups.proofs.Number.{numbering_none, numbering_more, numbering_end, numbering_key}
 use Rattle.loops.proofs.Loop.{loops}
 use native.Mathlib.Omega.{arith}
 use Rattle.groups.proofs.group.number_rows.Goals as goal

@@ -1,6 +1,5 @@
 -- `groups::group::own_labels` meets its contract: the labels below b are written. Assumes nothing.
-use Prim.Native.Nat.{◌-◌}
-use Rattle.groups.proofs.Front.{Writing, writing_more, fronts}
+use Rattle.groups.proofs.Front.{writing_more, fronts}
 use mathlib.Core.Path.{refl}
 use native.Mathlib.Omega.{arith}
 use Rattle.groups.proofs.group.own_labels.Goals as goal

@@ -1,8 +1,6 @@
 -- `groups::group::own_labels` meets its contract: the labels below b are written. Assumes nothing.
 use Prim.Native.Nat.{◌-◌}
-use Rattle.groups.proofs.Front.{Writing, writing_more, fronts}
-use mathlib.Core.Path.{refl}
-use native.Mathlib.Omega.{arith}
+use Rattle.groups.proofs.Front.{Writing}
 use Rattle.groups.proofs.group.own_labels.Given as goal
 
 abbrev pub invariant-loop-b : goal.invariant-loop-b

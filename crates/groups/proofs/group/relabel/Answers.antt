@@ -1,8 +1,5 @@
 -- `groups::group::relabel` meets its contract: the labels below b are renamed. Assumes nothing.
-use Prim.Native.Nat.{◌-◌}
-use lib.ListN.{get_or}
-use Rattle.groups.specs.Steps.{renamed}
-use Rattle.groups.proofs.Front.{Writing, writing_renamed, fronts}
+use Rattle.groups.proofs.Front.{writing_renamed, fronts}
 use mathlib.Core.Path.{refl}
 use native.Mathlib.Omega.{arith}
 use Rattle.groups.proofs.group.relabel.Goals as goal

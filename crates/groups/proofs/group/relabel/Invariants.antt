@@ -2,9 +2,7 @@
 use Prim.Native.Nat.{◌-◌}
 use lib.ListN.{get_or}
 use Rattle.groups.specs.Steps.{renamed}
-use Rattle.groups.proofs.Front.{Writing, writing_renamed, fronts}
-use mathlib.Core.Path.{refl}
-use native.Mathlib.Omega.{arith}
+use Rattle.groups.proofs.Front.{Writing}
 use Rattle.groups.proofs.group.relabel.Given as goal
 
 abbrev pub invariant-loop-b : goal.invariant-loop-b

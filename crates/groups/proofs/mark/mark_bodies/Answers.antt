@@ -1,9 +1,7 @@
 -- `groups::mark::mark_bodies` meets its contract. Assumes nothing.
-use Prim.Native.Nat.{◌-◌}
 use native.Mathlib.Omega.{arith}
 use Rattle.loops.proofs.Loop.{loops}
-use Rattle.groups.specs.Together.{links_in, joins_in}
-use Rattle.groups.proofs.Marking.{Telling, telling_none, telling_more, telling_end, telling_a, telling_b, telling_number}
+use Rattle.groups.proofs.Marking.{telling_none, telling_more, telling_end, telling_a, telling_b, telling_number}
 use Rattle.groups.proofs.mark.mark_bodies.Goals as goal
 
 ruleset known = (telling_none, telling_more, telling_end, telling_a, telling_b, telling_number, loops)

@@ -1,6 +1,5 @@
 -- `groups::mass::is_massless` meets its contract. Assumes nothing.
 use mathlib.Core.Path.{ap, ◌∙◌}
-use borrow.Author.Rules.{rules}
 use Rattle.groups.specs.Together.{massless}
 use Rattle.groups.proofs.mass.is_massless.Goals as goal
 

@@ -1,12 +1,8 @@
 -- `job_converter::bits::read_centre_bits` meets its contract: what stands below k is read. Assumes nothing.
 use Prim.Native.Nat.{◌-◌, ◌/◌, ◌%◌}
-use native.Mathlib.Omega.{arith}
 use lib.ListN.{length}
-use Rattle.loops.proofs.Fill.{Fills, fills}
-use Rattle.job_file.proofs.Counted.{filled_count}
+use Rattle.loops.proofs.Fill.{Fills}
 use Rattle.job_file.specs.File.{centre_bits}
-use Rattle.job_file.proofs.Masses.{mass_ends}
-use Rattle.job_writer.specs.JobBits.{section_centre_bits}
 use Rattle.job_converter.proofs.bits.read_centre_bits.Given as goal
 
 abbrev pub invariant-loop-k : goal.invariant-loop-k

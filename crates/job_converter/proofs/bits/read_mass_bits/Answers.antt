@@ -1,10 +1,7 @@
 -- `job_converter::bits::read_mass_bits` meets its contract: what stands below k is read. Assumes nothing.
-use Prim.Native.Nat.{◌-◌, ◌/◌, ◌%◌}
 use native.Mathlib.Omega.{arith}
-use lib.ListN.{length}
-use Rattle.loops.proofs.Fill.{Fills, fills}
+use Rattle.loops.proofs.Fill.{fills}
 use Rattle.job_file.proofs.Counted.{filled_count}
-use Rattle.job_file.specs.File.{mass_bits}
 use Rattle.job_file.proofs.Masses.{mass_inside}
 use Rattle.job_writer.specs.JobBits.{section_mass_bits}
 use Rattle.job_converter.proofs.bits.read_mass_bits.Goals as goal

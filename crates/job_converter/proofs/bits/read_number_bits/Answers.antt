@@ -1,9 +1,6 @@
 -- `job_converter::bits::read_number_bits` meets its contract: what stands below k is read. Assumes nothing.
-use Prim.Native.Nat.{◌-◌, ◌/◌, ◌%◌}
-use lib.ListN.{length}
-use Rattle.loops.proofs.Fill.{Fills, fills}
+use Rattle.loops.proofs.Fill.{fills}
 use Rattle.job_file.proofs.Counted.{filled_count}
-use Rattle.job_file.specs.File.{row_bits}
 use Rattle.job_writer.specs.JobBits.{section_number_bits}
 use Rattle.job_converter.proofs.bits.read_number_bits.Goals as goal
 

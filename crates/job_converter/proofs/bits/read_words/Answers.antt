@@ -1,9 +1,7 @@
 -- `job_converter::bits::read_words` meets its contract: what stands below k is read. Assumes nothing.
-use Prim.Native.Nat.{◌-◌, ◌/◌, ◌%◌}
-use lib.ListN.{length}
-use Rattle.loops.proofs.Fill.{Fills, fills}
+use Rattle.loops.proofs.Fill.{fills}
 use Rattle.job_file.proofs.Counted.{filled_count}
-use Rattle.job_file.specs.File.{row_word, section_words}
+use Rattle.job_file.specs.File.{section_words}
 use Rattle.job_converter.proofs.bits.read_words.Goals as goal
 
 ruleset known = (filled_count, fills)

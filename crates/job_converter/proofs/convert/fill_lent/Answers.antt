@@ -1,6 +1,6 @@
 -- `job_converter::convert::fill_lent` meets its contract. Assumes nothing.
 use mathlib.Core.Path.{ap}
-use Rattle.listing.proofs.Joined.{length_wrote, wrote_as}
+use Rattle.listing.proofs.Joined.{wrote_as}
 use Rattle.job_writer.specs.Written.{written}
 use Rattle.job_converter.proofs.Reading.{lent_read, room_read, job_read}
 use Rattle.job_converter.proofs.convert.fill_lent.Goals as goal
@@ -15,7 +15,7 @@ read_head-head-requires c =
 
 pub fill_job-requires : goal.fill_job-requires
 fill_job-requires c =
-    (lent_read c.requires.opened c.read_head-head.ensures _ _ _ _ c.requires.layout_bound.0 c.requires.bits_room c.numbers-1.given c.words-1.given c.masses-1.given c.centres-1.given, room_read c.requires.opened c.read_head-head.ensures _ _ _ _ _ c.requires.layout_bound.1)
+    (lent_read c.requires.opened c.read_head-head.ensures _ _ _ _ c.requires.layout_bound.0 c.requires.bits_room c.read_bits.auto.numbers c.read_bits.auto.words c.read_bits.auto.masses c.read_bits.auto.centres, room_read c.requires.opened c.read_head-head.ensures _ _ _ _ _ c.requires.layout_bound.1)
 
 pub returns : goal.returns
 returns c =

@@ -21,11 +21,11 @@ overflow_cast-mass_offset c =
 
 pub read_number_bits-requires : goal.read_number_bits-requires
 read_number_bits-requires c =
-    (c.requires.0.rows_Inside, c.requires.1.numbers_long)
+    (c.requires.0.rows_inside, c.requires.1.numbers_long)
 
 pub read_words-requires : goal.read_words-requires
 read_words-requires c =
-    (c.requires.0.rows_Inside, c.requires.1.words_long)
+    (c.requires.0.rows_inside, c.requires.1.words_long)
 
 pub read_mass_bits-requires : goal.read_mass_bits-requires
 read_mass_bits-requires c =

@@ -1,6 +1,5 @@
 -- `job_converter::text::write_refused` meets its contract. Assumes nothing.
-use Rattle.loops.proofs.Loop.{loops}
-use Rattle.listing.proofs.Joined.{room_first, room_rest, wrote_join, length_wrote, room_as, wrote_as}
+use Rattle.listing.proofs.Joined.{room_first, room_rest, wrote_join, room_as, wrote_as}
 use Rattle.job_converter.specs.Program.{refused_line}
 use Rattle.job_converter.proofs.Printing.{convert_name_lem}
 use Rattle.job_converter.proofs.text.write_refused.Goals as goal

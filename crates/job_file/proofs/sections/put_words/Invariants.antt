@@ -1,7 +1,7 @@
 -- `job_file::sections::put_words` meets its contract: of the row, what stands below j is written. Assumes nothing.
 use Prim.Native.Nat.{◌*◌, ◌-◌}
 use Rattle.job_file.specs.File.{row_word}
-use Rattle.job_file.proofs.Written.{Writes, writes}
+use Rattle.job_file.proofs.Written.{Writes}
 use Rattle.job_file.proofs.sections.put_words.Given as goal
 
 abbrev pub invariant-loop-j : goal.invariant-loop-j

@@ -1,10 +1,7 @@
 -- `job_file::sections::read_centres` meets its contract: what stands below k is read. Assumes nothing.
-use Prim.Native.Nat.{◌-◌, ◌/◌, ◌%◌}
 use native.Mathlib.Omega.{arith}
-use lib.Ieee.{nan}
-use lib.ListN.{length}
-use Rattle.loops.proofs.Fill.{Fills, fills}
-use Rattle.job_file.specs.File.{centre_number, section_centres}
+use Rattle.loops.proofs.Fill.{fills}
+use Rattle.job_file.specs.File.{section_centres}
 use Rattle.job_file.proofs.Counted.{filled_count}
 use Rattle.job_file.proofs.Masses.{mass_ends}
 use Rattle.job_file.proofs.sections.read_centres.Goals as goal

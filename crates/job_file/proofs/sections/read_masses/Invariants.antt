@@ -1,12 +1,9 @@
 -- `job_file::sections::read_masses` meets its contract: what stands below k is read. Assumes nothing.
 use Prim.Native.Nat.{◌-◌, ◌/◌, ◌%◌}
-use native.Mathlib.Omega.{arith}
 use lib.Ieee.{nan}
 use lib.ListN.{length}
-use Rattle.loops.proofs.Fill.{Fills, fills}
-use Rattle.job_file.specs.File.{mass_number, section_masses}
-use Rattle.job_file.proofs.Counted.{filled_count}
-use Rattle.job_file.proofs.Masses.{mass_inside}
+use Rattle.loops.proofs.Fill.{Fills}
+use Rattle.job_file.specs.File.{mass_number}
 use Rattle.job_file.proofs.sections.read_masses.Given as goal
 
 abbrev pub invariant-loop-k : goal.invariant-loop-k

@@ -1,11 +1,8 @@
 -- `job_stream::program::move_down` meets its contract. Assumes nothing.
 use Prim.Native.Nat.{◌-◌, ◌≤◌}
 use mathlib.Core.Path.{◌≡◌}
-use native.Mathlib.Omega.{arith}
 use lib.ListN.{length, drop}
 use lib.Seq.{paste}
-use borrow.Author.Rules.{rules}
-use Rattle.job_stream.proofs.Moved.{moved_more, moved_all}
 use Rattle.job_stream.proofs.program.move_down.Given as goal
 
 abbrev pub invariant-loop-j : goal.invariant-loop-j

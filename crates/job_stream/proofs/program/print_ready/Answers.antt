@@ -1,12 +1,9 @@
 -- `job_stream::program::print_ready` meets its contract, and ends: each turn reads a byte at least. Assumes nothing.
-use Prim.Native.Nat.{◌-◌, ◌≤◌}
-use mathlib.Core.Path.{◌≡◌, refl, sym}
+use mathlib.Core.Path.{refl}
 use native.Mathlib.Omega.{arith}
-use lib.ListN.{length}
-use lib.Seq.{length-take-le}
 use borrow.Author.Rules.{rules}
-use Rattle.job_stream.proofs.Progress.{kept_few, none_goes, some_read, wrote_within}
-use Rattle.job_stream.proofs.Printing.{Upto, upto_none, upto_on, upto_left, upto_past}
+use Rattle.job_stream.proofs.Progress.{kept_few, none_goes, some_read}
+use Rattle.job_stream.proofs.Printing.{upto_none, upto_on, upto_left, upto_past}
 use Rattle.job_stream.proofs.program.print_ready.Goals as goal
 
 pub loop-at-init : goal.loop-at-init
@@ -16,10 +13,6 @@ loop-at-init c =
 pub returns-then-jobs-next : goal.returns-then-jobs-next
 returns-then-jobs-next c =
     record { left = upto_left c.loop-at.invariant.0 (none_goes c.args.bytes.now c.loop-at.at c.write_jobs-jobs.ensures (search rules) (search rules) (omega (arith, c.requires)) (search rules)) refl (omega arith) (kept_few c.args.bytes.now c.loop-at.at c.write_jobs-jobs.ensures (search rules) (search rules) (omega (arith, c.requires)) (search rules)) }
-
-pub slice_bounds-write_output-end-in-loop-at : goal.slice_bounds-write_output-end-in-loop-at
-slice_bounds-write_output-end-in-loop-at c =
-    wrote_within c.write_jobs-jobs.ensures
 
 pub returns-then-left-jobs : goal.returns-then-left-jobs
 returns-then-left-jobs c =

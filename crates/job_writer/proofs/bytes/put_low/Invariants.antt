@@ -1,10 +1,7 @@
 -- `job_writer::bytes::put_low` meets its contract: the bytes below k are written. Assumes nothing.
-use native.Mathlib.Omega.{arith}
 use Prim.Native.Nat.{◌-◌, ◌*◌, ◌/◌, ◌%◌, ◌^◌}
 use mathlib.Core.List.{[], ◌∷◌}
-use Rattle.loops.proofs.Loop.{loops}
-use Rattle.listing.proofs.Pieces.{Writing, writing_none, writing_room, writing_more, writing_length, writing_end}
-use Rattle.job_writer.specs.Bytes.{little}
+use Rattle.listing.proofs.Pieces.{Writing}
 use Rattle.job_writer.proofs.bytes.put_low.Given as goal
 
 abbrev pub invariant-loop-k : goal.invariant-loop-k

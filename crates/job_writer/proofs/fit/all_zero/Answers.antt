@@ -1,8 +1,5 @@
 -- `job_writer::fit::all_zero` meets its contract: the numbers below k have passed. Assumes nothing.
-use Prim.Native.Nat.{◌-◌}
-use lib.Dec.{eqb}
-use lib.ListN.{length, get_or}
-use Rattle.loops.proofs.Every.{Holds, holds}
+use Rattle.loops.proofs.Every.{holds}
 use Rattle.loops.proofs.Loop.{loops}
 use Rattle.job_writer.proofs.fit.all_zero.Goals as goal
 

@@ -2,8 +2,7 @@
 use Prim.Native.Nat.{◌-◌}
 use lib.Dec.{eqb}
 use lib.ListN.{length, get_or}
-use Rattle.loops.proofs.Every.{Holds, holds}
-use Rattle.loops.proofs.Loop.{loops}
+use Rattle.loops.proofs.Every.{Holds}
 use Rattle.job_writer.proofs.fit.all_zero.Given as goal
 
 abbrev pub invariant-loop-k : goal.invariant-loop-k

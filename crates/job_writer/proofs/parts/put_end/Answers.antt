@@ -1,5 +1,5 @@
 -- `job_writer::parts::put_end` meets its contract. Assumes nothing.
-use Rattle.listing.proofs.Joined.{room_first, room_rest, wrote_join, length_wrote}
+use Rattle.listing.proofs.Joined.{room_first, room_rest, wrote_join}
 use Rattle.job_writer.specs.Written.{written_end}
 use Rattle.job_writer.proofs.parts.put_end.Goals as goal
 

@@ -1,9 +1,7 @@
 -- `job_writer::parts::put_masses` meets its contract: the masses below b are written. Assumes nothing.
 use native.Mathlib.Omega.{arith}
-use Prim.Native.Nat.{◌-◌}
 use Rattle.loops.proofs.Loop.{loops}
-use Rattle.listing.proofs.Pieces.{Writing, writing_none, writing_room, writing_more, writing_length, writing_end}
-use Rattle.job_writer.specs.Written.{written_mass}
+use Rattle.listing.proofs.Pieces.{writing_none, writing_room, writing_more, writing_end}
 use Rattle.job_writer.proofs.parts.put_masses.Goals as goal
 
 pub loop-b-init : goal.loop-b-init

@@ -1,8 +1,6 @@
 -- `job_writer::parts::put_masses` meets its contract: the masses below b are written. Assumes nothing.
-use native.Mathlib.Omega.{arith}
 use Prim.Native.Nat.{◌-◌}
-use Rattle.loops.proofs.Loop.{loops}
-use Rattle.listing.proofs.Pieces.{Writing, writing_none, writing_room, writing_more, writing_length, writing_end}
+use Rattle.listing.proofs.Pieces.{Writing}
 use Rattle.job_writer.specs.Written.{written_mass}
 use Rattle.job_writer.proofs.parts.put_masses.Given as goal
 

@@ -1,7 +1,7 @@
 -- `job_writer::parts::put_row` meets its contract. Assumes nothing.
 use native.Mathlib.Omega.{arith}
 use Rattle.loops.proofs.Loop.{loops}
-use Rattle.listing.proofs.Joined.{room_first, room_rest, wrote_join, length_wrote}
+use Rattle.listing.proofs.Joined.{room_first, room_rest, wrote_join}
 use Rattle.job_writer.specs.Written.{written_row}
 use Rattle.job_writer.proofs.parts.put_row.Goals as goal
 

@@ -1,9 +1,7 @@
 -- `job_writer::parts::put_rows` meets its contract: the rows below i are written. Assumes nothing.
 use native.Mathlib.Omega.{arith}
-use Prim.Native.Nat.{◌-◌}
 use Rattle.loops.proofs.Loop.{loops}
-use Rattle.listing.proofs.Pieces.{Writing, writing_none, writing_room, writing_more, writing_length, writing_end}
-use Rattle.job_writer.specs.Written.{written_row}
+use Rattle.listing.proofs.Pieces.{writing_none, writing_room, writing_more, writing_end}
 use Rattle.job_writer.proofs.parts.put_rows.Goals as goal
 
 pub loop-i-init : goal.loop-i-init

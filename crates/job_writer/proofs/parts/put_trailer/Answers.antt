@@ -1,6 +1,6 @@
 -- `job_writer::parts::put_trailer` meets its contract. Assumes nothing.
 use Rattle.loops.proofs.Loop.{loops}
-use Rattle.listing.proofs.Joined.{room_first, room_rest, wrote_join, length_wrote, room_as, wrote_as}
+use Rattle.listing.proofs.Joined.{room_first, room_rest, wrote_join, room_as, wrote_as}
 use Rattle.job_writer.specs.Written.{written_trailer}
 use Rattle.job_writer.proofs.Sizes.{end_as}
 use Rattle.job_writer.proofs.parts.put_trailer.Goals as goal

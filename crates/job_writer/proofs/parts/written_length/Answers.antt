@@ -5,7 +5,6 @@ use mathlib.Core.Bool.{true, false, ◌&&◌}
 use lib.Dec.{leb}
 use borrow.Author.Tests.{leb-true, not-true, not-false}
 use Rattle.loops.proofs.Both.{both}
-use Rattle.loops.proofs.Loop.{loops}
 use Rattle.job_writer.specs.Written.{file_length, written_length}
 use Rattle.job_writer.proofs.parts.written_length.Goals as goal
 

@@ -2,7 +2,6 @@
 use native.Mathlib.Omega.{arith}
 use Rattle.loops.proofs.Loop.{loops}
 use Rattle.job_writer.specs.Refusals.{written_of}
-use Rattle.listing.proofs.Joined.{length_wrote}
 use Rattle.job_writer.proofs.Sizes.{room_whole, wrote_whole}
 use Rattle.job_writer.proofs.Ways.{held, failed, answers_refused, answers_written, way_2, way_3, way_4, way_24, way_written, few, lent, words_long, out_long}
 use Rattle.job_writer.proofs.whole.write_job.Goals as goal

@@ -1,8 +1,5 @@
 -- `joint_refusals::judge::centres_finite` meets its contract: the centres below b have passed. Assumes nothing.
-use Prim.Native.Nat.{◌-◌, ◌*◌}
-use Rattle.loops.proofs.Every.{called, Holds}
-use Rattle.kapitsa_math.specs.Lent.{vec_of}
-use Rattle.kapitsa_math.specs.Vector.{is_finite_of}
+use Rattle.loops.proofs.Every.{called}
 use Rattle.joint_refusals.specs.Refusals.{centres_finite}
 use Rattle.joint_refusals.proofs.judge.centres_finite.Goals as goal
 

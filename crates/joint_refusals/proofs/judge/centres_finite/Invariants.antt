@@ -1,9 +1,8 @@
 -- `joint_refusals::judge::centres_finite` meets its contract: the centres below b have passed. Assumes nothing.
 use Prim.Native.Nat.{◌-◌, ◌*◌}
-use Rattle.loops.proofs.Every.{called, Holds}
+use Rattle.loops.proofs.Every.{Holds}
 use Rattle.kapitsa_math.specs.Lent.{vec_of}
 use Rattle.kapitsa_math.specs.Vector.{is_finite_of}
-use Rattle.joint_refusals.specs.Refusals.{centres_finite}
 use Rattle.joint_refusals.proofs.judge.centres_finite.Given as goal
 
 abbrev pub invariant-loop-b : goal.invariant-loop-b

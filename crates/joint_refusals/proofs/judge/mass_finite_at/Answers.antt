@@ -1,5 +1,4 @@
 -- `joint_refusals::judge::mass_finite_at` meets its contract. Assumes nothing.
-use borrow.Author.Rules.{rules}
 use Rattle.joint_refusals.proofs.judge.mass_finite_at.Goals as goal
 
 pub returns : goal.returns

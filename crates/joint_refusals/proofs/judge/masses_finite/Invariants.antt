@@ -1,6 +1,5 @@
 -- `joint_refusals::judge::masses_finite` meets its contract: the bodies below b have passed. Assumes nothing.
 use Prim.Native.Nat.{◌-◌}
-use Rattle.loops.proofs.Every.{called}
 use Rattle.kapitsa_joint.specs.Mass.{mass_of}
 use Rattle.joint_refusals.specs.Refusals.{mass_finite_of}
 use Rattle.loops.proofs.Every.{Holds}

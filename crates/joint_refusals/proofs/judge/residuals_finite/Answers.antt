@@ -1,9 +1,5 @@
 -- `joint_refusals::judge::residuals_finite` meets its contract: the numbers below i have passed. Assumes nothing.
-use Prim.Native.Nat.{◌-◌}
-use lib.ListN.{get_or}
-use lib.Ieee.{nan}
-use lib.Ieee.Scale.{finite}
-use Rattle.loops.proofs.Every.{called, Holds}
+use Rattle.loops.proofs.Every.{called}
 use Rattle.joint_refusals.specs.Refusals.{passes20}
 use Rattle.joint_refusals.proofs.judge.residuals_finite.Goals as goal
 

@@ -3,8 +3,7 @@ use Prim.Native.Nat.{◌-◌}
 use lib.ListN.{get_or}
 use lib.Ieee.{nan}
 use lib.Ieee.Scale.{finite}
-use Rattle.loops.proofs.Every.{called, Holds}
-use Rattle.joint_refusals.specs.Refusals.{passes20}
+use Rattle.loops.proofs.Every.{Holds}
 use Rattle.joint_refusals.proofs.judge.residuals_finite.Given as goal
 
 abbrev pub invariant-loop-i : goal.invariant-loop-i

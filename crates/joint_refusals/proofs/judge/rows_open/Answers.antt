@@ -1,9 +1,5 @@
 -- `joint_refusals::judge::rows_open` meets its contract: the rows below i have passed. Assumes nothing.
-use Prim.Native.Nat.{◌*◌, ◌+◌, ◌-◌}
 use Rattle.loops.proofs.Every.{called}
-use Rattle.joint_refusals.specs.Refusals.{opens_of}
-use Rattle.kapitsa_joint.specs.Row.{scalars_of, words_of}
-use Rattle.loops.proofs.Every.{Holds}
 use Rattle.joint_refusals.proofs.judge.rows_open.Goals as goal
 
 pub loop-i-init : goal.loop-i-init

@@ -1,9 +1,5 @@
 -- `joint_refusals::judge::words_fit` meets its contract: the rows below i have passed. Assumes nothing.
-use Prim.Native.Nat.{◌*◌, ◌-◌}
 use Rattle.loops.proofs.Every.{called}
-use Rattle.joint_refusals.specs.Refusals.{words_fit_of}
-use Rattle.kapitsa_joint.specs.Row.{words_of}
-use Rattle.loops.proofs.Every.{Holds}
 use Rattle.joint_refusals.proofs.judge.words_fit.Goals as goal
 
 pub loop-i-init : goal.loop-i-init

@@ -1,5 +1,4 @@
 -- `kapitsa_joint::kind::is_velocity` meets its contract. Assumes nothing.
-use borrow.Author.Rules.{rules}
 use Rattle.kapitsa_joint.proofs.kind.is_velocity.Goals as goal
 
 pub returns-in-Position : goal.returns-in-Position

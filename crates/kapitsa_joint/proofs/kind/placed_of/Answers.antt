@@ -1,5 +1,4 @@
 -- `kapitsa_joint::kind::placed_of` meets its contract. Assumes nothing.
-use borrow.Author.Rules.{rules}
 use Rattle.kapitsa_joint.proofs.kind.placed_of.Goals as goal
 
 pub returns-in-Position : goal.returns-in-Position

@@ -1,6 +1,5 @@
 -- `kapitsa_joint::row::scalars_at` meets its contract. Assumes nothing.
 use mathlib.Core.Path.{refl}
-use borrow.Author.Rules.{rules}
 use Rattle.kapitsa_joint.specs.Row.{scalars_of}
 use Rattle.kapitsa_joint.proofs.row.scalars_at.Goals as goal
 

@@ -1,6 +1,5 @@
 -- `kapitsa_joint::row::words_at` meets its contract. Assumes nothing.
 use mathlib.Core.Path.{refl}
-use borrow.Author.Rules.{rules}
 use Rattle.kapitsa_joint.specs.Row.{words_of}
 use Rattle.kapitsa_joint.proofs.row.words_at.Goals as goal
 

@@ -1,6 +1,5 @@
 -- `kapitsa_math::lent::spread_at` meets its contract. Assumes nothing.
 use mathlib.Core.Path.{refl}
-use borrow.Author.Rules.{rules}
 use Rattle.kapitsa_math.specs.Lent.{spread_of}
 use Rattle.kapitsa_math.proofs.lent.spread_at.Goals as goal
 

@@ -1,6 +1,5 @@
 -- `kapitsa_math::lent::vec_at` meets its contract. Assumes nothing.
 use mathlib.Core.Path.{refl}
-use borrow.Author.Rules.{rules}
 use Rattle.kapitsa_math.specs.Lent.{vec_of}
 use Rattle.kapitsa_math.proofs.lent.vec_at.Goals as goal
 

@@ -1,6 +1,5 @@
 -- `listing::digits::put_decimal` meets its contract. Assumes nothing.
 use native.Mathlib.Omega.{arith}
-use Rattle.listing.proofs.Joined.{length_wrote}
 use Rattle.listing.proofs.Decimal.{room_small, wrote_small, room_tenth, room_last, wrote_last}
 use Rattle.listing.proofs.digits.+put_decimal.Goals as goal
 

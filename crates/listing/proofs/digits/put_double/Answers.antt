@@ -2,7 +2,7 @@
 use Rattle.loops.proofs.Loop.{loops}
 use mathlib.Core.List.{[], ◌∷◌}
 use Rattle.listing.specs.Digits.{double}
-use Rattle.listing.proofs.Joined.{room_first, room_rest, wrote_join, length_wrote}
+use Rattle.listing.proofs.Joined.{room_first, room_rest, wrote_join}
 use Rattle.listing.proofs.digits.put_double.Goals as goal
 
 pub put_byte-next-requires : goal.put_byte-next-requires

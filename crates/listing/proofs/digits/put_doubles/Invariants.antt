@@ -1,11 +1,9 @@
 -- `listing::digits::put_doubles` meets its contract: the numbers below k are written. Assumes nothing.
-use native.Mathlib.Omega.{arith}
 use Prim.Native.Nat.{◌-◌, ◌+◌}
 use lib.ListN.{get_or}
 use lib.Ieee.{nan}
-use Rattle.loops.proofs.Loop.{loops}
-use Rattle.listing.proofs.Pieces.{Writing, writing_none, writing_room, writing_more, writing_length, writing_end}
-use Rattle.listing.specs.Digits.{double, doubles}
+use Rattle.listing.proofs.Pieces.{Writing}
+use Rattle.listing.specs.Digits.{double}
 use Rattle.listing.proofs.digits.put_doubles.Given as goal
 
 abbrev pub invariant-loop-k : goal.invariant-loop-k

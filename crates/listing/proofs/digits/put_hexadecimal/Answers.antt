@@ -1,12 +1,9 @@
 -- `listing::digits::put_hexadecimal` meets its contract: the digits below k are written. Assumes nothing.
-use Prim.Native.Nat.{◌-◌, ◌*◌, ◌/◌, ◌%◌, ◌^◌}
-use mathlib.Core.List.{[], ◌∷◌}
 use Rattle.loops.proofs.Loop.{loops}
-use Rattle.listing.specs.Digits.{hexadecimal_digit, hexadecimal}
-use Rattle.listing.proofs.Pieces.{Writing}
+use Rattle.listing.specs.Digits.{hexadecimal}
 use native.Mathlib.Omega.{arith}
 use Rattle.listing.proofs.Joined.{room_byte, wrote_byte}
-use Rattle.listing.proofs.Pieces.{writing_none, writing_room, writing_more, writing_length, writing_end}
+use Rattle.listing.proofs.Pieces.{writing_none, writing_room, writing_more, writing_end}
 use Rattle.listing.proofs.digits.put_hexadecimal.Goals as goal
 
 pub loop-k-init : goal.loop-k-init

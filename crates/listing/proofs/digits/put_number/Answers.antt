@@ -1,7 +1,7 @@
 -- `listing::digits::put_number` meets its contract. Assumes nothing.
 use mathlib.Core.List.{[], ◌∷◌}
 use Rattle.listing.specs.Digits.{number}
-use Rattle.listing.proofs.Joined.{room_first, room_rest, wrote_join, length_wrote}
+use Rattle.listing.proofs.Joined.{room_first, room_rest, wrote_join}
 use Rattle.listing.proofs.digits.put_number.Goals as goal
 
 pub put_byte-next-requires : goal.put_byte-next-requires

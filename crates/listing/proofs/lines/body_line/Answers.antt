@@ -2,7 +2,7 @@
 use native.Mathlib.Omega.{arith}
 use Rattle.loops.proofs.Loop.{loops}
 use Rattle.listing.specs.Lines.{body_line}
-use Rattle.listing.proofs.Joined.{room_first, room_rest, wrote_join, length_wrote, room_as, wrote_as}
+use Rattle.listing.proofs.Joined.{room_first, room_rest, wrote_join, room_as, wrote_as}
 use Rattle.listing.proofs.Names.{body_name_lem, centre_most, doubles_as}
 use Rattle.listing.proofs.lines.body_line.Goals as goal
 

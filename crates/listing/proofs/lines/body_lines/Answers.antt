@@ -1,9 +1,7 @@
 -- `listing::lines::body_lines` meets its contract: the lines below b are written. Assumes nothing.
 use native.Mathlib.Omega.{arith}
-use Prim.Native.Nat.{◌-◌}
 use Rattle.loops.proofs.Loop.{loops}
-use Rattle.listing.proofs.Pieces.{Writing, writing_none, writing_room, writing_more, writing_length, writing_end}
-use Rattle.listing.specs.Lines.{body_line}
+use Rattle.listing.proofs.Pieces.{writing_none, writing_room, writing_more, writing_end}
 use Rattle.listing.specs.Listing.{body_lines}
 use Rattle.listing.proofs.lines.body_lines.Goals as goal
 

@@ -1,7 +1,6 @@
 -- `listing::lines::carried_line` meets its contract. Assumes nothing.
-use Rattle.loops.proofs.Loop.{loops}
 use Rattle.listing.specs.Lines.{carried_line}
-use Rattle.listing.proofs.Joined.{room_first, room_rest, wrote_join, length_wrote, room_as, wrote_as}
+use Rattle.listing.proofs.Joined.{room_first, room_rest, wrote_join, room_as, wrote_as}
 use Rattle.listing.proofs.Names.{carried_name_lem}
 use Rattle.listing.proofs.lines.carried_line.Goals as goal
 

@@ -1,11 +1,10 @@
 -- `listing::lines::gap_lines` meets its contract: the lines below i are written. Assumes nothing.
-use Prim.Native.Nat.{◌-◌}
 use native.Mathlib.Omega.{arith}
 use Rattle.loops.proofs.Loop.{loops}
-use Rattle.listing.specs.Listing.{row_gap, gap_lines}
+use Rattle.listing.specs.Listing.{gap_lines}
 use Rattle.listing.proofs.Joined.{room_as, wrote_as}
 use Rattle.listing.proofs.Names.{rule_below, row_gap_as}
-use Rattle.listing.proofs.Pieces.{Writing, writing_none, writing_room, writing_more, writing_length, writing_end}
+use Rattle.listing.proofs.Pieces.{writing_none, writing_room, writing_more, writing_end}
 use Rattle.listing.proofs.lines.gap_lines.Goals as goal
 
 pub loop-i-init : goal.loop-i-init

@@ -1,11 +1,7 @@
 -- `listing::lines::gap_lines` meets its contract: the lines below i are written. Assumes nothing.
 use Prim.Native.Nat.{◌-◌}
-use native.Mathlib.Omega.{arith}
-use Rattle.loops.proofs.Loop.{loops}
-use Rattle.listing.specs.Listing.{row_gap, gap_lines}
-use Rattle.listing.proofs.Joined.{room_as, wrote_as}
-use Rattle.listing.proofs.Names.{rule_below, row_gap_as}
-use Rattle.listing.proofs.Pieces.{Writing, writing_none, writing_room, writing_more, writing_length, writing_end}
+use Rattle.listing.specs.Listing.{row_gap}
+use Rattle.listing.proofs.Pieces.{Writing}
 use Rattle.listing.proofs.lines.gap_lines.Given as goal
 
 abbrev pub invariant-loop-i : goal.invariant-loop-i

@@ -1,11 +1,7 @@
 -- `listing::lines::margin_lines` meets its contract: the lines below k are written. Assumes nothing.
 use native.Mathlib.Omega.{arith}
-use Prim.Native.Nat.{◌-◌}
-use lib.ListN.{get_or}
-use lib.Ieee.{nan}
 use Rattle.loops.proofs.Loop.{loops}
-use Rattle.listing.proofs.Pieces.{Writing, writing_none, writing_room, writing_more, writing_length, writing_end}
-use Rattle.listing.specs.Lines.{margin_line}
+use Rattle.listing.proofs.Pieces.{writing_none, writing_room, writing_more, writing_end}
 use Rattle.listing.specs.Listing.{margin_lines}
 use Rattle.listing.proofs.lines.margin_lines.Goals as goal
 

@@ -1,5 +1,5 @@
 -- `listing::lines::measured_line` meets its contract. Assumes nothing.
-use Rattle.listing.proofs.Joined.{length_wrote, room_as, wrote_as}
+use Rattle.listing.proofs.Joined.{room_as, wrote_as}
 use Rattle.listing.proofs.Names.{measured_gap, measured_none}
 use Rattle.listing.proofs.lines.measured_line.Goals as goal
 

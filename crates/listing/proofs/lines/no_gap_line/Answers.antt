@@ -1,7 +1,6 @@
 -- `listing::lines::no_gap_line` meets its contract. Assumes nothing.
-use Rattle.loops.proofs.Loop.{loops}
 use Rattle.listing.specs.Lines.{no_gap_line}
-use Rattle.listing.proofs.Joined.{room_first, room_rest, wrote_join, length_wrote, room_as, wrote_as}
+use Rattle.listing.proofs.Joined.{room_first, room_rest, wrote_join, room_as, wrote_as}
 use Rattle.listing.proofs.Names.{gap_name_lem, none_name_lem}
 use Rattle.listing.proofs.lines.no_gap_line.Goals as goal
 

@@ -1,6 +1,6 @@
 -- `listing::lines::put_maxima` meets its contract. Assumes nothing.
 use Rattle.listing.specs.Lines.{maxima_words}
-use Rattle.listing.proofs.Joined.{room_first, room_rest, wrote_join, length_wrote}
+use Rattle.listing.proofs.Joined.{room_first, room_rest, wrote_join}
 use Rattle.listing.proofs.lines.put_maxima.Goals as goal
 
 pub put_double-a-requires : goal.put_double-a-requires

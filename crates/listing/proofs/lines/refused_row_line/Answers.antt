@@ -1,7 +1,6 @@
 -- `listing::lines::refused_row_line` meets its contract. Assumes nothing.
-use Rattle.loops.proofs.Loop.{loops}
 use Rattle.listing.specs.Lines.{refused_row_line}
-use Rattle.listing.proofs.Joined.{room_first, room_rest, wrote_join, length_wrote, room_as, wrote_as}
+use Rattle.listing.proofs.Joined.{room_first, room_rest, wrote_join, room_as, wrote_as}
 use Rattle.listing.proofs.Names.{refused_name_lem, of_row_name}
 use Rattle.listing.proofs.lines.refused_row_line.Goals as goal
 

@@ -1,7 +1,6 @@
 -- `listing::lines::row_line` meets its contract. Assumes nothing.
-use Rattle.loops.proofs.Loop.{loops}
 use Rattle.listing.specs.Lines.{row_line}
-use Rattle.listing.proofs.Joined.{room_first, room_rest, wrote_join, length_wrote, room_as, wrote_as}
+use Rattle.listing.proofs.Joined.{room_first, room_rest, wrote_join, room_as, wrote_as}
 use Rattle.listing.proofs.Names.{row_name_lem}
 use Rattle.listing.proofs.lines.row_line.Goals as goal
 

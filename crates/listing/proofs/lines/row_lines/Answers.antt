@@ -1,11 +1,7 @@
 -- `listing::lines::row_lines` meets its contract: the lines below i are written. Assumes nothing.
 use native.Mathlib.Omega.{arith}
-use Prim.Native.Nat.{◌-◌, ◌*◌, ◌+◌}
-use lib.ListN.{get_or}
-use lib.Ieee.{nan}
 use Rattle.loops.proofs.Loop.{loops}
-use Rattle.listing.proofs.Pieces.{Writing, writing_none, writing_room, writing_more, writing_length, writing_end}
-use Rattle.listing.specs.Lines.{row_line}
+use Rattle.listing.proofs.Pieces.{writing_none, writing_room, writing_more, writing_end}
 use Rattle.listing.specs.Listing.{row_lines}
 use Rattle.listing.proofs.lines.row_lines.Goals as goal
 

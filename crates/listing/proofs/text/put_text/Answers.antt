@@ -1,8 +1,6 @@
 -- `listing::text::put_text` meets its contract: the bytes below j are written. Assumes nothing.
-use Prim.Native.Nat.{◌-◌}
-use lib.ListN.{length}
 use Rattle.loops.proofs.Loop.{loops}
-use Rattle.listing.proofs.Pieces.{Writing, byte_of, by_bytes, writing_none, writing_room, writing_more, writing_length, writing_end}
+use Rattle.listing.proofs.Pieces.{by_bytes, writing_none, writing_room, writing_more, writing_end}
 use native.Mathlib.Omega.{arith}
 use Rattle.listing.proofs.text.put_text.Goals as goal
 

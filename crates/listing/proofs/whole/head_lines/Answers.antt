@@ -1,7 +1,7 @@
 -- `listing::whole::head_lines` meets its contract. Assumes nothing.
 use Rattle.loops.proofs.Loop.{loops}
 use Rattle.listing.specs.Listing.{head_lines}
-use Rattle.listing.proofs.Joined.{room_first, room_rest, wrote_join, length_wrote, room_as, wrote_as}
+use Rattle.listing.proofs.Joined.{room_first, room_rest, wrote_join, room_as, wrote_as}
 use Rattle.listing.proofs.Names.{flag_line}
 use Rattle.listing.proofs.whole.head_lines.Goals as goal
 

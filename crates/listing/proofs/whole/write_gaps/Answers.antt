@@ -1,5 +1,5 @@
 -- `listing::whole::write_gaps` meets its contract. Assumes nothing.
-use Rattle.listing.proofs.Joined.{room_rest, wrote_join, length_wrote, room_as, wrote_as}
+use Rattle.listing.proofs.Joined.{room_rest, wrote_join, room_as, wrote_as}
 use Rattle.listing.proofs.Names.{gaps_some, gaps_none, gaps_head}
 use Rattle.listing.proofs.whole.write_gaps.Goals as goal
 

@@ -1,6 +1,6 @@
 -- `listing::whole::write_listing` meets its contract. Assumes nothing.
 use Rattle.listing.specs.Listing.{listing_of}
-use Rattle.listing.proofs.Joined.{room_first, room_rest, wrote_join, length_wrote}
+use Rattle.listing.proofs.Joined.{room_first, room_rest, wrote_join}
 use Rattle.listing.proofs.whole.write_listing.Goals as goal
 
 pub head_lines-head-requires : goal.head_lines-head-requires

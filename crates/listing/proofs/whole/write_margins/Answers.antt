@@ -1,6 +1,6 @@
 -- `listing::whole::write_margins` meets its contract. Assumes nothing.
 use native.Mathlib.Omega.{arith}
-use Rattle.listing.proofs.Joined.{room_rest, wrote_join, length_wrote, room_as, wrote_as}
+use Rattle.listing.proofs.Joined.{room_rest, wrote_join, room_as, wrote_as}
 use Rattle.listing.proofs.Names.{margins_some, margins_none, margins_head}
 use Rattle.listing.proofs.whole.write_margins.Goals as goal
 

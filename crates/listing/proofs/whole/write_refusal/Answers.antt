@@ -1,6 +1,5 @@
 -- `listing::whole::write_refusal` meets its contract. Assumes nothing.
 use Rattle.listing.specs.Listing.{refused_listing}
-use Rattle.listing.proofs.Joined.{length_wrote}
 use Rattle.listing.proofs.whole.write_refusal.Goals as goal
 
 pub solve_line-requires : goal.solve_line-requires

@@ -1,5 +1,5 @@
 -- `listing::whole::write_refused_limit` meets its contract. Assumes nothing.
-use Rattle.listing.proofs.Joined.{room_first, room_rest, wrote_join, length_wrote}
+use Rattle.listing.proofs.Joined.{room_first, room_rest, wrote_join}
 use Rattle.listing.proofs.whole.write_refused_limit.Goals as goal
 
 pub write_refusal-next-requires : goal.write_refusal-next-requires

@@ -1,10 +1,6 @@
 -- `mass_operator::finite::all_finite` meets its contract: so far it tells whether the numbers below i are finite. Assumes nothing.
-use Prim.Native.Nat.{◌-◌}
-use lib.Ieee.{nan}
-use lib.Ieee.Scale.{finite}
-use lib.ListN.{get_or, length}
 use Rattle.mass_operator.specs.Applied.{all_finite_of}
-use Rattle.mass_operator.proofs.AllFinite.{SoFar, sofar}
+use Rattle.mass_operator.proofs.AllFinite.{sofar}
 use Rattle.mass_operator.proofs.finite.all_finite.Goals as goal
 
 pub loop-i-init : goal.loop-i-init

@@ -3,8 +3,7 @@ use Prim.Native.Nat.{◌-◌}
 use lib.Ieee.{nan}
 use lib.Ieee.Scale.{finite}
 use lib.ListN.{get_or, length}
-use Rattle.mass_operator.specs.Applied.{all_finite_of}
-use Rattle.mass_operator.proofs.AllFinite.{SoFar, sofar}
+use Rattle.mass_operator.proofs.AllFinite.{SoFar}
 use Rattle.mass_operator.proofs.finite.all_finite.Given as goal
 
 abbrev pub invariant-loop-i : goal.invariant-loop-i

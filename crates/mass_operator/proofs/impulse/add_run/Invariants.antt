@@ -1,11 +1,8 @@
 -- `mass_operator::impulse::add_run` meets its contract: the rows from `first` up to i are on the bodies that are held. Assumes nothing.
 use Prim.Native.Nat.{◌-◌}
-use native.Mathlib.Omega.{arith}
 use lib.ListN.{length}
-use Rattle.loops.proofs.Loop.{loops}
 use Rattle.mass_operator.specs.Flat.{coefficients}
 use Rattle.mass_operator.specs.BodyPair.{RunAdded}
-use Rattle.mass_operator.proofs.BodyPairs.{run_begun, run_on}
 use Rattle.mass_operator.proofs.impulse.add_run.Given as goal
 
 abbrev pub invariant-loop-i : goal.invariant-loop-i

@@ -1,11 +1,6 @@
 -- `mass_operator::impulse::sum_impulses` meets its contract: between two runs the slice has the impulses of the rows below i. Assumes nothing.
-use Prim.Native.Nat.{◌-◌, ◌≤◌}
 use native.Mathlib.Omega.{arith}
-use lib.ListN.{length}
 use Rattle.loops.proofs.Loop.{loops}
-use Rattle.compact_table.specs.Compact.{compact_of}
-use Rattle.mass_operator.specs.Flat.{coefficients}
-use Rattle.mass_operator.specs.Lent.{Summing}
 use Rattle.mass_operator.proofs.BodyPairs.{put_back}
 use Rattle.mass_operator.proofs.Room.{held_a, held_b, linked_a, linked_b}
 use Rattle.mass_operator.proofs.Sums.{all_rows, none_yet}

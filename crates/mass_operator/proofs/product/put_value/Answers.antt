@@ -1,6 +1,4 @@
 -- `mass_operator::product::put_value` meets its contract. Assumes nothing.
-use mathlib.Core.Path.{refl}
-use borrow.Author.Rules.{rules}
 use Rattle.mass_operator.proofs.product.put_value.Goals as goal
 
 pub returns : goal.returns

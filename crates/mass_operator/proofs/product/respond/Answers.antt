@@ -1,7 +1,6 @@
 -- `mass_operator::product::respond` meets its contract: the bodies below b have their response. Assumes nothing.
-use Prim.Native.Nat.{◌-◌, ◌≤◌}
 use Rattle.loops.proofs.Loop.{loops}
-use Rattle.mass_operator.proofs.Sums.{Turned, turned_all, turned_more, turned_none}
+use Rattle.mass_operator.proofs.Sums.{turned_all, turned_more, turned_none}
 use Rattle.mass_operator.proofs.product.respond.Goals as goal
 
 ruleset known = (turned_none, turned_more, turned_all, loops)

@@ -1,7 +1,6 @@
 -- `mass_operator::product::respond` meets its contract: the bodies below b have their response. Assumes nothing.
 use Prim.Native.Nat.{◌-◌, ◌≤◌}
-use Rattle.loops.proofs.Loop.{loops}
-use Rattle.mass_operator.proofs.Sums.{Turned, turned_all, turned_more, turned_none}
+use Rattle.mass_operator.proofs.Sums.{Turned}
 use Rattle.mass_operator.proofs.product.respond.Given as goal
 
 abbrev pub invariant-loop-b : goal.invariant-loop-b

@@ -1,5 +1,4 @@
 -- `mass_operator::product::respond_at` meets its contract. Assumes nothing.
-use borrow.Author.Rules.{rules}
 use Rattle.mass_operator.proofs.product.respond_at.Goals as goal
 
 pub returns : goal.returns

@@ -1,12 +1,7 @@
 -- `mass_operator::product::value_run` meets its contract: the rows below i have their value, and those are summed. Assumes nothing.
-use Prim.Native.Nat.{◌-◌, ◌<◌}
 use mathlib.Core.Path.{refl}
 use native.Mathlib.Omega.{arith}
-use lib.ListN.{length}
 use Rattle.loops.proofs.Loop.{loops}
-use Rattle.compact_table.specs.Compact.{compact_of}
-use Rattle.mass_operator.specs.Lent.{value_in}
-use Rattle.mass_operator.specs.BodyPair.{Valued}
 use Rattle.mass_operator.proofs.BodyPairs.{value_held, value_on}
 use Rattle.mass_operator.proofs.Values.{valued_more}
 use Rattle.mass_operator.proofs.product.value_run.Goals as goal

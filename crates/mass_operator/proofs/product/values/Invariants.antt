@@ -1,13 +1,9 @@
 -- `mass_operator::product::values` meets its contract: the rows below i have their value, and those are summed. Assumes nothing.
 use Prim.Native.Nat.{◌-◌}
-use native.Mathlib.Omega.{arith}
 use lib.ListN.{length}
-use Rattle.loops.proofs.Loop.{loops}
 use Rattle.compact_table.specs.Compact.{compact_of}
 use Rattle.mass_operator.specs.Lent.{value_in}
 use Rattle.mass_operator.specs.BodyPair.{Valued}
-use Rattle.mass_operator.proofs.Room.{linked_a, linked_b}
-use Rattle.mass_operator.proofs.Values.{valued_none, valued_all}
 use Rattle.mass_operator.proofs.product.values.Given as goal
 
 abbrev pub invariant-loop-i : goal.invariant-loop-i

@@ -1,7 +1,6 @@
 -- `packed_list::packed::unpack` meets its contract. Assumes nothing.
-use Prim.Native.Nat.{◌-◌}
 use Rattle.loops.proofs.Loop.{loops}
-use Rattle.packed_list.proofs.Packing.{Grouping, grouping_none, grouping_more, grouping_room, grouping_end, grouping_near, grouping_place, grouping_short, grouping_next}
+use Rattle.packed_list.proofs.Packing.{grouping_none, grouping_more, grouping_room, grouping_end, grouping_near, grouping_place, grouping_short, grouping_next}
 use Rattle.packed_list.proofs.packed.unpack.Goals as goal
 
 ruleset known = (grouping_none, grouping_more, grouping_room, grouping_end, grouping_near, grouping_place, grouping_short, grouping_next, loops)

@@ -1,7 +1,6 @@
 -- `packed_list::packed::unpack_record` meets its contract. Assumes nothing.
 use Prim.Native.Nat.{◌-◌}
-use Rattle.loops.proofs.Loop.{loops}
-use Rattle.packed_list.proofs.Packing.{Reading, reading_none, reading_more, reading_end, reading_near}
+use Rattle.packed_list.proofs.Packing.{Reading}
 use Rattle.packed_list.proofs.packed.unpack_record.Given as goal
 
 abbrev pub invariant-loop-i : goal.invariant-loop-i

@@ -1,5 +1,4 @@
 -- `pairs::cross::met_at` meets its contract. Assumes nothing.
-use borrow.Author.Rules.{rules}
 use Rattle.pairs.proofs.Crosses.{met_a, met_b, met_none}
 use Rattle.pairs.proofs.cross.met_at.Goals as goal
 

@@ -1,5 +1,4 @@
 -- `pairs::cross::value_with` meets its contract: either order of the two shares gives the value. Assumes nothing.
-use borrow.Author.Rules.{rules}
 use Rattle.pairs.proofs.Crosses.{a_first, b_first}
 use Rattle.pairs.proofs.cross.value_with.Goals as goal
 

@@ -1,5 +1,4 @@
 -- `pairs::pattern::eight_apart` meets its contract. Assumes nothing.
-use borrow.Author.Rules.{rules}
 use native.Mathlib.Omega.{arith}
 use Rattle.pairs.proofs.Parts.{eight_few, eight_long, eight_more}
 use Rattle.pairs.proofs.pattern.eight_apart.Goals as goal

@@ -1,5 +1,4 @@
 -- `pairs::pattern::first_column` meets its contract. Assumes nothing.
-use borrow.Author.Rules.{rules}
 use native.Mathlib.Omega.{arith}
 use Rattle.pairs.proofs.Firsts.{begin_lower, firsts_more}
 use Rattle.pairs.proofs.pattern.first_column.Goals as goal

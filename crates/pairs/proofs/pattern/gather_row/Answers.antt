@@ -1,11 +1,7 @@
 -- `pairs::pattern::gather_row` meets its contract: the columns below j are tried. Assumes nothing.
-use Prim.Native.Nat.{◌-◌, ◌≤◌}
-use mathlib.Core.Path.{◌≡◌, refl}
-use lib.ListN.{length}
+use mathlib.Core.Path.{refl}
 use native.Mathlib.Omega.{arith}
-use borrow.Author.Rules.{rules}
-use Rattle.pairs.proofs.Parts.{Bodies, bodies_of, eight_within, row_done, row_eight, row_full, row_more, row_begin}
-use Rattle.pairs.specs.Gather.{RowPart, share_in}
+use Rattle.pairs.proofs.Parts.{bodies_of, eight_within, row_done, row_eight, row_full, row_more, row_begin}
 use Rattle.pairs.proofs.pattern.gather_row.Goals as goal
 
 pub overflow_mul-at : goal.overflow_mul-at

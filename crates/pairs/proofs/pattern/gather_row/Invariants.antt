@@ -1,10 +1,8 @@
 -- `pairs::pattern::gather_row` meets its contract: the columns below j are tried. Assumes nothing.
 use Prim.Native.Nat.{◌-◌, ◌≤◌}
-use mathlib.Core.Path.{◌≡◌, refl}
+use mathlib.Core.Path.{◌≡◌}
 use lib.ListN.{length}
-use native.Mathlib.Omega.{arith}
-use borrow.Author.Rules.{rules}
-use Rattle.pairs.proofs.Parts.{Bodies, bodies_of, eight_within, row_done, row_eight, row_full, row_more, row_begin}
+use Rattle.pairs.proofs.Parts.{Bodies}
 use Rattle.pairs.specs.Gather.{RowPart, share_in}
 use Rattle.pairs.proofs.pattern.gather_row.Given as goal
 

@@ -2,11 +2,6 @@
 use Prim.Native.Nat.{◌+◌, ◌-◌, ◌≤◌}
 use mathlib.Core.Path.{◌≡◌}
 use lib.ListN.{length}
-use native.Mathlib.Omega.{arith}
-use Rattle.loops.proofs.Loop.{loops}
-use Rattle.pairs.proofs.Firsts.{firsts_none}
-use Rattle.pairs.proofs.Parted.{columns_lent_long, columns_long}
-use Rattle.pairs.proofs.Parts.{rows_end, rows_full, rows_more, rows_none, rows_within}
 use Rattle.pairs.specs.Gather.{Firsts, Stored, share_in}
 use Rattle.pairs.specs.Pattern.{starts_in, columns_in}
 use Rattle.pairs.proofs.pattern.gather_rows.Given as goal

@@ -1,12 +1,7 @@
 -- `pairs::values::fill_values` meets its contract: the rows below i have their values, and `fine` tells whether those are finite. Assumes nothing.
-use Prim.Native.Nat.{◌-◌, ◌≤◌}
-use mathlib.Core.Path.{◌≡◌}
-use lib.ListN.{length}
 use Rattle.loops.proofs.Loop.{loops}
 use Rattle.sparse.proofs.Left.{free}
 use Rattle.pairs.proofs.Places.{fine_end, fine_none, valued_end, valued_none}
-use Rattle.pairs.specs.Gather.{Valued, value_in, finite_below}
-use Rattle.sparse.specs.Kept.{start}
 use Rattle.pairs.proofs.values.fill_values.Goals as goal
 
 ruleset known = (valued_none, valued_end, fine_none, fine_end, loops)

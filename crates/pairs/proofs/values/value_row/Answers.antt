@@ -1,16 +1,8 @@
 -- `pairs::values::value_row` meets its contract: the places below p have their value, and `all` tells whether those are finite. Assumes nothing.
-use Prim.Native.Nat.{◌-◌, ◌≤◌}
-use mathlib.Core.Path.{◌≡◌, ◌∙◌, sym}
 use native.Mathlib.Omega.{arith}
-use lib.ListN.{length}
 use Rattle.loops.proofs.Loop.{loops}
 use Rattle.pairs.proofs.Places.{fine_empty, fine_first, fine_last, fine_more, valued_empty, valued_first, valued_last, valued_more}
 use Rattle.pairs.proofs.Crosses.{value_of}
-use Rattle.pairs.specs.Gather.{Valued, value_in, arms_of, finite_below}
-use Rattle.kapitsa_joint.specs.Mass.{mass_of}
-use Rattle.compact_table.specs.Compact.{compact_of}
-use Rattle.sparse.specs.Kept.{Row}
-use types.Run.{first}
 use Rattle.pairs.proofs.values.value_row.Goals as goal
 
 ruleset known = (valued_last, fine_last, loops)

@@ -1,11 +1,6 @@
 -- `position::centre::move_centres` meets its contract: the bodies below b have their new centre. Assumes nothing.
-use Prim.Native.Nat.{◌-◌}
 use Rattle.loops.proofs.Loop.{loops}
-use Rattle.kapitsa_joint.specs.Mass.{mass_of}
-use Rattle.kapitsa_joint.specs.Impulse.{paired_of}
-use Rattle.kapitsa_joint.specs.Centre.{centres_in}
-use Rattle.position.specs.Centres.{moved_by}
-use Rattle.position.proofs.Moved.{Moves, moves_none, moves_more, moves_end}
+use Rattle.position.proofs.Moved.{moves_none, moves_more, moves_end}
 use Rattle.position.proofs.centre.move_centres.Goals as goal
 
 ruleset known = (moves_none, moves_more, moves_end, loops)

@@ -1,5 +1,4 @@
 -- `position::centre::moved_at` meets its contract. Assumes nothing.
-use borrow.Author.Rules.{rules}
 use Rattle.position.proofs.Moved.{moved_still, moved_next}
 use Rattle.position.proofs.centre.moved_at.Goals as goal
 

@@ -1,13 +1,11 @@
 -- `position::centre::moved_finite` meets its contract: the new centres below b are finite. Assumes nothing.
 use Prim.Native.Nat.{◌-◌}
-use Rattle.loops.proofs.Every.{Holds, called}
+use Rattle.loops.proofs.Every.{Holds}
 use Rattle.kapitsa_math.specs.Vector.{is_finite_of}
 use Rattle.kapitsa_joint.specs.Mass.{mass_of}
 use Rattle.kapitsa_joint.specs.Impulse.{paired_of}
 use Rattle.kapitsa_joint.specs.Centre.{centres_in}
-use Rattle.joint_refusals.specs.Refusals.{centres_finite}
 use Rattle.position.specs.Centres.{moved_by}
-use Rattle.position.proofs.Moved.{moved_tested}
 use Rattle.position.proofs.centre.moved_finite.Given as goal
 
 abbrev pub invariant-loop-b : goal.invariant-loop-b

@@ -1,5 +1,4 @@
 -- `position::centre::next_center` meets its contract. Assumes nothing.
-use borrow.Author.Rules.{rules}
 use Rattle.position.proofs.Moved.{next_is}
 use Rattle.position.proofs.centre.next_center.Goals as goal
 

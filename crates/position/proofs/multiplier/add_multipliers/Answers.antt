@@ -1,8 +1,6 @@
 -- `position::multiplier::add_multipliers` meets its contract: the rows below i have gained. Assumes nothing.
-use Prim.Native.Nat.{◌-◌}
-use lib.ListN.{length}
 use borrow.Author.Rules.{rules}
-use Rattle.position.proofs.Gains.{Gains, gains_end, gains_more, gains_none}
+use Rattle.position.proofs.Gains.{gains_end, gains_more, gains_none}
 use Rattle.position.proofs.multiplier.add_multipliers.Goals as goal
 
 ruleset known = (gains_none, gains_more, gains_end, rules)

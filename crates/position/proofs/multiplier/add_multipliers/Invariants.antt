@@ -1,8 +1,7 @@
 -- `position::multiplier::add_multipliers` meets its contract: the rows below i have gained. Assumes nothing.
 use Prim.Native.Nat.{◌-◌}
 use lib.ListN.{length}
-use borrow.Author.Rules.{rules}
-use Rattle.position.proofs.Gains.{Gains, gains_end, gains_more, gains_none}
+use Rattle.position.proofs.Gains.{Gains}
 use Rattle.position.proofs.multiplier.add_multipliers.Given as goal
 
 abbrev pub invariant-loop-i : goal.invariant-loop-i

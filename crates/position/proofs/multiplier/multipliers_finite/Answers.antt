@@ -1,9 +1,6 @@
 -- `position::multiplier::multipliers_finite` meets its contract: the gains of the rows below i are finite. Assumes nothing.
-use Prim.Native.Nat.{◌-◌}
-use lib.ListN.{length}
-use lib.Ieee.Scale.{finite}
-use Rattle.loops.proofs.Every.{Holds, called}
-use Rattle.position.specs.Multipliers.{gain_of, gains_finite}
+use Rattle.loops.proofs.Every.{called}
+use Rattle.position.specs.Multipliers.{gains_finite}
 use Rattle.position.proofs.Gains.{gain_tested}
 use Rattle.position.proofs.multiplier.multipliers_finite.Goals as goal
 

@@ -2,9 +2,8 @@
 use Prim.Native.Nat.{◌-◌}
 use lib.ListN.{length}
 use lib.Ieee.Scale.{finite}
-use Rattle.loops.proofs.Every.{Holds, called}
-use Rattle.position.specs.Multipliers.{gain_of, gains_finite}
-use Rattle.position.proofs.Gains.{gain_tested}
+use Rattle.loops.proofs.Every.{Holds}
+use Rattle.position.specs.Multipliers.{gain_of}
 use Rattle.position.proofs.multiplier.multipliers_finite.Given as goal
 
 abbrev pub invariant-loop-i : goal.invariant-loop-i

@@ -1,12 +1,7 @@
 -- `position::prepare::begin` meets its contract: the rows below i are passed and written. Assumes nothing.
-use Prim.Native.Nat.{◌-◌}
 use native.Mathlib.Omega.{arith}
-use lib.ListN.{length}
 use borrow.Author.Rules.{rules}
-use Rattle.kapitsa_joint.specs.Table.{table_of, tolerances_in}
-use Rattle.mass_operator.specs.Flat.{coefficients}
-use Rattle.position.specs.Problem.{started_problem}
-use Rattle.position.proofs.Started.{Started, started_done, started_more, started_none, started_refused, started_seven}
+use Rattle.position.proofs.Started.{started_done, started_more, started_none, started_refused, started_seven}
 use Rattle.position.proofs.prepare.begin.Goals as goal
 
 pub returns-then-not-valid_before : goal.returns-then-not-valid_before

@@ -1,5 +1,4 @@
 -- `position::prepare::judge_diagonal` meets its contract. Assumes nothing.
-use borrow.Author.Rules.{rules}
 use Rattle.position.proofs.Ways.{judged_eight, judged_high, judged_low, judged_nine}
 use Rattle.position.proofs.prepare.judge_diagonal.Goals as goal
 

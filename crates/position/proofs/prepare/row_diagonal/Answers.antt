@@ -1,5 +1,4 @@
 -- `position::prepare::row_diagonal` meets its contract. Assumes nothing.
-use borrow.Author.Rules.{rules}
 use Rattle.position.proofs.Ways.{diagonal_is}
 use Rattle.position.proofs.prepare.row_diagonal.Goals as goal
 

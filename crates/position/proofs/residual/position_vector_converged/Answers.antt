@@ -1,10 +1,5 @@
 -- `position::residual::position_vector_converged` meets its contract: the rows below i meet their tolerance. Assumes nothing.
-use Prim.Native.Nat.{◌-◌}
-use lib.ListN.{get_or, length}
-use lib.Ieee.{le, nan}
-use Rattle.loops.proofs.Every.{Holds, called}
-use Rattle.binary64.specs.Order.{absolute}
-use Rattle.kapitsa_joint.specs.Table.{tolerances_in}
+use Rattle.loops.proofs.Every.{called}
 use Rattle.position.specs.Residual.{meets_of}
 use Rattle.position.proofs.residual.position_vector_converged.Goals as goal
 

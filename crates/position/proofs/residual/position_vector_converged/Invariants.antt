@@ -2,10 +2,9 @@
 use Prim.Native.Nat.{◌-◌}
 use lib.ListN.{get_or, length}
 use lib.Ieee.{le, nan}
-use Rattle.loops.proofs.Every.{Holds, called}
+use Rattle.loops.proofs.Every.{Holds}
 use Rattle.binary64.specs.Order.{absolute}
 use Rattle.kapitsa_joint.specs.Table.{tolerances_in}
-use Rattle.position.specs.Residual.{meets_of}
 use Rattle.position.proofs.residual.position_vector_converged.Given as goal
 
 abbrev pub invariant-loop-i : goal.invariant-loop-i

@@ -1,11 +1,6 @@
 -- `position::residual::residual_maxima` meets its contract: maxima are those of the rows below i. Assumes nothing.
-use Prim.Native.Nat.{◌*◌, ◌+◌, ◌-◌}
-use lib.ListN.{get_or, length}
-use lib.Ieee.{nan}
 use borrow.Author.Rules.{rules}
-use Rattle.kapitsa_joint.specs.Tolerance.{dimension_of}
-use Rattle.binary64.specs.Order.{absolute}
-use Rattle.kapitsa_joint.proofs.Largest.{Largest, largest_end, largest_more, largest_none}
+use Rattle.kapitsa_joint.proofs.Largest.{largest_end, largest_more, largest_none}
 use Rattle.position.specs.Residual.{maxima_of}
 use Rattle.position.proofs.residual.residual_maxima.Goals as goal
 

@@ -2,11 +2,9 @@
 use Prim.Native.Nat.{◌*◌, ◌+◌, ◌-◌}
 use lib.ListN.{get_or, length}
 use lib.Ieee.{nan}
-use borrow.Author.Rules.{rules}
 use Rattle.kapitsa_joint.specs.Tolerance.{dimension_of}
 use Rattle.binary64.specs.Order.{absolute}
-use Rattle.kapitsa_joint.proofs.Largest.{Largest, largest_end, largest_more, largest_none}
-use Rattle.position.specs.Residual.{maxima_of}
+use Rattle.kapitsa_joint.proofs.Largest.{Largest}
 use Rattle.position.proofs.residual.residual_maxima.Given as goal
 
 abbrev pub invariant-loop-i : goal.invariant-loop-i

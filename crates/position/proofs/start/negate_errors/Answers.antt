@@ -1,8 +1,5 @@
 -- `position::start::negate_errors` meets its contract: the residuals below i stand. Assumes nothing.
-use Prim.Native.Nat.{◌-◌, ◌+◌, ◌*◌}
-use lib.ListN.{length, get_or}
-use lib.Ieee.{nan, neg}
-use Rattle.loops.proofs.Fill.{Fills, fills}
+use Rattle.loops.proofs.Fill.{fills}
 use Rattle.loops.proofs.Tabulate.{filled_tabulate}
 use Rattle.position.proofs.start.negate_errors.Goals as goal
 

@@ -2,8 +2,7 @@
 use Prim.Native.Nat.{◌-◌, ◌+◌, ◌*◌}
 use lib.ListN.{length, get_or}
 use lib.Ieee.{nan, neg}
-use Rattle.loops.proofs.Fill.{Fills, fills}
-use Rattle.loops.proofs.Tabulate.{filled_tabulate}
+use Rattle.loops.proofs.Fill.{Fills}
 use Rattle.position.proofs.start.negate_errors.Given as goal
 
 abbrev pub invariant-loop-i : goal.invariant-loop-i

@@ -39,7 +39,7 @@ wide-requires-2 c =
 
 pub show-requires : goal.show-requires
 show-requires c =
-    record { pending_in_bounds = (omega (arith, (c.requires.numbers_len, c.requires.place_bound, c.requires.rows_in_bounds, c.requires.stands), c.wide.ensures), omega (arith, (c.requires.numbers_len, c.requires.place_bound, c.requires.rows_in_bounds, c.requires.stands), c.wide.ensures), omega (arith, (c.requires.numbers_len, c.requires.place_bound, c.requires.rows_in_bounds, c.requires.stands), c.wide.ensures), omega (arith, (c.requires.numbers_len, c.requires.place_bound, c.requires.rows_in_bounds, c.requires.stands), c.wide.ensures), omega (arith, (c.requires.numbers_len, c.requires.place_bound, c.requires.rows_in_bounds, c.requires.stands), c.wide.ensures), omega (arith, (c.requires.numbers_len, c.requires.place_bound, c.requires.rows_in_bounds, c.requires.stands), c.wide.ensures)); place_bound = (c.requires.place_bound.0, omega (arith, c.requires.place_bound, c.wide.ensures, c.wide-2.ensures), omega (arith, (c.requires.numbers_len, c.requires.place_bound, c.requires.rows_in_bounds, c.requires.stands), c.wide.ensures), omega (arith, c.requires.place_bound, c.wide.ensures, c.wide-2.ensures), omega (arith, c.requires.place_bound, c.wide.ensures, c.wide-2.ensures)); linked = rw (c.requires.rows_in_bounds.2, c.wide.ensures) c.requires.stands.linked }
+    record { pending_in_bounds = (omega (arith, c.requires.numbers_len, c.requires.place_bound, c.requires.rows_in_bounds, c.requires.stands, c.wide.ensures), omega (arith, c.requires.numbers_len, c.requires.place_bound, c.requires.rows_in_bounds, c.requires.stands, c.wide.ensures), omega (arith, c.requires.numbers_len, c.requires.place_bound, c.requires.rows_in_bounds, c.requires.stands, c.wide.ensures), omega (arith, c.requires.numbers_len, c.requires.place_bound, c.requires.rows_in_bounds, c.requires.stands, c.wide.ensures), omega (arith, c.requires.numbers_len, c.requires.place_bound, c.requires.rows_in_bounds, c.requires.stands, c.wide.ensures), omega (arith, c.requires.numbers_len, c.requires.place_bound, c.requires.rows_in_bounds, c.requires.stands, c.wide.ensures)); place_bound = (c.requires.place_bound.0, omega (arith, c.requires.place_bound, c.wide.ensures, c.wide-2.ensures), omega (arith, c.requires.numbers_len, c.requires.place_bound, c.requires.rows_in_bounds, c.requires.stands, c.wide.ensures), omega (arith, c.requires.place_bound, c.wide.ensures, c.wide-2.ensures), omega (arith, c.requires.place_bound, c.wide.ensures, c.wide-2.ensures)); linked = rw (c.requires.rows_in_bounds.2, c.wide.ensures) c.requires.stands.linked }
 
 pub returns-then-not-show : goal.returns-then-not-show
 returns-then-not-show c =

@@ -35,7 +35,7 @@ returns-in-Refused-begin c =
 
 pub gather-requires : goal.gather-requires
 gather-requires c =
-    record { rows_in_bounds = (omega (arith, (c.requires.numbers_len, c.requires.jacobians_len, c.requires.given_room), c.diagonal-1.given), omega (arith, (c.requires.numbers_len, c.requires.jacobians_len, c.requires.given_room), c.diagonal-1.given)); rows_in_bounds_2 = (omega (arith, (c.requires.numbers_len, c.requires.jacobians_len, c.requires.given_room), c.diagonal-1.given), omega (arith, (c.requires.numbers_len, c.requires.jacobians_len, c.requires.given_room), c.diagonal-1.given)) }
+    record { rows_in_bounds = (omega (arith, c.requires.numbers_len, c.requires.jacobians_len, c.requires.given_room, c.diagonal-1.given), omega (arith, c.requires.numbers_len, c.requires.jacobians_len, c.requires.given_room, c.diagonal-1.given)); rows_in_bounds_2 = (omega (arith, c.requires.numbers_len, c.requires.jacobians_len, c.requires.given_room, c.diagonal-1.given), omega (arith, c.requires.numbers_len, c.requires.jacobians_len, c.requires.given_room, c.diagonal-1.given)) }
 
 pub clear-requires : goal.clear-requires
 clear-requires c =

@@ -1,8 +1,5 @@
 -- `preconditioner::apply::diagonal_solve` meets its contract: the rows below i have their quotient. Assumes nothing.
-use Prim.Native.Nat.{◌-◌}
-use lib.Ieee.{binary64, div, nan}
-use lib.ListN.{get_or, length}
-use Rattle.loops.proofs.Fill.{Fills, fills}
+use Rattle.loops.proofs.Fill.{fills}
 use Rattle.preconditioner.proofs.Applies.{diagonal_solved}
 use Rattle.preconditioner.proofs.apply.diagonal_solve.Goals as goal
 

@@ -2,8 +2,7 @@
 use Prim.Native.Nat.{◌-◌}
 use lib.Ieee.{binary64, div, nan}
 use lib.ListN.{get_or, length}
-use Rattle.loops.proofs.Fill.{Fills, fills}
-use Rattle.preconditioner.proofs.Applies.{diagonal_solved}
+use Rattle.loops.proofs.Fill.{Fills}
 use Rattle.preconditioner.proofs.apply.diagonal_solve.Given as goal
 
 abbrev pub invariant-loop-i : goal.invariant-loop-i

@@ -1,7 +1,5 @@
 -- `preconditioner::owner::gather_owners` meets its contract: the rows below i have their owner. Assumes nothing.
-use Prim.Native.Nat.{◌*◌, ◌+◌, ◌-◌}
-use lib.ListN.{get_or, length}
-use Rattle.loops.proofs.Fill.{Fills, fills}
+use Rattle.loops.proofs.Fill.{fills}
 use Rattle.loops.proofs.Tabulate.{filled_tabulate}
 use Rattle.preconditioner.proofs.owner.gather_owners.Goals as goal
 

@@ -1,8 +1,7 @@
 -- `preconditioner::owner::gather_owners` meets its contract: the rows below i have their owner. Assumes nothing.
 use Prim.Native.Nat.{◌*◌, ◌+◌, ◌-◌}
 use lib.ListN.{get_or, length}
-use Rattle.loops.proofs.Fill.{Fills, fills}
-use Rattle.loops.proofs.Tabulate.{filled_tabulate}
+use Rattle.loops.proofs.Fill.{Fills}
 use Rattle.preconditioner.proofs.owner.gather_owners.Given as goal
 
 abbrev pub invariant-loop-i : goal.invariant-loop-i

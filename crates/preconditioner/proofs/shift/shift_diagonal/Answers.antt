@@ -1,11 +1,8 @@
 -- `preconditioner::shift::shift_diagonal` meets its contract: the first i numbers are scaled, the others those at entry. Assumes nothing.
-use Prim.Native.Nat.{◌-◌}
 use mathlib.Core.Path.{refl}
 use native.Mathlib.Omega.{arith}
-use lib.Ieee.{nan}
-use lib.ListN.{length}
 use Rattle.loops.proofs.Loop.{loops}
-use Rattle.preconditioner.proofs.InPlace.{Changes, changes_more, changes_none}
+use Rattle.preconditioner.proofs.InPlace.{changes_more, changes_none}
 use Rattle.preconditioner.proofs.Shifted.{scaling, diagonal_shifted}
 use Rattle.preconditioner.proofs.shift.shift_diagonal.Goals as goal
 

@@ -1,8 +1,5 @@
 -- `rules::judge::rows_ruled` meets its contract: the rows below i are under one rule each. Assumes nothing.
-use Prim.Native.Nat.{◌-◌}
-use Rattle.loops.proofs.Every.{Holds}
-use Rattle.rules.specs.Rows.{rules_in}
-use Rattle.rules.proofs.EachRow.{under_one, rowed}
+use Rattle.rules.proofs.EachRow.{rowed}
 use Rattle.rules.proofs.judge.rows_ruled.Goals as goal
 
 pub loop-i-init : goal.loop-i-init

@@ -2,7 +2,7 @@
 use Prim.Native.Nat.{◌-◌}
 use Rattle.loops.proofs.Every.{Holds}
 use Rattle.rules.specs.Rows.{rules_in}
-use Rattle.rules.proofs.EachRow.{under_one, rowed}
+use Rattle.rules.proofs.EachRow.{under_one}
 use Rattle.rules.proofs.judge.rows_ruled.Given as goal
 
 abbrev pub invariant-loop-i : goal.invariant-loop-i

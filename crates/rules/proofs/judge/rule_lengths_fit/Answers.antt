@@ -1,5 +1,4 @@
 -- `rules::judge::rule_lengths_fit` meets its contract. Assumes nothing.
-use borrow.Author.Rules.{rules}
 use borrow.Author.Tests.{lt-leb, le-leb}
 use Rattle.rules.specs.Rules.{rule_lengths_fit}
 use Rattle.rules.proofs.judge.rule_lengths_fit.Goals as goal

@@ -1,9 +1,6 @@
 -- `rules::judge::rules_fit` meets its contract: the rules below r fit. Assumes nothing.
-use Prim.Native.Nat.{◌-◌}
-use lib.ListN.{length}
-use Rattle.loops.proofs.Every.{Holds, called}
-use Rattle.rules.specs.Rules.{rule_fits, passes27}
-use Rattle.rules.specs.Rows.{rules_in}
+use Rattle.loops.proofs.Every.{called}
+use Rattle.rules.specs.Rules.{passes27}
 use Rattle.rules.proofs.judge.rules_fit.Goals as goal
 
 pub loop-r-init : goal.loop-r-init

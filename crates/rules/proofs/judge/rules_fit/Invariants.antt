@@ -1,8 +1,8 @@
 -- `rules::judge::rules_fit` meets its contract: the rules below r fit. Assumes nothing.
 use Prim.Native.Nat.{◌-◌}
 use lib.ListN.{length}
-use Rattle.loops.proofs.Every.{Holds, called}
-use Rattle.rules.specs.Rules.{rule_fits, passes27}
+use Rattle.loops.proofs.Every.{Holds}
+use Rattle.rules.specs.Rules.{rule_fits}
 use Rattle.rules.specs.Rows.{rules_in}
 use Rattle.rules.proofs.judge.rules_fit.Given as goal
 

@@ -1,10 +1,6 @@
 -- `rules::rows::gather_tolerances` meets its contract: the rows below i have their tolerance. Assumes nothing.
-use Prim.Native.Nat.{◌-◌}
-use lib.ListN.{length}
-use lib.Ieee.{nan}
-use Rattle.loops.proofs.Fill.{Fills, fills}
+use Rattle.loops.proofs.Fill.{fills}
 use Rattle.loops.proofs.Tabulate.{filled_tabulate}
-use Rattle.rules.specs.Rows.{rules_in, tolerance_in}
 use Rattle.rules.proofs.EachRow.{row_ruled}
 use Rattle.rules.proofs.rows.gather_tolerances.Goals as goal
 

@@ -2,10 +2,8 @@
 use Prim.Native.Nat.{◌-◌}
 use lib.ListN.{length}
 use lib.Ieee.{nan}
-use Rattle.loops.proofs.Fill.{Fills, fills}
-use Rattle.loops.proofs.Tabulate.{filled_tabulate}
+use Rattle.loops.proofs.Fill.{Fills}
 use Rattle.rules.specs.Rows.{rules_in, tolerance_in}
-use Rattle.rules.proofs.EachRow.{row_ruled}
 use Rattle.rules.proofs.rows.gather_tolerances.Given as goal
 
 abbrev pub invariant-loop-i : goal.invariant-loop-i

@@ -1,10 +1,8 @@
 -- `rules::rows::name_only_rules` meets its contract: the rows below i have the number of their rule. Assumes nothing.
 use Prim.Native.Nat.{◌-◌}
 use lib.ListN.{length}
-use Rattle.loops.proofs.Fill.{Fills, fills}
-use Rattle.loops.proofs.Tabulate.{filled_tabulate}
+use Rattle.loops.proofs.Fill.{Fills}
 use Rattle.rules.specs.Rows.{rules_in, rule_in}
-use Rattle.rules.proofs.EachRow.{row_ruled}
 use Rattle.rules.proofs.rows.name_only_rules.Given as goal
 
 abbrev pub invariant-loop-i : goal.invariant-loop-i

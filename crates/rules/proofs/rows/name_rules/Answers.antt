@@ -1,9 +1,6 @@
 -- `rules::rows::name_rules` meets its contract: the rows below i have the number of their rule. Assumes nothing.
-use Prim.Native.Nat.{◌-◌}
-use lib.ListN.{length}
-use Rattle.loops.proofs.Fill.{Fills, fills}
+use Rattle.loops.proofs.Fill.{fills}
 use Rattle.loops.proofs.Tabulate.{filled_tabulate}
-use Rattle.rules.specs.Rows.{rules_in, rule_in}
 use Rattle.rules.proofs.EachRow.{rule_small}
 use Rattle.rules.proofs.rows.name_rules.Goals as goal
 

@@ -1,9 +1,5 @@
 -- `rules::search::first_rule` meets its contract: no rule from `start` on and below r applies. Assumes nothing.
-use Prim.Native.Nat.{◌-◌}
-use lib.ListN.{length}
-use Rattle.rules.specs.Rules.{applies}
-use Rattle.rules.specs.Rows.{rules_in}
-use Rattle.rules.proofs.Finding.{Passed, searches}
+use Rattle.rules.proofs.Finding.{searches}
 use Rattle.rules.proofs.search.first_rule.Goals as goal
 
 pub loop-r-init : goal.loop-r-init

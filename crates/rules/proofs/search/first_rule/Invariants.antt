@@ -3,7 +3,7 @@ use Prim.Native.Nat.{◌-◌}
 use lib.ListN.{length}
 use Rattle.rules.specs.Rules.{applies}
 use Rattle.rules.specs.Rows.{rules_in}
-use Rattle.rules.proofs.Finding.{Passed, searches}
+use Rattle.rules.proofs.Finding.{Passed}
 use Rattle.rules.proofs.search.first_rule.Given as goal
 
 abbrev pub invariant-loop-r : goal.invariant-loop-r

@@ -1,13 +1,9 @@
 -- `sparse::cholesky::factor` meets its contract. Assumes nothing.
-use Prim.Native.Nat.{◌-◌}
-use mathlib.Core.Path.{◌≡◌}
-use lib.ListN.{length}
-use Rattle.loops.proofs.Loop.{At, loops}
+use Rattle.loops.proofs.Loop.{loops}
 use Rattle.sparse.proofs.Marks.{most_clear, rows_on, rows_out}
 use Rattle.sparse.proofs.Left.{numbered, factor_left}
-use Rattle.sparse.specs.Cholesky.{factor_run, row_turn}
-use Rattle.sparse.specs.Kept.{numbers, start}
-use Rattle.sparse.specs.Marks.{AtMost}
+use Rattle.sparse.specs.Cholesky.{factor_run}
+use Rattle.sparse.specs.Kept.{numbers}
 use Rattle.sparse.specs.declared.cholesky.Factored.TheVariants.{Done, Refused}
 use Rattle.sparse.proofs.cholesky.factor.Goals as goal
 

@@ -2,13 +2,10 @@
 use Prim.Native.Nat.{◌-◌}
 use mathlib.Core.Path.{◌≡◌}
 use lib.ListN.{length}
-use Rattle.loops.proofs.Loop.{At, loops}
-use Rattle.sparse.proofs.Marks.{most_clear, rows_on, rows_out}
-use Rattle.sparse.proofs.Left.{factor_left}
-use Rattle.sparse.specs.Cholesky.{factor_run, row_turn}
+use Rattle.loops.proofs.Loop.{At}
+use Rattle.sparse.specs.Cholesky.{row_turn}
 use Rattle.sparse.specs.Kept.{numbers, start}
 use Rattle.sparse.specs.Marks.{AtMost}
-use Rattle.sparse.specs.declared.cholesky.Factored.TheVariants.{Done, Refused}
 use Rattle.sparse.proofs.cholesky.factor.Given as goal
 
 abbrev pub invariant-loop-i : goal.invariant-loop-i

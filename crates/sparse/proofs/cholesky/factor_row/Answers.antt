@@ -1,14 +1,9 @@
 -- `sparse::cholesky::factor_row` meets its contract. Assumes nothing.
-use Prim.Native.Nat.{◌-◌}
-use mathlib.Core.Path.{◌≡◌, ◌∙◌}
-use lib.ListN.{length, get_or}
-use lib.Ieee.{nan}
-use Rattle.sparse.proofs.Hop.{Hops, hops, plain}
+use mathlib.Core.Path.{◌∙◌}
+use Rattle.sparse.proofs.Hop.{hops}
 use Rattle.sparse.proofs.Marks.{column_skip, less_skip, reduced_end, reduced_out_lem, row_marked, row_most, row_most_out, squares_more}
 use Rattle.sparse.proofs.Marks.{turn_on, turn_out}
-use Rattle.sparse.specs.Cholesky.{column_turn, factors_run, less_turn}
-use Rattle.sparse.specs.Kept.{numbers}
-use Rattle.sparse.specs.Marks.{Marked}
+use Rattle.sparse.specs.Cholesky.{factors_run}
 use Rattle.sparse.proofs.cholesky.factor_row.Goals as goal
 
 ruleset known = (column_skip, turn_on, turn_out, row_marked, row_most, row_most_out, less_skip, reduced_out_lem, reduced_end, hops)

@@ -1,5 +1,4 @@
 -- `sparse::cholesky::is_fit` meets its contract. Assumes nothing.
-use borrow.Author.Rules.{rules}
 use Rattle.sparse.proofs.Fit.{fit_no, fit_yes}
 use Rattle.sparse.proofs.cholesky.is_fit.Goals as goal
 

@@ -1,9 +1,7 @@
 -- `sparse::cholesky::reduced` meets its contract. Assumes nothing.
-use Prim.Native.Nat.{◌-◌}
-use Rattle.sparse.proofs.Hop.{Hops, hops, plain}
+use Rattle.sparse.proofs.Hop.{hops}
 use Rattle.sparse.proofs.Marks.{less_inside, less_most, less_skip, less_way}
-use Rattle.sparse.specs.Cholesky.{less_turn, reduced_of}
-use Rattle.sparse.specs.Kept.{numbers}
+use Rattle.sparse.specs.Cholesky.{reduced_of}
 use Rattle.sparse.proofs.cholesky.reduced.Goals as goal
 
 ruleset known = (less_skip, less_way, less_inside, less_most, hops)

@@ -1,8 +1,7 @@
 -- `sparse::cholesky::reduced` meets its contract. Assumes nothing.
 use Prim.Native.Nat.{◌-◌}
-use Rattle.sparse.proofs.Hop.{Hops, hops, plain}
-use Rattle.sparse.proofs.Marks.{less_inside, less_most, less_skip, less_way}
-use Rattle.sparse.specs.Cholesky.{less_turn, reduced_of}
+use Rattle.sparse.proofs.Hop.{Hops, plain}
+use Rattle.sparse.specs.Cholesky.{less_turn}
 use Rattle.sparse.specs.Kept.{numbers}
 use Rattle.sparse.proofs.cholesky.reduced.Given as goal
 

@@ -1,10 +1,8 @@
 -- `triangular::substitution::along_column` meets its contract. Assumes nothing.
 use Prim.Native.Nat.{◌-◌}
-use Rattle.sparse.proofs.Hop.{Hops, hop_more, hops, plain}
+use Rattle.sparse.proofs.Hop.{Hops, plain}
 use Rattle.sparse.specs.Kept.{numbers}
-use Rattle.triangular.proofs.Down.{down_rising}
 use Rattle.triangular.proofs.Homes.{homes}
-use Rattle.triangular.proofs.Solves.{down_skip, down_way}
 use Rattle.triangular.specs.Triangular.{along_turn, transposed}
 use Rattle.triangular.proofs.substitution.along_column.Given as goal
 

@@ -1,10 +1,7 @@
 -- `triangular::substitution::along_row` meets its contract. Assumes nothing.
-use Prim.Native.Nat.{◌-◌}
 use native.Mathlib.Omega.{arith}
-use Rattle.sparse.proofs.Hop.{Hops, hop_none, hops, plain}
+use Rattle.sparse.proofs.Hop.{hop_none, hops}
 use Rattle.triangular.proofs.Solves.{along_skip, along_way}
-use Rattle.sparse.specs.Kept.{numbers}
-use Rattle.triangular.specs.Triangular.{along_turn}
 use Rattle.triangular.proofs.substitution.along_row.Goals as goal
 
 ruleset known = (along_skip, along_way, hops)

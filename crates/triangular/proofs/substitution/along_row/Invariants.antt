@@ -1,8 +1,6 @@
 -- `triangular::substitution::along_row` meets its contract. Assumes nothing.
 use Prim.Native.Nat.{◌-◌}
-use native.Mathlib.Omega.{arith}
-use Rattle.sparse.proofs.Hop.{Hops, hop_none, hops, plain}
-use Rattle.triangular.proofs.Solves.{along_skip, along_way}
+use Rattle.sparse.proofs.Hop.{Hops, plain}
 use Rattle.sparse.specs.Kept.{numbers}
 use Rattle.triangular.specs.Triangular.{along_turn}
 use Rattle.triangular.proofs.substitution.along_row.Given as goal

@@ -1,11 +1,7 @@
 -- `triangular::substitution::backward` meets its contract. Assumes nothing.
-use Prim.Native.Nat.{◌-◌}
-use mathlib.Core.Path.{◌≡◌}
-use lib.ListN.{length}
-use Rattle.loops.proofs.Loop.{At, loops}
+use Rattle.loops.proofs.Loop.{loops}
 use Rattle.triangular.proofs.Solves.{backward_at, solved_on, solved_out_lem}
-use Rattle.sparse.specs.Kept.{numbers}
-use Rattle.triangular.specs.Triangular.{backward_run, backward_turn}
+use Rattle.triangular.specs.Triangular.{backward_run}
 use Rattle.triangular.proofs.substitution.backward.Goals as goal
 
 ruleset known = (solved_on, solved_out_lem, backward_at, loops)

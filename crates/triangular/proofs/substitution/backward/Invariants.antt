@@ -2,10 +2,9 @@
 use Prim.Native.Nat.{◌-◌}
 use mathlib.Core.Path.{◌≡◌}
 use lib.ListN.{length}
-use Rattle.loops.proofs.Loop.{At, loops}
-use Rattle.triangular.proofs.Solves.{backward_at, solved_on, solved_out_lem}
+use Rattle.loops.proofs.Loop.{At}
 use Rattle.sparse.specs.Kept.{numbers}
-use Rattle.triangular.specs.Triangular.{backward_run, backward_turn}
+use Rattle.triangular.specs.Triangular.{backward_turn}
 use Rattle.triangular.proofs.substitution.backward.Given as goal
 
 abbrev pub invariant-loop-t : goal.invariant-loop-t

@@ -1,11 +1,7 @@
 -- `triangular::substitution::forward` meets its contract. Assumes nothing.
-use Prim.Native.Nat.{◌-◌}
-use mathlib.Core.Path.{◌≡◌}
-use lib.ListN.{length}
-use Rattle.loops.proofs.Loop.{At, loops}
+use Rattle.loops.proofs.Loop.{loops}
 use Rattle.triangular.proofs.Solves.{solved_on, solved_out_lem}
-use Rattle.sparse.specs.Kept.{numbers}
-use Rattle.triangular.specs.Triangular.{forward_run, forward_turn}
+use Rattle.triangular.specs.Triangular.{forward_run}
 use Rattle.triangular.proofs.substitution.forward.Goals as goal
 
 ruleset known = (solved_on, solved_out_lem, loops)

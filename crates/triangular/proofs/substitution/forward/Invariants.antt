@@ -2,10 +2,9 @@
 use Prim.Native.Nat.{◌-◌}
 use mathlib.Core.Path.{◌≡◌}
 use lib.ListN.{length}
-use Rattle.loops.proofs.Loop.{At, loops}
-use Rattle.triangular.proofs.Solves.{solved_on, solved_out_lem}
+use Rattle.loops.proofs.Loop.{At}
 use Rattle.sparse.specs.Kept.{numbers}
-use Rattle.triangular.specs.Triangular.{forward_run, forward_turn}
+use Rattle.triangular.specs.Triangular.{forward_turn}
 use Rattle.triangular.proofs.substitution.forward.Given as goal
 
 abbrev pub invariant-loop-i : goal.invariant-loop-i

@@ -1,5 +1,4 @@
 -- `triangular::substitution::home` meets its contract. Assumes nothing.
-use borrow.Author.Rules.{rules}
 use Rattle.triangular.proofs.Down.{down_home}
 use Rattle.triangular.proofs.substitution.home.Goals as goal
 

@@ -1,5 +1,4 @@
 -- `triangular::substitution::place_at` meets its contract. Assumes nothing.
-use borrow.Author.Rules.{rules}
 use Rattle.triangular.proofs.Down.{down_place}
 use Rattle.triangular.proofs.substitution.place_at.Goals as goal
 

@@ -1,5 +1,4 @@
 -- `triangular::substitution::term` meets its contract. Assumes nothing.
-use borrow.Author.Rules.{rules}
 use Rattle.triangular.proofs.substitution.term.Goals as goal
 
 pub returns : goal.returns

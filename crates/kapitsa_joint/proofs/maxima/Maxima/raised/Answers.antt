@@ -1,5 +1,4 @@
 -- `kapitsa_joint::maxima::Maxima::raised` meets its contract. Assumes nothing.
-use borrow.Author.Rules.{rules}
 use Rattle.kapitsa_joint.proofs.Largest.{raised_angular, raised_linear}
 use Rattle.kapitsa_joint.proofs.maxima.Maxima.raised.Goals as goal
 
