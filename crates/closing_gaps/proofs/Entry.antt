@@ -1,6 +1,6 @@
 -- The check that gives its numbers: turned back by refusal 3, or judged and the numbers taken from the check's reaches. Assumes nothing.
 use Prim.Native.Nat.{ℕ, ◌≤◌}
-use mathlib.Core.Path.{◌≡◌, subst, ◌∙◌}
+use mathlib.Core.Path.{◌≡◌, subst}
 use mathlib.Core.Bool.{Bool, true, false, not, ◌&&◌}
 use mathlib.Core.List.{List}
 use lib.Dec.{eqb}
@@ -20,7 +20,7 @@ use Rattle.check_refusals.proofs.Fitting.{work_of}
 use Rattle.check_answer.specs.declared.CheckAnswer.{CheckAnswer}
 use Rattle.check_answer.proofs.Meaning.{Held}
 use Rattle.check_work.specs.Work.{CheckMemory}
-use Rattle.closing_check.specs.Beside.{placed_in, closing_in}
+use Rattle.closing_check.specs.Beside.{placed_in}
 use Rattle.closing_check.specs.Checked.{Checked, Reached}
 use Rattle.closing_check.proofs.Entry.{passed_3}
 use Rattle.closing_gaps.specs.Gaps.{gaps_lent, kept_by, GapsHeld}

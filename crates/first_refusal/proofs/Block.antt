@@ -1,16 +1,14 @@
 -- A factor of mode 2 that 11 turns back has a run that is too long or on several body pairs. Assumes nothing.
-use Prim.Native.Nat.{ℕ, ◌+◌, ◌*◌, ◌<◌, ◌≤◌}
-use mathlib.Core.Path.{◌≡◌, refl, sym, ap, ◌∙◌}
-use mathlib.Core.Bool.{Bool, true, false, ◌&&◌, true≢false, false≢true}
+use Prim.Native.Nat.{ℕ, ◌+◌, ◌<◌}
+use mathlib.Core.Path.{◌≡◌, refl, sym, ◌∙◌}
+use mathlib.Core.Bool.{Bool, true, false, ◌&&◌, true≢false}
 use mathlib.Core.List.{List}
 use mathlib.Core.Logic.{◌⊎◌, inl, inr}
 use native.Mathlib.Omega.{arith}
 use lib.Dec.{leb, ltb, eqb}
-use lib.ListN.{set}
 use lib.Ieee.{Float}
 use borrow.Author.Tests.{eqb-true, eq-eqb}
-use Rattle.loops.specs.Run.{Run, going, ended, check, next, turns}
-use Rattle.loops.specs.Judge.{judged}
+use Rattle.loops.specs.Run.{Run, going, ended, check, next}
 use Rattle.loops.specs.Every.{every}
 use Rattle.loops.proofs.Both.{both}
 use Rattle.loops.proofs.Every.{every_iff}

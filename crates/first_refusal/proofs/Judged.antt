@@ -9,7 +9,7 @@ use lib.Dec.{leb, ltb, eqb}
 use lib.ListN.{length, get_or, take, drop}
 use lib.Ieee.{Float, nan, neg, binary64, div, of_bits}
 use borrow.Author.Tests.{ne_eqb, not-true, not-false, leb-true}
-use Rattle.loops.specs.Run.{Run, going, ended, on, check, next, turns}
+use Rattle.loops.specs.Run.{Run, going, ended, on, check, turns}
 use Rattle.loops.specs.Judge.{judged}
 use Rattle.loops.proofs.Both.{both}
 use Rattle.kapitsa_joint.specs.Kind.{by_kind, is_velocity}

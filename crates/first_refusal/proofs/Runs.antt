@@ -1,18 +1,17 @@
 -- The ways of the functions that judge a run. Assumes nothing.
 use Prim.Native.Nat.{ℕ, zero, suc, ◌+◌, ◌-◌, ◌*◌, ◌<◌, ◌≤◌}
-use mathlib.Core.Path.{◌≡◌, refl, sym, ap, ◌∙◌}
+use mathlib.Core.Path.{◌≡◌, refl, sym, ◌∙◌}
 use mathlib.Core.Bool.{Bool, true, false, not, ◌&&◌}
 use mathlib.Core.List.{List}
 use mathlib.Core.Logic.{◌≢◌}
 use native.Mathlib.Omega.{arith}
 use lib.Dec.{leb, eqb}
-use lib.ListN.{length, get_or}
+use lib.ListN.{get_or}
 use borrow.Author.Tests.{not-true, not-false, eq-eqb, ne_eqb}
-use Rattle.loops.specs.Run.{check}
 use Rattle.loops.specs.Every.{every}
 use Rattle.loops.proofs.Inverse.{check_true, check_false}
 use Rattle.block_jacobi.specs.Runs.{begins, leading, run_length}
-use Rattle.block_jacobi.proofs.RunsOf.{run_within, run_some}
+use Rattle.block_jacobi.proofs.RunsOf.{run_within}
 use Rattle.first_refusal.specs.Run.{owner_at, pair_at, run_in}
 
 -- `run_length` counts rows - start of them

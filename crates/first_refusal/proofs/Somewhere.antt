@@ -1,5 +1,5 @@
 -- Where a test fails there is a place: it is not None. Assumes nothing.
-use Prim.Native.Nat.{ℕ, ◌<◌, ◌≤◌}
+use Prim.Native.Nat.{ℕ, ◌<◌}
 use mathlib.Core.Path.{◌≡◌, refl, sym, ap, ◌∙◌}
 use mathlib.Core.Bool.{Bool, true, false, not, cond, ◌&&◌, true≢false}
 use mathlib.Core.List.{List}
@@ -12,7 +12,6 @@ use Rattle.rules.specs.Rules.{Rules}
 use Rattle.block_jacobi.specs.Runs.{leading}
 use Rattle.block_jacobi.proofs.RunsOf.{leading_passes}
 use Rattle.first_refusal.specs.Place.{passes_at, count_of, named_at, first_of, place_of}
-use Rattle.first_refusal.specs.declared.place.Place.{Place}
 use Rattle.first_refusal.specs.declared.place.Place.TheVariants as places
 
 row_some : {i : ℕ} → places.Row i ≡ places.None → ⊥

@@ -1,15 +1,14 @@
 -- Where a position solve is turned back by a number that judges rows, bodies or rules one by one, there is a place. Assumes nothing.
-use Prim.Native.Nat.{ℕ, ◌+◌, ◌*◌, ◌<◌, ◌≤◌}
-use mathlib.Core.Path.{◌≡◌, refl, sym, ap, ◌∙◌}
-use mathlib.Core.Bool.{Bool, true, false, not, cond, ◌&&◌, true≢false, false≢true}
+use Prim.Native.Nat.{ℕ, ◌+◌, ◌*◌, ◌<◌}
+use mathlib.Core.Path.{◌≡◌, refl, ap, ◌∙◌}
+use mathlib.Core.Bool.{Bool, true, false, not, cond, ◌&&◌, true≢false}
 use mathlib.Core.List.{List, [], ◌∷◌}
 use mathlib.Core.Logic.{◌⊎◌, inl, inr}
 use native.Mathlib.Omega.{arith}
 use lib.Dec.{leb, eqb}
 use lib.Ieee.{Float}
-use borrow.Author.Tests.{eq-eqb}
-use Rattle.loops.specs.Run.{Run, going, ended, on, check, next}
-use Rattle.loops.specs.Judge.{judge, judged, FirstToFail}
+use Rattle.loops.specs.Run.{Run, going, ended, on, check}
+use Rattle.loops.specs.Judge.{FirstToFail}
 use Rattle.loops.specs.Numbers.{In, stands}
 use Rattle.loops.specs.Every.{every}
 use Rattle.loops.proofs.Every.{every_false}
@@ -20,7 +19,7 @@ use Rattle.kapitsa_math.specs.Vector.{is_finite_of}
 use Rattle.kapitsa_joint.specs.Table.{Table, table_of}
 use Rattle.kapitsa_joint.specs.declared.kind.Kind.TheVariants.{Position}
 use Rattle.joint_refusals.specs.Refusals.{words_fit_of, mass_finite_of, passes4, passes6, centres_finite}
-use Rattle.rules.specs.Rules.{Rules, rule_count, rule_fits, rule_of, passes27, passes28}
+use Rattle.rules.specs.Rules.{Rules, rule_count, rule_fits, passes27, passes28}
 use Rattle.position.specs.Problem.{Problem}
 use Rattle.position.specs.Prepare.{row_judged, rows_judged, diagonals}
 use Rattle.solve_method.specs.Method.{passes5, opening_of, factor_here, begin_of, first_of, owner_of, Delivered, method_of}
@@ -43,7 +42,6 @@ use Rattle.steps.specs.Solve.{solve}
 use Rattle.steps.specs.InPlace.{InPlace}
 use Rattle.solve_method.specs.Position.{position_of}
 use Rattle.first_refusal.specs.Place.{given_in, body_fits, row_passes, run_fits, passes_at, count_of, place_of}
-use Rattle.first_refusal.specs.declared.place.Place.{Place}
 use Rattle.first_refusal.specs.declared.place.Place.TheVariants as places
 use Rattle.first_refusal.proofs.Somewhere.{somewhere, limited}
 use Rattle.first_refusal.proofs.Block.{Other, factor_11}

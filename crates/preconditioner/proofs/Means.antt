@@ -26,7 +26,7 @@ use Rattle.block_jacobi.specs.declared.build.Blocked.TheVariants as blocks
 use Rattle.block_jacobi.proofs.BlocksHeld.{kept_all, runs_fit}
 use Rattle.triangular.specs.Triangular.{or_sixteen}
 use Rattle.preconditioner.specs.Factor.{block_at, block_judged, factor_judged}
-use Rattle.preconditioner.specs.Apply.{diagonal_solve_of, block_numbers, preconditioned, preconditioned_run}
+use Rattle.preconditioner.specs.Apply.{block_numbers, preconditioned, preconditioned_run}
 use Rattle.preconditioner.specs.Room.{Memory, Roomy, pattern_room, order_room, values_room}
 use Rattle.preconditioner.specs.Held.{factor_in, Ready, Holds, holds_diagonal, holds_factor, holds_blocks, FactorBuilt, built_diagonal, built_factor, built_blocks, prepared_out, factor_prepared, blocks_prepared, z_in}
 use Rattle.preconditioner.specs.Shift.{shifted}
@@ -82,6 +82,9 @@ module _ (s : System) (owner : ℕ → ℕ) (before after : Memory) where
   pub built_answered : (mode : Mode) (r : Prepared) → FactorBuilt s owner before after mode r → factor_judged mode s owner before.diagonal ≡ prepared_out r
   unfolding factor_judged
   built_answered modes.Diagonal (prepared.Done built.Diagonal) (built_diagonal e) = refl
+  built_answered modes.Diagonal (prepared.Done (built.IncompleteCholesky _)) none = elim none [ ]
+  built_answered modes.Diagonal (prepared.Done built.BlockJacobi) none = elim none [ ]
+  built_answered modes.Diagonal (prepared.Refused _) none = elim none [ ]
   built_answered (modes.IncompleteCholesky _) r (built_factor shift a h _) = factor_answered shift a h.answered
   built_answered modes.BlockJacobi r (built_blocks a e q) = blocks_answered a e
 

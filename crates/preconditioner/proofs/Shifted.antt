@@ -1,12 +1,10 @@
 -- The shifted diagonal while it is made, and that a shift of 0 gives the diagonal itself. Assumes nothing.
 use Prim.Native.Nat.{ℕ, ◌≤◌}
-use mathlib.Core.Path.{◌≡◌, refl, ap, ◌∙◌}
-use mathlib.Core.Bool.{Bool, true, false, ◌&&◌}
+use mathlib.Core.Path.{◌≡◌}
 use mathlib.Core.List.{List}
-use lib.ListN.{length, get_or}
-use lib.Ieee.{Float, nan, binary64, add, mul, le}
-use Rattle.loops.specs.Cleared.{plus_zero}
-use Rattle.preconditioner.specs.Shift.{one, shifted_by, shifted, passes25}
+use lib.ListN.{length}
+use lib.Ieee.{Float, nan, binary64, add, mul}
+use Rattle.preconditioner.specs.Shift.{one, shifted_by, shifted}
 use Rattle.preconditioner.proofs.InPlace.{Changes, changes_end}
 
 -- ---- `shift_diagonal`

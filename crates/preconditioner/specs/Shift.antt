@@ -1,5 +1,5 @@
 -- Document 02, f: "Let the factor take a shift from 0 to 1: each pivot starts from diagonal × (1 + shift), both rounded."
-use Rattle.std.specs.Prelude.{ℕ, Bool, ◌&&◌, List, get_or, length, Float}
+use Rattle.std.specs.Prelude.{Bool, ◌&&◌, List, get_or, length, Float}
 use Rattle.std.specs.Float.{nan, binary64}
 use Rattle.std.specs.Float.Ieee.{add, mul, le, of_bits}
 use Rattle.loops.specs.Cleared.{plus_zero}

@@ -6,11 +6,10 @@ use mathlib.Core.List.{List, [], ◌∷◌}
 use mathlib.Core.Logic.{◌⊎◌, inl, inr, ◌↔◌}
 use native.Mathlib.Omega.{arith}
 use lib.Dec.{eqb, leb}
-use lib.ListN.{length, set, get_or}
+use lib.ListN.{length, set}
 use lib.Ieee.{Float}
 use borrow.Author.Tests.{not-false, eqb-true, eqb-false, eq-eqb, ne_eqb}
 use Rattle.loops.specs.Run.{Run, going, ended, on, check}
-use Rattle.loops.specs.Every.{every}
 use Rattle.loops.specs.Judge.{judge, test, AllPass}
 use Rattle.loops.proofs.Both.{both}
 use Rattle.loops.proofs.Every.{every_iff, every_false}

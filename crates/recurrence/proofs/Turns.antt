@@ -20,7 +20,7 @@ use Rattle.triangular.specs.Answers.{solve_out, solved_out}
 use Rattle.triangular.specs.declared.substitution.Solved.{Solved}
 use Rattle.triangular.specs.declared.substitution.Solved.TheVariants as solves
 use Rattle.recurrence.specs.Vectors.{dot_product_of, plus_scaled, less_scaled}
-use Rattle.recurrence.specs.Step.{Iterate, Carried, alpha_of, product_fit, first_from, beta_of, turned_of, renew_from}
+use Rattle.recurrence.specs.Step.{Carried, alpha_of, product_fit, first_from, beta_of, turned_of, renew_from}
 use Rattle.recurrence.specs.Parts.{length_of, moved_of, next_from}
 use Rattle.recurrence.specs.Answers.{scale_out, carried_out, standing, ProductLeft, AdvanceLeft, DiagonalLeft, CarriedLeft}
 use Rattle.recurrence.specs.declared.ratio.Scale.{Scale}

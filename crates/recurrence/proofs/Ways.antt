@@ -1,10 +1,9 @@
 -- The ways through alpha, s and beta: a test that passes, and one that fails. Assumes nothing.
-use Prim.Native.Nat.{ℕ}
-use mathlib.Core.Path.{◌≡◌, refl, ◌∙◌}
+use mathlib.Core.Path.{◌≡◌, refl}
 use mathlib.Core.Bool.{Bool, true, false, not}
 use lib.Ieee.{Float, binary64, div, le}
 use lib.Ieee.Scale.{finite}
-use Rattle.loops.specs.Run.{Run, going, ended, next}
+use Rattle.loops.specs.Run.{going, ended}
 use Rattle.loops.proofs.Judge.{test_pass, test_fail}
 use Rattle.binary64.specs.Order.{min_positive}
 use Rattle.recurrence.specs.Step.{alpha_of, product_fit, beta_of}

@@ -38,7 +38,7 @@ use Rattle.position_delivery.specs.declared.answer.PositionPcg.{PositionPcg}
 use Rattle.position_delivery.specs.declared.answer.PositionPcg.TheVariants as answers
 use Rattle.position_delivery.proofs.Accumulated.{delivered_in}
 use Rattle.position_delivery.proofs.Answered.{delivered_of, entry_refused, entry_on, entry_means}
-use Rattle.work_memory.specs.Work.{WorkMemory, StepMemory, cleared_steps, cleared_table}
+use Rattle.work_memory.specs.Work.{WorkMemory, cleared_steps, cleared_table}
 use Rattle.work_memory.proofs.Cleared.{work_cleared, after_three_lem, after_cleared}
 use Rattle.solve_by_rules.specs.SolveHeld.{SolveHeld}
 

@@ -15,8 +15,7 @@ use Rattle.loops.proofs.Turned.{turned, unlike}
 use Rattle.binary64.specs.Order.{absolute}
 use Rattle.mass_operator.specs.System.{System}
 use Rattle.mass_operator.specs.Flat.{coefficients, product_of}
-use Rattle.mass_operator.specs.Applied.{all_finite_of}
-use Rattle.recurrence.specs.Vectors.{dot_product_of, plus_scaled, less_scaled}
+use Rattle.recurrence.specs.Vectors.{dot_product_of, less_scaled}
 use Rattle.recurrence.specs.Step.{Iterate, Carried, alpha_of, updated_of, advance_of, renew_from}
 use Rattle.position.specs.Residual.{meets_of}
 use Rattle.steps.specs.Solve.{turn}

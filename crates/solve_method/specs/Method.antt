@@ -1,6 +1,5 @@
 -- The parts of a solve: document 01, "Flag, count and residuals". Everything is made from what it is given, the mode, and whether refusal 3 passes.
-use Rattle.std.specs.Prelude.{ℕ, zero, suc, ◌*◌, Bool, not, ◌&&◌, cond, true, List, [], ◌∷◌, ◌++◌, eqb, Float}
-use Rattle.std.specs.Float.Ieee.Scale.{finite}
+use Rattle.std.specs.Prelude.{ℕ, zero, suc, ◌*◌, Bool, not, ◌&&◌, cond, true, List, ◌∷◌, ◌++◌, eqb, Float}
 use Rattle.loops.specs.Run.{Run, check, going, next}
 use Rattle.loops.specs.Judge.{judge, test}
 use Rattle.loops.specs.Every.{every}

@@ -4,7 +4,7 @@ use mathlib.Core.Path.{◌≡◌, refl, sym, ◌∙◌}
 use mathlib.Core.Bool.{Bool, true}
 use lib.Ieee.{Float}
 use Rattle.kapitsa_math.specs.declared.vector.Vec3.{Vec3}
-use Rattle.kapitsa_joint.specs.Table.{Table, by_dimension}
+use Rattle.kapitsa_joint.specs.Table.{Table}
 use Rattle.kapitsa_joint.specs.declared.tolerance.JointTolerance.{JointTolerance}
 use Rattle.joint_refusals.specs.Refusals.{passes4}
 use Rattle.joint_refusals.specs.Tolerances.{passes26}
@@ -17,7 +17,7 @@ use Rattle.solve_method.specs.Method.{method_of}
 use Rattle.solve_method.specs.Position.{shifted_problem, moving_problem}
 use Rattle.check_range.specs.Closing.{closing_of, speeds_of}
 use Rattle.check_answer.specs.Answer.{check_of}
-use Rattle.theorems.specs.Below.{AgreeBelow, LooksBelow, TablesAlike, ClosingsAgree}
+use Rattle.theorems.specs.Below.{AgreeBelow, TablesAlike}
 use Rattle.theorems.proofs.Below.{looks_below}
 use Rattle.theorems.proofs.Checks.{check_below}
 

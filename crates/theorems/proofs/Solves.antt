@@ -19,7 +19,6 @@ use Rattle.kapitsa_joint.specs.Mass.{diagonal_of}
 use Rattle.kapitsa_joint.specs.declared.mass.SolverMass.{SolverMass}
 use Rattle.kapitsa_joint.specs.declared.row.RowJacobian.{RowJacobian}
 use Rattle.kapitsa_joint.specs.declared.row.ConstraintRow.{ConstraintRow}
-use Rattle.kapitsa_joint.specs.declared.tolerance.RowDimension.{RowDimension}
 use Rattle.joint_refusals.specs.Refusals.{is_valid_of}
 use Rattle.mass_operator.specs.System.{system_of}
 use Rattle.mass_operator.specs.Flat.{coefficients}

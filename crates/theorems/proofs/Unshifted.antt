@@ -2,14 +2,14 @@
 use Prim.Native.Nat.{ℕ, zero, suc, ◌+◌, ◌*◌, ◌<◌}
 use mathlib.Core.Path.{◌≡◌, refl, sym, ap, ◌∙◌, subst}
 use mathlib.Core.Bool.{Bool, true, false, cond, true≢false}
-use mathlib.Core.List.{List, [], ◌∷◌}
+use mathlib.Core.List.{[], ◌∷◌}
 use lib.Dec.{T}
 use lib.IntN.{ℤ, pos}
 use native.Mathlib.Nat.{mul-pos}
 use native.Mathlib.Omega.{arith}
 use borrow.Author.Tests.{lt-ltb}
-use lib.ListN.{length, get_or}
-use lib.Ieee.{Float, nan, inf, fin, binary64, add, mul, le, lt, fits, of_bits, of_fields, up, down}
+use lib.ListN.{get_or}
+use lib.Ieee.{Float, nan, inf, fin, binary64, mul, le, lt, fits, of_bits, of_fields, up, down}
 use lib.Ieee.Fits.{add-fits, up_pos, down_pos}
 use lib.Ieee.Scale.{finite}
 use Rattle.loops.specs.Run.{check, going, next}

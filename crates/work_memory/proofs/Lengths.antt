@@ -1,9 +1,9 @@
 -- Refusal 3: what has passed it, and what calls ask for. Assumes nothing.
 use Prim.Native.Nat.{ℕ, ◌*◌}
-use mathlib.Core.Path.{◌≡◌, sym, ◌∙◌}
+use mathlib.Core.Path.{◌≡◌, ◌∙◌}
 use mathlib.Core.Bool.{Bool, true, ◌&&◌}
 use mathlib.Core.List.{List}
-use lib.Dec.{eqb, leb}
+use lib.Dec.{eqb}
 use lib.ListN.{length}
 use lib.Ieee.{Float}
 use borrow.Author.Tests.{eqb-true}
@@ -15,7 +15,7 @@ use Rattle.preconditioner.specs.Room.{pattern_room, order_room, values_room}
 use Rattle.preconditioner.specs.declared.mode.Mode.{Mode}
 use Rattle.work_memory.specs.Work.{TableMemory, WorkMemory}
 use Rattle.joint_refusals.specs.Counts.{counts_fit}
-use Rattle.work_memory.specs.Lengths.{table_fits, vectors_fit, factor_fits, passes3, StepRoom, TableRoom, WorkRoom, RowsRoom}
+use Rattle.work_memory.specs.Lengths.{table_fits, vectors_fit, factor_fits, passes3, TableRoom, WorkRoom, RowsRoom}
 
 -- put together from its parts
 pub fits_three : (n b mode : ℕ) (numbers : List Float) (words : List ℕ) (masses solution impulses : List Float) (w : WorkMemory) (m : Mode) (c t v f : Bool) → m ≡ room_mode mode → c ≡ counts_fit n b mode

@@ -1,5 +1,4 @@
 -- `check_alone::memory::checked_in` meets its contract. Assumes nothing.
-use borrow.Author.Rules.{rules}
 use Rattle.closing_check.proofs.Entry.{passed_3}
 use Rattle.check_alone.proofs.Alone.{alone_3}
 use Rattle.check_alone.proofs.memory.checked_in.Goals as goal

@@ -2,7 +2,6 @@
 use mathlib.Core.Path.{refl, sym}
 use native.Mathlib.Omega.{arith}
 use lib.Seq.{length-take-le}
-use borrow.Author.Rules.{rules}
 use Rattle.check_refusals.proofs.Fitting.{given_of}
 use Rattle.check_alone.proofs.Alone.{taken, alone}
 use Rattle.check_alone.proofs.memory.with_memory.Goals as goal

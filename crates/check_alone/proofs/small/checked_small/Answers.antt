@@ -1,5 +1,4 @@
 -- `check_alone::small::checked_small` meets its contract. Assumes nothing.
-use borrow.Author.Rules.{rules}
 use Rattle.closing_check.proofs.Entry.{passed_3}
 use Rattle.check_alone.proofs.Alone.{alone_3}
 use Rattle.check_alone.proofs.small.checked_small.Goals as goal

@@ -2,7 +2,6 @@
 use mathlib.Core.Path.{refl, sym}
 use native.Mathlib.Omega.{arith}
 use lib.Seq.{length-take-le}
-use borrow.Author.Rules.{rules}
 use Rattle.kapitsa_joint.specs.declared.kind.Kind.TheVariants.{Position}
 use Rattle.check_alone.proofs.Alone.{taken, alone}
 use Rattle.check_alone.proofs.small.with_small_memory.Goals as goal

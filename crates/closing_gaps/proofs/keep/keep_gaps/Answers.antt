@@ -1,5 +1,4 @@
 -- `closing_gaps::keep::keep_gaps` meets its contract. Assumes nothing.
-use borrow.Author.Rules.{rules}
 use Rattle.closing_gaps.proofs.Told.{kept_closed, kept_open, kept_refused}
 use Rattle.closing_gaps.proofs.keep.keep_gaps.Goals as goal
 

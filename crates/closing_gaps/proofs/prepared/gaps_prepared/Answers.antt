@@ -1,6 +1,5 @@
 -- `closing_gaps::prepared::gaps_prepared` meets its contract. Assumes nothing.
 use mathlib.Core.Path.{sym, ◌∙◌}
-use borrow.Author.Rules.{rules}
 use Rattle.kapitsa_joint.specs.Table.{table_of}
 use Rattle.mass_operator.specs.Flat.{coefficients}
 use Rattle.rules.specs.Rows.{rules_in}

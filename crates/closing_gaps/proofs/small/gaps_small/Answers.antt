@@ -1,5 +1,4 @@
 -- `closing_gaps::small::gaps_small` meets its contract. Assumes nothing.
-use borrow.Author.Rules.{rules}
 use lib.ListN.{length}
 use Rattle.closing_check.proofs.Entry.{passed_3}
 use Rattle.closing_gaps.specs.Gaps.{gaps_lent}

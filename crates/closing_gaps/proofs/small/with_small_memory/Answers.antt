@@ -3,7 +3,6 @@ use mathlib.Core.Path.{refl, sym}
 use native.Mathlib.Omega.{arith}
 use lib.ListN.{length}
 use lib.Seq.{length-take-le}
-use borrow.Author.Rules.{rules}
 use Rattle.kapitsa_joint.specs.declared.kind.Kind.TheVariants.{Position}
 use Rattle.check_alone.proofs.Alone.{taken}
 use Rattle.closing_gaps.specs.Gaps.{gaps_lent}

@@ -1,5 +1,4 @@
 -- `closing_margins::closed::list_closed` meets its contract. Assumes nothing.
-use borrow.Author.Rules.{rules}
 use Rattle.closing_margins.proofs.Entry.{sized_closed, words_closed, listed_closed, listed_open, listed_refused}
 use Rattle.closing_margins.proofs.closed.list_closed.Goals as goal
 

@@ -1,7 +1,6 @@
 -- `closing_margins::prepared::margins_prepared` meets its contract. Assumes nothing.
 use mathlib.Core.Path.{refl, sym}
 use lib.Seq.{length-take-le}
-use borrow.Author.Rules.{rules}
 use Rattle.mass_operator.specs.Flat.{coefficients}
 use Rattle.closing_check.specs.Beside.{placed_in}
 use Rattle.closing_check.proofs.Entry.{checked_3}

@@ -1,7 +1,6 @@
 -- `closing_margins::prepared::margins_with` meets its contract. Assumes nothing.
 use mathlib.Core.Path.{refl}
 use native.Mathlib.Omega.{arith}
-use borrow.Author.Rules.{rules}
 use lib.ListN.{length}
 use Rattle.rules.specs.Rows.{rules_in}
 use Rattle.closing_gaps.specs.Gaps.{gaps_lent}

@@ -1,5 +1,4 @@
 -- `closing_margins::small::margins_small` meets its contract. Assumes nothing.
-use borrow.Author.Rules.{rules}
 use lib.ListN.{length}
 use Rattle.closing_margins.specs.Held.{margins_lent}
 use Rattle.closing_check.proofs.Entry.{passed_3}

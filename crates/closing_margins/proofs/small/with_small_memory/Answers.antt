@@ -2,7 +2,6 @@
 use mathlib.Core.Path.{refl, sym}
 use native.Mathlib.Omega.{arith}
 use lib.Seq.{length-take-le}
-use borrow.Author.Rules.{rules}
 use lib.ListN.{length}
 use Rattle.closing_margins.specs.Held.{margins_lent}
 use Rattle.kapitsa_joint.specs.declared.kind.Kind.TheVariants.{Position}

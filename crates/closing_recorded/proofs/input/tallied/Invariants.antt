@@ -1,5 +1,5 @@
 -- `closing_recorded::input::tallied` stays within the space, and ends: `left` falls. Assumes nothing.
-use Rattle.std.proofs.Common.{◌≡◌, ◌≤◌, length, sym, arith, length-take-le, rules}
+use Rattle.std.proofs.Common.{◌≡◌, ◌≤◌, length}
 use Rattle.closing_recorded.proofs.input.tallied.Given as goal
 
 abbrev pub invariant-loop-left : goal.invariant-loop-left

@@ -1,5 +1,5 @@
 -- `closing_recorded::replay::read_in` meets its contract. Assumes nothing.
-use Rattle.std.proofs.Common.{take, replicate, sym, arith, length-take-le, rules}
+use Rattle.std.proofs.Common.{take, replicate, arith, length-take-le}
 use Rattle.closing_recorded.proofs.Reading.{seen_in_lem}
 use Rattle.closing_recorded.proofs.replay.read_in.Goals as goal
 

@@ -1,5 +1,5 @@
 -- `closing_recorded::replay::replay` meets its contract. Assumes nothing.
-use Rattle.std.proofs.Common.{refl, arith, rules}
+use Rattle.std.proofs.Common.{refl, arith}
 use Rattle.closing_recorded.proofs.Forming.{formed_head, formed_of, replay_none, replay_seen}
 use Rattle.closing_recorded.proofs.replay.replay.Goals as goal
 

@@ -1,10 +1,6 @@
 -- `first_refusal::first::first_failing` meets its contract. Assumes nothing.
-use Prim.Native.Nat.{◌-◌}
-use mathlib.Core.Path.{subst}
 use native.Mathlib.Omega.{arith}
-use Rattle.rules.specs.Rows.{rules_in}
-use Rattle.first_refusal.specs.Place.{passes_at}
-use Rattle.first_refusal.proofs.Led.{Led, led, led_none, led_more, led_stop, led_end}
+use Rattle.first_refusal.proofs.Led.{led, led_none, led_more, led_stop, led_end}
 use Rattle.first_refusal.proofs.first.first_failing.Goals as goal
 
 pub loop-i-init : goal.loop-i-init

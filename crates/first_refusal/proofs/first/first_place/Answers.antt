@@ -1,6 +1,5 @@
 -- `first_refusal::first::first_place` meets its contract. Assumes nothing.
 use borrow.Author.Rules.{rules}
-use native.Mathlib.Omega.{arith}
 use Rattle.rules.specs.Rows.{rules_in}
 use Rattle.first_refusal.proofs.Places.{count_is, place_none, place_body, place_rule, place_row, first_few}
 use Rattle.first_refusal.proofs.first.first_place.Goals as goal

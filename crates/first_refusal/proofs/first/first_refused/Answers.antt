@@ -1,5 +1,4 @@
 -- `first_refusal::first::first_refused` meets its contract. Assumes nothing.
-use borrow.Author.Rules.{rules}
 use Rattle.rules.specs.Rows.{rules_in}
 use Rattle.first_refusal.proofs.Places.{fits_is, refused_none, refused_limit, refused_first}
 use Rattle.first_refusal.proofs.first.first_refused.Goals as goal

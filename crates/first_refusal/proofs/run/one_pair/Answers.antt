@@ -1,7 +1,5 @@
 -- `first_refusal::run::one_pair` meets its contract. Assumes nothing.
-use Prim.Native.Nat.{◌-◌}
-use Rattle.loops.proofs.Every.{Holds, called}
-use Rattle.first_refusal.specs.Run.{pair_at}
+use Rattle.loops.proofs.Every.{called}
 use Rattle.first_refusal.proofs.run.one_pair.Goals as goal
 
 pub overflow_mul-a : goal.overflow_mul-a

@@ -1,6 +1,6 @@
 -- `first_refusal::run::one_pair` meets its contract. Assumes nothing.
 use Prim.Native.Nat.{◌-◌}
-use Rattle.loops.proofs.Every.{Holds, called}
+use Rattle.loops.proofs.Every.{Holds}
 use Rattle.first_refusal.specs.Run.{pair_at}
 use Rattle.first_refusal.proofs.run.one_pair.Given as goal
 

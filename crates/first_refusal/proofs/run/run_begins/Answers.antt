@@ -1,6 +1,4 @@
 -- `first_refusal::run::run_begins` meets its contract. Assumes nothing.
-use borrow.Author.Rules.{rules}
-use native.Mathlib.Omega.{arith}
 use Rattle.first_refusal.proofs.Runs.{begins_first, begins_later}
 use Rattle.first_refusal.proofs.run.run_begins.Goals as goal
 

@@ -1,5 +1,4 @@
 -- `first_refusal::run::run_fits` meets its contract. Assumes nothing.
-use borrow.Author.Rules.{rules}
 use native.Mathlib.Omega.{arith}
 use Rattle.first_refusal.proofs.Runs.{run_none, run_some_fits, run_inside}
 use Rattle.first_refusal.proofs.run.run_fits.Goals as goal

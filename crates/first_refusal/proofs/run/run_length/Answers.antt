@@ -1,10 +1,6 @@
 -- `first_refusal::run::run_length` meets its contract. Assumes nothing.
-use Prim.Native.Nat.{◌+◌, ◌-◌}
-use lib.Dec.{eqb}
 use mathlib.Core.Path.{refl}
-use native.Mathlib.Omega.{arith}
-use Rattle.first_refusal.specs.Run.{owner_at}
-use Rattle.first_refusal.proofs.Led.{Led, led, led_none, led_more, led_stop, led_end}
+use Rattle.first_refusal.proofs.Led.{led, led_none, led_more, led_stop, led_end}
 use Rattle.first_refusal.proofs.Runs.{run_is, owner_same, owner_other}
 use Rattle.first_refusal.proofs.run.run_length.Goals as goal
 

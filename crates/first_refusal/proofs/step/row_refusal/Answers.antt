@@ -1,5 +1,4 @@
 -- `first_refusal::step::row_refusal` meets its contract. Assumes nothing.
-use borrow.Author.Rules.{rules}
 use native.Mathlib.Omega.{arith}
 use Prim.Native.Nat.{◌+◌, ◌-◌, ◌*◌}
 use Rattle.rules.specs.Rows.{rules_in}

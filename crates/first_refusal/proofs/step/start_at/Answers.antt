@@ -1,6 +1,5 @@
 -- `first_refusal::step::start_at` meets its contract. Assumes nothing.
 use borrow.Author.Rules.{rules}
-use native.Mathlib.Omega.{arith}
 use Rattle.first_refusal.proofs.Judged.{start_position, start_velocity}
 use Rattle.first_refusal.proofs.step.start_at.Goals as goal
 

@@ -1,5 +1,4 @@
 -- `first_refusal::step::tolerance_at` meets its contract. Assumes nothing.
-use borrow.Author.Rules.{rules}
 use Rattle.first_refusal.proofs.Judged.{tolerance_some, tolerance_none}
 use Rattle.first_refusal.proofs.step.tolerance_at.Goals as goal
 

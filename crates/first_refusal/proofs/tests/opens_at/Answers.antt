@@ -1,5 +1,4 @@
 -- `first_refusal::tests::opens_at` meets its contract. Assumes nothing.
-use borrow.Author.Rules.{rules}
 use native.Mathlib.Omega.{arith}
 use Rattle.first_refusal.proofs.Judged.{opens_position, opens_velocity}
 use Rattle.first_refusal.proofs.tests.opens_at.Goals as goal

@@ -36,11 +36,11 @@ returns-in-Refused c =
     let a = c.args in
     let room = c.requires.job_room in
     let fits = solve_fits_lem room (length-take-le a.trailer.rows (replicate 128 0) room.few_rows) in
-    wrote_as (job_refused a.sheet a.trailer a.numbers.now a.words.now a.masses.now a.centres.now c.tolerances_fit.ensures c.if-not-tolerances_fit.false-raw a.solution.now a.impulses.now a.new-centres.now fits c.solve_small_position-answer.ensures c.in-Refused.is) c.write_turned-in-Refused.ensures
+    wrote_as (job_refused a.sheet a.trailer a.numbers.now a.words.now a.masses.now a.centres.now c.tolerances_fit.ensures c.if-not-tolerances_fit.false-raw a.solution.now a.impulses.now a.new_centres.now fits c.solve_small_position-answer.ensures c.in-Refused.is) c.write_turned-in-Refused.ensures
 
 pub returns-in-Accepted : goal.returns-in-Accepted
 returns-in-Accepted c =
     let a = c.args in
     let room = c.requires.job_room in
     let fits = solve_fits_lem room (length-take-le a.trailer.rows (replicate 128 0) room.few_rows) in
-    wrote_as (job_accepted a.sheet a.trailer a.numbers.now a.words.now a.masses.now a.centres.now c.tolerances_fit.ensures c.if-not-tolerances_fit.false-raw a.solution.now a.impulses.now a.new-centres.now fits c.solve_small_position-answer.ensures _ c.in-Accepted.is) c.write_solved.ensures
+    wrote_as (job_accepted a.sheet a.trailer a.numbers.now a.words.now a.masses.now a.centres.now c.tolerances_fit.ensures c.if-not-tolerances_fit.false-raw a.solution.now a.impulses.now a.new_centres.now fits c.solve_small_position-answer.ensures _ c.in-Accepted.is) c.write_solved.ensures

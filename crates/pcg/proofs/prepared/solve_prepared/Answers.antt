@@ -41,10 +41,10 @@ commit-requires c =
 pub name_ruled-requires : goal.name_ruled-requires
 name_ruled-requires c =
     let a = c.args in
-    let before : Lent = record { numbers = a.numbers.now; solution = a.solution.now; impulses = a.impulses.now; centres = a.new-centres.now } in
+    let before : Lent = record { numbers = a.numbers.now; solution = a.solution.now; impulses = a.impulses.now; centres = a.new_centres.now } in
     let lent = lent_tests c.args.kind c.args.rows _ _ _ c.args.bodies (length c.args.centres.now) (length c.args.new_centres.now) (length c.args.given.now) c.rules_lent.ensures c.beside_lent.ensures in record {
       rule_tolerances_in_bounds = lent_rules c.args.kind c.args.rows _ _ _ c.args.bodies (length c.args.centres.now) (length c.args.new_centres.now) (length c.args.given.now) lent c.if-not-lent.false-raw;
-      naming_ruled = naming_ruled a.kind (rules_in a.rule-words.now a.rule-tolerances.now) a.rows a.bodies a.numbers.now a.words.now a.masses.now a.centres.now a.given.now a.shift (mode_of a.mode a.shift) a.limit before c.propose_by_rules-answer.ensures (λ f. (rows_room _ _ _ a.numbers.now a.words.now a.masses.now a.solution.now a.impulses.now _ f).words_long)
+      naming_ruled = naming_ruled a.kind (rules_in a.rule_words.now a.rule_tolerances.now) a.rows a.bodies a.numbers.now a.words.now a.masses.now a.centres.now a.given.now a.shift (mode_of a.mode a.shift) a.limit before c.propose_by_rules-answer.ensures (λ f. (rows_room _ _ _ a.numbers.now a.words.now a.masses.now a.solution.now a.impulses.now _ f).words_long)
           (lent_numbers c.args.kind c.args.rows _ _ _ c.args.bodies (length c.args.centres.now) (length c.args.new_centres.now) (length c.args.given.now) lent c.if-not-lent.false-raw);
     }
 

@@ -1,8 +1,7 @@
 -- `position_delivery::impulses::deliver_impulses` meets its contract: the impulses of the bodies below b are in order. Assumes nothing.
 use Prim.Native.Nat.{◌-◌}
-use Rattle.loops.proofs.Loop.{loops}
 use Rattle.kapitsa_joint.specs.Impulse.{paired_of}
-use Rattle.position_delivery.proofs.InOrder.{Puts, puts_none, puts_more, puts_end}
+use Rattle.position_delivery.proofs.InOrder.{Puts}
 use Rattle.position_delivery.proofs.impulses.deliver_impulses.Given as goal
 
 abbrev pub invariant-loop-b : goal.invariant-loop-b

@@ -1,11 +1,7 @@
 -- `position_iteration::iteration::iterate` meets its contract. Assumes nothing.
-use Prim.Native.Nat.{◌-◌}
-use mathlib.Core.Path.{◌≡◌, refl, ◌∙◌}
+use mathlib.Core.Path.{refl, ◌∙◌}
 use native.Mathlib.Omega.{arith}
-use lib.ListN.{length}
-use Rattle.loops.proofs.Loop.{loops, At, at_none}
-use Rattle.steps.specs.Solve.{turn}
-use Rattle.position_iteration.specs.Standing.{steps_in}
+use Rattle.loops.proofs.Loop.{loops, at_none}
 use Rattle.position_iteration.proofs.Turning.{loop_on, loop_met, loop_refused, loop_spent}
 use Rattle.position_iteration.proofs.iteration.iterate.Goals as goal
 

@@ -1,12 +1,10 @@
 -- `position_iteration::iteration::iterate` meets its contract. Assumes nothing.
 use Prim.Native.Nat.{◌-◌}
-use mathlib.Core.Path.{◌≡◌, refl, ◌∙◌}
-use native.Mathlib.Omega.{arith}
+use mathlib.Core.Path.{◌≡◌}
 use lib.ListN.{length}
-use Rattle.loops.proofs.Loop.{loops, At, at_none}
+use Rattle.loops.proofs.Loop.{At}
 use Rattle.steps.specs.Solve.{turn}
 use Rattle.position_iteration.specs.Standing.{steps_in}
-use Rattle.position_iteration.proofs.Turning.{loop_on, loop_met, loop_refused, loop_spent}
 use Rattle.position_iteration.proofs.iteration.iterate.Given as goal
 
 abbrev pub invariant-loop-k : goal.invariant-loop-k

@@ -1,5 +1,5 @@
 -- `position_iteration::turn::take_diagonal_step` meets its contract. Assumes nothing.
-use mathlib.Core.Path.{◌≡◌, refl, sym, ◌∙◌}
+use mathlib.Core.Path.{sym, ◌∙◌}
 use native.Mathlib.Omega.{arith}
 use Rattle.loops.proofs.Loop.{loops}
 use Rattle.position_iteration.proofs.DiagonalTurns.{diagonal_refused, diagonal_overflow, diagonal_met, diagonal_on, diagonal_out_lem}

@@ -1,5 +1,5 @@
 -- `position_iteration::turn::take_factor_step` meets its contract. Assumes nothing.
-use mathlib.Core.Path.{◌≡◌, refl, sym, ◌∙◌}
+use mathlib.Core.Path.{sym, ◌∙◌}
 use native.Mathlib.Omega.{arith}
 use Rattle.loops.proofs.Loop.{loops}
 use Rattle.recurrence.proofs.Residual.{sixteen_alone}

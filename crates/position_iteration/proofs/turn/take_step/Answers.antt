@@ -1,5 +1,5 @@
 -- `position_iteration::turn::take_step` meets its contract. Assumes nothing.
-use mathlib.Core.Path.{◌≡◌, refl, sym, ◌∙◌}
+use mathlib.Core.Path.{sym, ◌∙◌}
 use Rattle.loops.proofs.Loop.{loops}
 use Rattle.position_iteration.proofs.Fits.{table_fits, linked_fits}
 use Rattle.position_iteration.proofs.Turning.{turn_refused, turn_along}

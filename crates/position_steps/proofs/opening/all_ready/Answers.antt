@@ -9,7 +9,7 @@ ruleset known = (loops)
 
 pub returns-then-not-placed : goal.returns-then-not-placed
 returns-then-not-placed c =
-    absurd (true≢false (sym e))
+    λ e. absurd (true≢false (sym e))
 
 pub shift_fits-requires : goal.shift_fits-requires
 shift_fits-requires c =
@@ -17,11 +17,11 @@ shift_fits-requires c =
 
 pub returns-then-not-shift_fits : goal.returns-then-not-shift_fits
 returns-then-not-shift_fits c =
-    absurd (true≢false (sym e))
+    λ e. absurd (true≢false (sym e))
 
 pub returns-then-limit-eq0 : goal.returns-then-limit-eq0
 returns-then-limit-eq0 c =
-    absurd (true≢false (sym e))
+    λ e. absurd (true≢false (sym e))
 
 pub rules_fit-requires : goal.rules_fit-requires
 rules_fit-requires c =
@@ -29,7 +29,7 @@ rules_fit-requires c =
 
 pub returns-then-not-rules_fit : goal.returns-then-not-rules_fit
 returns-then-not-rules_fit c =
-    absurd (true≢false (sym e))
+    λ e. absurd (true≢false (sym e))
 
 pub wide-requires : goal.wide-requires
 wide-requires c =
@@ -41,7 +41,7 @@ rows_ready-requires c =
 
 pub returns-then-not-rows_ready : goal.returns-then-not-rows_ready
 returns-then-not-rows_ready c =
-    absurd (true≢false (sym e))
+    λ e. absurd (true≢false (sym e))
 
 pub wide-requires-2 : goal.wide-requires-2
 wide-requires-2 c =
@@ -53,7 +53,7 @@ masses_finite-requires c =
 
 pub returns-then-not-masses_finite : goal.returns-then-not-masses_finite
 returns-then-not-masses_finite c =
-    absurd (true≢false (sym e))
+    λ e. absurd (true≢false (sym e))
 
 pub given_fits-requires : goal.given_fits-requires
 given_fits-requires c =
@@ -61,5 +61,5 @@ given_fits-requires c =
 
 pub returns : goal.returns
 returns c =
-    all_at_once c.args.kind c.args.rows c.args.bodies c.args.numbers.now c.args.words.now c.args.masses.now c.args.given.now _ _ _ _
+    λ e. all_at_once c.args.kind c.args.rows c.args.bodies c.args.numbers.now c.args.words.now c.args.masses.now c.args.given.now _ _ _ _
     c.if-not-placed.false-raw c.shift_fits.ensures c.if-not-shift_fits.false-raw c.if-limit-eq0.false c.rules_fit.ensures c.if-not-rules_fit.false-raw c.wide.ensures c.rows_ready.ensures c.if-not-rows_ready.false-raw c.wide-2.ensures c.masses_finite.ensures c.if-not-masses_finite.false-raw c.given_fits.ensures e

@@ -1,5 +1,4 @@
 -- `position_steps::ready::opens_by_kind` meets its contract. Assumes nothing.
-use borrow.Author.Rules.{rules}
 use Rattle.position_steps.proofs.ready.opens_by_kind.Goals as goal
 
 pub returns-in-Position : goal.returns-in-Position

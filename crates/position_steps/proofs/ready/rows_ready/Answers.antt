@@ -1,8 +1,5 @@
 -- `position_steps::ready::rows_ready` meets its contract: the rows below i are ready. Assumes nothing.
-use Prim.Native.Nat.{◌-◌}
-use Rattle.loops.proofs.Every.{Holds, called}
-use Rattle.rules.specs.Rows.{rules_in}
-use Rattle.position_steps.specs.Ready.{row_ready}
+use Rattle.loops.proofs.Every.{called}
 use Rattle.position_steps.proofs.ready.rows_ready.Goals as goal
 
 pub rules_plain-plain-requires : goal.rules_plain-plain-requires

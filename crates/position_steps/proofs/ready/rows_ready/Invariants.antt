@@ -1,6 +1,6 @@
 -- `position_steps::ready::rows_ready` meets its contract: the rows below i are ready. Assumes nothing.
 use Prim.Native.Nat.{◌-◌}
-use Rattle.loops.proofs.Every.{Holds, called}
+use Rattle.loops.proofs.Every.{Holds}
 use Rattle.rules.specs.Rows.{rules_in}
 use Rattle.position_steps.specs.Ready.{row_ready}
 use Rattle.position_steps.proofs.ready.rows_ready.Given as goal

@@ -33,7 +33,13 @@ slice_bounds-solve-end-2 c =
 
 pub solve-requires : goal.solve-requires
 solve-requires c =
-    (index_lent _ _ _ c.requires.factor_ready, (order_lent _ _ _ c.requires.factor_ready, (sym (columns_are _ _ _ c.requires.factor_ready), c.requires.pivots_len)))
+    record {
+      indexed = index_lent _ _ _ c.requires.factor_ready;
+      order_len = order_lent _ _ _ c.requires.factor_ready;
+      values_len = sym (columns_are _ _ _ c.requires.factor_ready);
+      pivots_len = c.requires.pivots_len.0;
+      residual_len = c.requires.pivots_len.1;
+    }
 
 pub returns : goal.returns
 returns c =

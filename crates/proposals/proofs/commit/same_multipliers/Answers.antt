@@ -1,9 +1,6 @@
 -- `proposals::commit::same_multipliers` meets its contract: the rows below i have the bits they started from. Assumes nothing.
-use Prim.Native.Nat.{◌-◌}
-use lib.Dec.{eqb}
-use lib.ListN.{length}
-use Rattle.loops.proofs.Every.{Holds, called}
-use Rattle.proposals.specs.Commit.{bits_now, bits_then, same_multipliers}
+use Rattle.loops.proofs.Every.{called}
+use Rattle.proposals.specs.Commit.{same_multipliers}
 use Rattle.proposals.proofs.Judging.{bits_tested}
 use Rattle.proposals.proofs.commit.same_multipliers.Goals as goal
 

@@ -2,9 +2,8 @@
 use Prim.Native.Nat.{◌-◌}
 use lib.Dec.{eqb}
 use lib.ListN.{length}
-use Rattle.loops.proofs.Every.{Holds, called}
-use Rattle.proposals.specs.Commit.{bits_now, bits_then, same_multipliers}
-use Rattle.proposals.proofs.Judging.{bits_tested}
+use Rattle.loops.proofs.Every.{Holds}
+use Rattle.proposals.specs.Commit.{bits_now, bits_then}
 use Rattle.proposals.proofs.commit.same_multipliers.Given as goal
 
 abbrev pub invariant-loop-i : goal.invariant-loop-i

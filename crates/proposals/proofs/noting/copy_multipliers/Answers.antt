@@ -1,11 +1,7 @@
 -- `proposals::noting::copy_multipliers` meets its contract: the first i multipliers are written. Assumes nothing.
-use Prim.Native.Nat.{◌-◌}
-use lib.Ieee.{nan}
-use lib.ListN.{length}
-use Rattle.loops.proofs.Fill.{Fills, fills_none, fills_more}
+use Rattle.loops.proofs.Fill.{fills_none, fills_more}
 use Rattle.loops.proofs.Loop.{loops}
 use Rattle.loops.proofs.Tabulate.{filled_tabulate}
-use Rattle.position.specs.Multipliers.{accumulated_in}
 use Rattle.proposals.proofs.noting.copy_multipliers.Goals as goal
 
 ruleset known = (fills_none, fills_more, filled_tabulate, loops)

@@ -2,9 +2,7 @@
 use Prim.Native.Nat.{◌-◌}
 use lib.Ieee.{nan}
 use lib.ListN.{length}
-use Rattle.loops.proofs.Fill.{Fills, fills_none, fills_more}
-use Rattle.loops.proofs.Loop.{loops}
-use Rattle.loops.proofs.Tabulate.{filled_tabulate}
+use Rattle.loops.proofs.Fill.{Fills}
 use Rattle.position.specs.Multipliers.{accumulated_in}
 use Rattle.proposals.proofs.noting.copy_multipliers.Given as goal
 

@@ -1,13 +1,8 @@
 -- `recurrence::diagonal::advance_diagonal` meets its contract: i rows are passed. Assumes nothing.
-use Prim.Native.Nat.{◌-◌}
-use mathlib.Core.Bool.{true}
-use mathlib.Core.Path.{◌≡◌, refl, ◌∙◌}
+use mathlib.Core.Path.{refl, ◌∙◌}
 use native.Mathlib.Omega.{arith}
-use lib.ListN.{length}
-use Rattle.loops.specs.Cleared.{plus_zero}
 use Rattle.loops.proofs.Loop.{loops}
-use Rattle.recurrence.specs.Pass.{pass_out}
-use Rattle.recurrence.proofs.OnePass.{Passing, in_each, passing_none, passing_one, passing_two, one_pass}
+use Rattle.recurrence.proofs.OnePass.{in_each, passing_none, passing_one, passing_two, one_pass}
 use Rattle.recurrence.proofs.Turns.{diagonal_left}
 use Rattle.recurrence.proofs.diagonal.advance_diagonal.Goals as goal
 

@@ -1,5 +1,4 @@
 -- `recurrence::diagonal::update_row` meets its contract. Assumes nothing.
-use borrow.Author.Rules.{rules}
 use Rattle.recurrence.proofs.OnePass.{one_row}
 use Rattle.recurrence.proofs.diagonal.update_row.Goals as goal
 

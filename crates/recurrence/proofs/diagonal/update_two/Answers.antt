@@ -1,5 +1,4 @@
 -- `recurrence::diagonal::update_two` meets its contract. Assumes nothing.
-use borrow.Author.Rules.{rules}
 use Rattle.recurrence.proofs.OnePass.{two_rows}
 use Rattle.recurrence.proofs.diagonal.update_two.Goals as goal
 

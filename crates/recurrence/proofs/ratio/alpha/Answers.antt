@@ -1,5 +1,4 @@
 -- `recurrence::ratio::alpha` meets its contract. Assumes nothing.
-use borrow.Author.Rules.{rules}
 use Rattle.recurrence.proofs.Ways.{alpha_bad, alpha_big, alpha_is, alpha_low}
 use Rattle.recurrence.proofs.ratio.alpha.Goals as goal
 

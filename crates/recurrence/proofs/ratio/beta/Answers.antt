@@ -1,5 +1,4 @@
 -- `recurrence::ratio::beta` meets its contract. Assumes nothing.
-use borrow.Author.Rules.{rules}
 use Rattle.recurrence.proofs.Ways.{beta_bad, beta_is}
 use Rattle.recurrence.proofs.ratio.beta.Goals as goal
 

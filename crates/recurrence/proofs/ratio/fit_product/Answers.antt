@@ -1,5 +1,4 @@
 -- `recurrence::ratio::fit_product` meets its contract. Assumes nothing.
-use borrow.Author.Rules.{rules}
 use Rattle.recurrence.proofs.Ways.{product_bad, product_is, product_low}
 use Rattle.recurrence.proofs.ratio.fit_product.Goals as goal
 

@@ -1,8 +1,7 @@
 -- `recurrence::vector::dot_product` meets its contract: the first i products are summed. Assumes nothing.
 use Prim.Native.Nat.{◌-◌}
 use lib.ListN.{length}
-use borrow.Author.Rules.{rules}
-use Rattle.mass_operator.proofs.Dots.{Dots, dots_end, dots_more, dots_none}
+use Rattle.mass_operator.proofs.Dots.{Dots}
 use Rattle.recurrence.proofs.vector.dot_product.Given as goal
 
 abbrev pub invariant-loop-i : goal.invariant-loop-i

@@ -1,12 +1,9 @@
 -- `recurrence::vector::scaled_subtract` meets its contract: the first i numbers are changed, the others those at entry. Assumes nothing.
-use Prim.Native.Nat.{◌-◌}
 use mathlib.Core.Path.{refl}
 use native.Mathlib.Omega.{arith}
-use lib.Ieee.{nan}
-use lib.ListN.{length}
 use Rattle.loops.proofs.Loop.{loops}
-use Rattle.preconditioner.proofs.InPlace.{Changes, changes_more, changes_none}
-use Rattle.recurrence.proofs.Sums.{loses, lost}
+use Rattle.preconditioner.proofs.InPlace.{changes_more, changes_none}
+use Rattle.recurrence.proofs.Sums.{lost}
 use Rattle.recurrence.proofs.vector.scaled_subtract.Goals as goal
 
 ruleset known = (lost, changes_none, loops)

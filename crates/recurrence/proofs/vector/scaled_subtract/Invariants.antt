@@ -1,12 +1,9 @@
 -- `recurrence::vector::scaled_subtract` meets its contract: the first i numbers are changed, the others those at entry. Assumes nothing.
 use Prim.Native.Nat.{◌-◌}
-use mathlib.Core.Path.{refl}
-use native.Mathlib.Omega.{arith}
 use lib.Ieee.{nan}
 use lib.ListN.{length}
-use Rattle.loops.proofs.Loop.{loops}
-use Rattle.preconditioner.proofs.InPlace.{Changes, changes_more, changes_none}
-use Rattle.recurrence.proofs.Sums.{loses, lost}
+use Rattle.preconditioner.proofs.InPlace.{Changes}
+use Rattle.recurrence.proofs.Sums.{loses}
 use Rattle.recurrence.proofs.vector.scaled_subtract.Given as goal
 
 abbrev pub invariant-loop-i : goal.invariant-loop-i

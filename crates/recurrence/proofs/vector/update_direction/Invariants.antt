@@ -1,9 +1,8 @@
 -- `recurrence::vector::update_direction` meets its contract: the first i numbers are changed and tested, the others those at entry. Assumes nothing.
 use Prim.Native.Nat.{◌-◌}
 use lib.ListN.{length}
-use Rattle.loops.proofs.Loop.{loops}
-use Rattle.recurrence.proofs.Sums.{turned, becomes}
-use Rattle.recurrence.proofs.Tested.{Tested, tested_none, tested_more, tested_end}
+use Rattle.recurrence.proofs.Sums.{becomes}
+use Rattle.recurrence.proofs.Tested.{Tested}
 use Rattle.recurrence.proofs.vector.update_direction.Given as goal
 
 abbrev pub invariant-loop-i : goal.invariant-loop-i

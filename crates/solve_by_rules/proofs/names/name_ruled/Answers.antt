@@ -1,5 +1,4 @@
 -- `solve_by_rules::names::name_ruled` meets its contract. Assumes nothing.
-use Rattle.loops.proofs.Loop.{loops}
 use Rattle.solve_by_rules.proofs.Naming.{named_accepted, named_refused}
 use Rattle.solve_by_rules.proofs.names.name_ruled.Goals as goal
 

@@ -1,5 +1,4 @@
 -- `solve_by_rules::propose::propose_by_rules` meets its contract: what has passed refusal 3 is judged, counted and proposed. Assumes nothing.
-use mathlib.Core.Path.{◌∙◌}
 use native.Mathlib.Omega.{arith}
 use Rattle.loops.proofs.Loop.{loops}
 use Rattle.rules.specs.Rows.{rules_in}
@@ -35,7 +34,7 @@ factor_fits-requires c =
 pub returns-then-not-fits : goal.returns-then-not-fits
 returns-then-not-fits c =
     let a = c.args in
-    let work = work_memory a.jacobians.now a.links.now a.tolerances.now a.diagonal.now a.residual.now a.pending.now a.direction.now a.product.now a.body-impulses.now a.pattern.now a.order.now a.values.now in
+    let work = work_memory a.jacobians.now a.links.now a.tolerances.now a.diagonal.now a.residual.now a.pending.now a.direction.now a.product.now a.body_impulses.now a.pattern.now a.order.now a.values.now in
     let fits = fits_three _ _ _ a.numbers.now a.words.now a.masses.now a.solution.now a.impulses.now work _ _ _ _ _
     c.mode_of.ensures c.counts_fit.ensures c.table_fits.ensures c.vectors_fit.ensures c.factor_fits.ensures in
     proposed_three _ _ _ _ _ _ _ _ _ (solve_apart c.args.kind c.args.rows c.args.bodies c.args.numbers.now c.args.words.now c.args.masses.now c.args.centres.now c.args.given.now (rules_in c.args.rule_words.now c.args.rule_tolerances.now) c.args.shift) fits c.if-not-fits.true-raw
@@ -55,7 +54,7 @@ centres_finite-requires c =
 pub open_table-opened-requires : goal.open_table-opened-requires
 open_table-opened-requires c =
     let a = c.args in
-    let work = work_memory a.jacobians.now a.links.now a.tolerances.now a.diagonal.now a.residual.now a.pending.now a.direction.now a.product.now a.body-impulses.now a.pattern.now a.order.now a.values.now in
+    let work = work_memory a.jacobians.now a.links.now a.tolerances.now a.diagonal.now a.residual.now a.pending.now a.direction.now a.product.now a.body_impulses.now a.pattern.now a.order.now a.values.now in
     let fits = fits_three _ _ _ a.numbers.now a.words.now a.masses.now a.solution.now a.impulses.now work _ _ _ _ _
     c.mode_of.ensures c.counts_fit.ensures c.table_fits.ensures c.vectors_fit.ensures c.factor_fits.ensures in
     let passed = fits_true _ _ fits c.if-not-fits.false-raw in
@@ -70,7 +69,7 @@ mode_of-requires-2 c =
 pub count_steps-counted-requires : goal.count_steps-counted-requires
 count_steps-counted-requires c =
     let a = c.args in
-    let work = work_memory a.jacobians.now a.links.now a.tolerances.now a.diagonal.now a.residual.now a.pending.now a.direction.now a.product.now a.body-impulses.now a.pattern.now a.order.now a.values.now in
+    let work = work_memory a.jacobians.now a.links.now a.tolerances.now a.diagonal.now a.residual.now a.pending.now a.direction.now a.product.now a.body_impulses.now a.pattern.now a.order.now a.values.now in
     let fits = fits_three _ _ _ a.numbers.now a.words.now a.masses.now a.solution.now a.impulses.now work _ _ _ _ _
     c.mode_of.ensures c.counts_fit.ensures c.table_fits.ensures c.vectors_fit.ensures c.factor_fits.ensures in
     let passed = fits_true _ _ fits c.if-not-fits.false-raw in
@@ -85,7 +84,7 @@ place_of-requires c =
 pub propose_and_clear-requires : goal.propose_and_clear-requires
 propose_and_clear-requires c =
     let a = c.args in
-    let work = work_memory a.jacobians.now a.links.now a.tolerances.now a.diagonal.now a.residual.now a.pending.now a.direction.now a.product.now a.body-impulses.now a.pattern.now a.order.now a.values.now in
+    let work = work_memory a.jacobians.now a.links.now a.tolerances.now a.diagonal.now a.residual.now a.pending.now a.direction.now a.product.now a.body_impulses.now a.pattern.now a.order.now a.values.now in
     let fits = fits_three _ _ _ a.numbers.now a.words.now a.masses.now a.solution.now a.impulses.now work _ _ _ _ _
     c.mode_of.ensures c.counts_fit.ensures c.table_fits.ensures c.vectors_fit.ensures c.factor_fits.ensures in
     let passed = fits_true _ _ fits c.if-not-fits.false-raw in
@@ -98,12 +97,12 @@ propose_and_clear-requires c =
 pub returns : goal.returns
 returns c =
     let a = c.args in
-    let work = work_memory a.jacobians.now a.links.now a.tolerances.now a.diagonal.now a.residual.now a.pending.now a.direction.now a.product.now a.body-impulses.now a.pattern.now a.order.now a.values.now in
+    let work = work_memory a.jacobians.now a.links.now a.tolerances.now a.diagonal.now a.residual.now a.pending.now a.direction.now a.product.now a.body_impulses.now a.pattern.now a.order.now a.values.now in
     let fits = fits_three _ _ _ a.numbers.now a.words.now a.masses.now a.solution.now a.impulses.now work _ _ _ _ _
     c.mode_of.ensures c.counts_fit.ensures c.table_fits.ensures c.vectors_fit.ensures c.factor_fits.ensures in
-    let since = table_since _ _ _ _ _ a.jacobians.now a.links.now a.residual.now a.pending.now a.body-impulses.now _
+    let since = table_since _ _ _ _ _ a.jacobians.now a.links.now a.residual.now a.pending.now a.body_impulses.now _
     c.propose_and_clear.ensures.body_impulses_after c.jacobians-1.given c.links-1.given c.residual-1.given c.pending-1.given c.body_impulses-1.given in
-    let before : Lent = record { numbers = a.numbers.now; solution = a.solution.now; impulses = a.impulses.now; centres = a.new-centres.now } in
+    let before : Lent = record { numbers = a.numbers.now; solution = a.solution.now; impulses = a.impulses.now; centres = a.new_centres.now } in
     solved_kind c.args.kind c.args.rows c.args.bodies c.args.numbers.now c.args.words.now c.args.masses.now c.args.centres.now c.args.given.now
     (rules_in c.args.rule_words.now c.args.rule_tolerances.now) c.args.shift (mode_of c.args.mode c.args.shift) c.args.limit before work _ _ fits c.requires.centres_len.0 _ c.mode_of-2.ensures _ c.placed_of-placed.ensures _ c.centres_finite.ensures _ c.open_table-opened.ensures _ c.place_of.ensures
     _ _ _ _ _ _ _ _ _ _ c.if-not-fits.false-raw c.count_steps-counted.ensures.count_held c.propose_and_clear.ensures.centres_value since

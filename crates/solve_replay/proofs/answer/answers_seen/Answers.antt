@@ -34,11 +34,11 @@ unpack-bodies_at-requires c =
 
 pub unpack-centres_at-requires : goal.unpack-centres_at-requires
 unpack-centres_at-requires c =
-    group_fits c.args.body-words.now 6 c.args.header.bodies _ _ c.requires.answers_value.1 c.wide-b.ensures (omega (arith, c.requires.at_bound.2)) (omega (arith, c.requires.at_bound.0, group_near c.args.answers.now 2 c.args.header.rows _ _ c.requires.answers_value.0 c.wide-n.ensures (omega (arith, c.requires.at_bound.1)) _ c.unpack-bodies_at.ensures.upper_bound))
+    group_fits c.args.body_words.now 6 c.args.header.bodies _ _ c.requires.answers_value.1 c.wide-b.ensures (omega (arith, c.requires.at_bound.2)) (omega (arith, c.requires.at_bound.0, group_near c.args.answers.now 2 c.args.header.rows _ _ c.requires.answers_value.0 c.wide-n.ensures (omega (arith, c.requires.at_bound.1)) _ c.unpack-bodies_at.ensures.upper_bound))
 
 pub unpack-end-requires : goal.unpack-end-requires
 unpack-end-requires c =
-    group_fits c.args.centre-words.now 3 (placed_of c.args.kind c.args.header.bodies) _ _ c.requires.answers_value.2 (c.wide-placed.ensures ∙ c.placed_of.ensures) (omega (arith, c.requires.at_bound.2, placed_few c.args.kind c.args.header.bodies)) (omega (arith, c.requires.at_bound.0, group_near c.args.answers.now 2 c.args.header.rows _ _ c.requires.answers_value.0 c.wide-n.ensures (omega (arith, c.requires.at_bound.1)) _ c.unpack-bodies_at.ensures.upper_bound, group_near c.args.body-words.now 6 c.args.header.bodies _ _ c.requires.answers_value.1 c.wide-b.ensures (omega (arith, c.requires.at_bound.2)) _ c.unpack-centres_at.ensures.upper_bound))
+    group_fits c.args.centre_words.now 3 (placed_of c.args.kind c.args.header.bodies) _ _ c.requires.answers_value.2 (c.wide-placed.ensures ∙ c.placed_of.ensures) (omega (arith, c.requires.at_bound.2, placed_few c.args.kind c.args.header.bodies)) (omega (arith, c.requires.at_bound.0, group_near c.args.answers.now 2 c.args.header.rows _ _ c.requires.answers_value.0 c.wide-n.ensures (omega (arith, c.requires.at_bound.1)) _ c.unpack-bodies_at.ensures.upper_bound, group_near c.args.body_words.now 6 c.args.header.bodies _ _ c.requires.answers_value.1 c.wide-b.ensures (omega (arith, c.requires.at_bound.2)) _ c.unpack-centres_at.ensures.upper_bound))
 
 pub flag-requires : goal.flag-requires
 flag-requires c =
@@ -58,11 +58,11 @@ same_answers-requires c =
 
 pub same_doubles-requires : goal.same_doubles-requires
 same_doubles-requires c =
-    omega (arith, c.requires.rows_len.3, c.body_words-1.given, filled_long 0 (6 * c.args.header.bodies) c.args.body-words.now c.requires.answers_value.1)
+    omega (arith, c.requires.rows_len.3, c.body_words-1.given, filled_long 0 (6 * c.args.header.bodies) c.args.body_words.now c.requires.answers_value.1)
 
 pub same_doubles-requires-2 : goal.same_doubles-requires-2
 same_doubles-requires-2 c =
-    omega (arith, c.requires.rows_len.4, c.centre_words-1.given, filled_long 0 (3 * placed_of c.args.kind c.args.header.bodies) c.args.centre-words.now c.requires.answers_value.2)
+    omega (arith, c.requires.rows_len.4, c.centre_words-1.given, filled_long 0 (3 * placed_of c.args.kind c.args.header.bodies) c.args.centre_words.now c.requires.answers_value.2)
 
 pub kept_numbers-requires : goal.kept_numbers-requires
 kept_numbers-requires c =
