@@ -1,6 +1,5 @@
 -- `small_solve::solve_small_position` meets its contract. Assumes nothing.
 use native.Mathlib.Omega.{arith}
-use borrow.Author.Rules.{rules}
 use Rattle.solve_method.proofs.InPlace.{position_apart}
 use Rattle.own_memory.proofs.Lending.{counts_within, passed, job_refused, job_passed}
 use Rattle.small_solve.proofs.solve_small_position.Goals as goal

@@ -1,5 +1,4 @@
 -- `small_solve::with_diagonal` meets its contract. Assumes nothing.
-use borrow.Author.Rules.{rules}
 use Rattle.own_memory.proofs.Rooms.{no_factor}
 use Rattle.small_solve.proofs.with_diagonal.Goals as goal
 

@@ -2,7 +2,6 @@
 use mathlib.Core.Path.{sym, ◌∙◌}
 use native.Mathlib.Omega.{arith}
 use lib.Seq.{length-take-le}
-use borrow.Author.Rules.{rules}
 use Rattle.own_memory.proofs.Rooms.{pairs_small, pattern_within, order_within, values_within, mode_1, factor_room}
 use Rattle.small_solve.proofs.with_factor.Goals as goal
 

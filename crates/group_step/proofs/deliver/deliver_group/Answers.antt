@@ -1,6 +1,5 @@
 -- `group_step::deliver::deliver_group` meets its contract. Assumes nothing.
 use native.Mathlib.Omega.{arith}
-use borrow.Author.Rules.{rules}
 use Rattle.group_step.proofs.Delivery.{placed_few, accepted_there, accepted_else, refused_there, refused_else}
 use Rattle.group_step.proofs.deliver.deliver_group.Goals as goal
 

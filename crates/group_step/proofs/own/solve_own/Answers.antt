@@ -1,6 +1,5 @@
 -- `group_step::own::solve_own` meets its contract. Assumes nothing.
 use native.Mathlib.Omega.{arith}
-use borrow.Author.Rules.{rules}
 use Rattle.rules.specs.Rows.{rules_in}
 use Rattle.group_table.specs.Pick.{rows_of}
 use Rattle.group_table.proofs.Rows.{rows_within}

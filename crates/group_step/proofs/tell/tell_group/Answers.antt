@@ -1,7 +1,6 @@
 -- `group_step::tell::tell_group` meets its contract. Assumes nothing.
 use mathlib.Core.Path.{refl}
 use native.Mathlib.Omega.{arith}
-use borrow.Author.Rules.{rules}
 use Rattle.group_step.proofs.Telling.{tell_accepted, tell_refused}
 use Rattle.group_step.proofs.tell.tell_group.Goals as goal
 

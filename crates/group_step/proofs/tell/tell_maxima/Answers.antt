@@ -1,7 +1,6 @@
 -- `group_step::tell::tell_maxima` meets its contract. Assumes nothing.
 use native.Mathlib.Omega.{arith}
 use lib.ListN.{length-set}
-use borrow.Author.Rules.{rules}
 use Rattle.group_step.proofs.Telling.{maxima_put}
 use Rattle.group_step.proofs.tell.tell_maxima.Goals as goal
 

@@ -1,7 +1,6 @@
 -- `group_step::tell::tell_words` meets its contract. Assumes nothing.
 use native.Mathlib.Omega.{arith}
 use lib.ListN.{length-set}
-use borrow.Author.Rules.{rules}
 use Rattle.group_step.proofs.Telling.{two_long, words_put}
 use Rattle.group_step.proofs.tell.tell_words.Goals as goal
 

@@ -1,5 +1,4 @@
 -- `kapitsa_c::closing::put_gap` meets its contract. Assumes nothing.
-use borrow.Author.Rules.{rules}
 use Rattle.kapitsa_c.proofs.Telling.{both_set}
 use Rattle.kapitsa_c.proofs.closing.put_gap.Goals as goal
 

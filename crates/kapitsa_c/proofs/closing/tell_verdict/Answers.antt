@@ -1,5 +1,4 @@
 -- `kapitsa_c::closing::tell_verdict` meets its contract. Assumes nothing.
-use borrow.Author.Rules.{rules}
 use Rattle.kapitsa_c.proofs.Verdicts.{told_closed, told_open, told_refused}
 use Rattle.kapitsa_c.proofs.closing.tell_verdict.Goals as goal
 

@@ -1,5 +1,4 @@
 -- `kapitsa_c::solving::kapitsa_solve_position` meets its contract. Assumes nothing.
-use mathlib.Core.Path.{refl}
 use Rattle.solve_method.proofs.InPlace.{position_apart}
 use Rattle.kapitsa_c.proofs.Telling.{told_lengths, told_on, untold}
 use Rattle.kapitsa_c.proofs.solving.kapitsa_solve_position.Goals as goal

@@ -1,5 +1,4 @@
 -- `kapitsa_velocity_c::closing_speeds::kapitsa_velocity_closing_check` meets its contract. Assumes nothing.
-use borrow.Author.Rules.{rules}
 use Rattle.kapitsa_joint.specs.declared.kind.Kind.TheVariants as kinds
 use Rattle.kapitsa_c.proofs.Verdicts.{told_lengths, told_on, untold}
 use Rattle.kapitsa_velocity_c.proofs.closing_speeds.kapitsa_velocity_closing_check.Goals as goal

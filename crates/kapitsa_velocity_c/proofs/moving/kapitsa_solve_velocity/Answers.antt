@@ -1,5 +1,4 @@
 -- `kapitsa_velocity_c::moving::kapitsa_solve_velocity` meets its contract. Assumes nothing.
-use mathlib.Core.Path.{refl}
 use Rattle.solve_method.proofs.InPlace.{velocity_apart}
 use Rattle.kapitsa_c.proofs.Telling.{told_lengths, told_on, untold}
 use Rattle.kapitsa_velocity_c.proofs.moving.kapitsa_solve_velocity.Goals as goal

@@ -1,5 +1,4 @@
 -- `position_solve::solve::solve_position` meets its contract. Assumes nothing.
-use borrow.Author.Rules.{rules}
 use Rattle.position_solve.proofs.solve.solve_position.Goals as goal
 
 pub returns : goal.returns

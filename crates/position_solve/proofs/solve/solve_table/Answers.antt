@@ -1,6 +1,5 @@
 -- `position_solve::solve::solve_table` meets its contract. Assumes nothing.
 use native.Mathlib.Omega.{arith}
-use borrow.Author.Rules.{rules}
 use Rattle.rules.specs.Rows.{rules_in}
 use Rattle.solve_by_rules.proofs.Entry.{solve_apart}
 use Rattle.own_memory.proofs.Lending.{counts_within, passed, job_refused, job_passed}

@@ -2,7 +2,6 @@
 use mathlib.Core.Path.{sym, ◌∙◌}
 use native.Mathlib.Omega.{arith}
 use lib.Seq.{length-take-le}
-use borrow.Author.Rules.{rules}
 use Rattle.own_memory.proofs.Rooms.{owners_within, blocks_within, mode_2, factor_room, no_order}
 use Rattle.position_solve.proofs.solve.with_blocks.Goals as goal
 

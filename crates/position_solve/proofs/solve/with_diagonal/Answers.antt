@@ -1,5 +1,4 @@
 -- `position_solve::solve::with_diagonal` meets its contract. Assumes nothing.
-use borrow.Author.Rules.{rules}
 use Rattle.own_memory.proofs.Rooms.{no_factor}
 use Rattle.position_solve.proofs.solve.with_diagonal.Goals as goal
 

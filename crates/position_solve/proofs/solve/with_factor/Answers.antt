@@ -2,7 +2,6 @@
 use mathlib.Core.Path.{sym, ◌∙◌}
 use native.Mathlib.Omega.{arith}
 use lib.Seq.{length-take-le}
-use borrow.Author.Rules.{rules}
 use Rattle.pairs.proofs.Limit.{room_limit}
 use Rattle.own_memory.proofs.Rooms.{pattern_within, order_within, values_within, mode_1, factor_room}
 use Rattle.position_solve.proofs.solve.with_factor.Goals as goal

@@ -3,7 +3,6 @@ use mathlib.Core.Path.{refl, sym}
 use native.Mathlib.Omega.{arith}
 use lib.ListN.{length}
 use lib.Seq.{length-take-le}
-use borrow.Author.Rules.{rules}
 use Rattle.own_memory.proofs.Lending.{lent_room, job_solved}
 use Rattle.position_solve.proofs.solve.with_vectors.Goals as goal
 

@@ -1,5 +1,4 @@
 -- `position_solve::velocity::solve_velocity` meets its contract. Assumes nothing.
-use borrow.Author.Rules.{rules}
 use Rattle.position_solve.proofs.Moving.{moving_solved}
 use Rattle.position_solve.proofs.velocity.solve_velocity.Goals as goal
 
