@@ -109,7 +109,7 @@ loop-g-smaller c =
 
 pub loop-g-preserved : goal.loop-g-preserved
 loop-g-preserved c =
-    (round_more (bench_of c.args.kind c.args.rows c.args.bodies c.args.words.now c.args.masses.now c.args.centres.now c.args.given.now (rules_in c.args.rule_words.now c.args.rule_tolerances.now) c.args.limit c.args.mode c.args.shift) c.args.marks.now c.args.groups.now c.loop-g.invariant.0 c.loop-g-test.true c.solve_group.ensures c.numbers-1.given c.solution-1.given c.impulses-1.given c.new_centres-1.given c.rule_numbers-1.given c.group_answers-1.given c.group_maxima-1.given, record { numbers_long = front_long _ _ c.solve_group.new.1.1.1.1.1.1.1.1.1.1.1.1.1.1.1.1.1.1.1.1.1.1.1.0 (fit_27 c.count_rows-k.ensures (rows_within c.args.groups.now c.loop-g.g c.args.rows) c.requires.bench_room.rows_few) c.loop-g.invariant.1.numbers_long c.own_numbers-in-loop-g-1.given; words_long = front_long _ _ c.solve_group.new.1.1.1.1.1.1.1.1.1.1.1.1.1.1.1.1.1.1.1.1.1.1.1.1.0 (fit_8 c.count_rows-k.ensures (rows_within c.args.groups.now c.loop-g.g c.args.rows) c.requires.bench_room.rows_few) c.loop-g.invariant.1.words_long c.own_words-in-loop-g-1.given; given_long = front_long _ _ c.solve_group.new.1.1.1.1.1.1.1.1.1.1.1.1.1.1.1.1.1.1.1.1.1.1.1.1.1.0 (fit_1 c.count_rows-k.ensures (rows_within c.args.groups.now c.loop-g.g c.args.rows) c.requires.bench_room.rows_few) c.loop-g.invariant.1.given_long c.own_given-in-loop-g-1.given; solution_long = front_long _ _ c.solve_group.new.1.1.1.1.1.1.1.1.1.1.1.1.1.1.1.1.1.1.1.1.1.1.1.1.1.1.0 (fit_1 c.count_rows-k.ensures (rows_within c.args.groups.now c.loop-g.g c.args.rows) c.requires.bench_room.rows_few) c.loop-g.invariant.1.solution_long c.own_solution-in-loop-g-1.given; impulses_long = front_long _ _ c.solve_group.new.1.1.1.1.1.1.1.1.1.1.1.1.1.1.1.1.1.1.1.1.1.1.1.1.1.1.1.0 (fit_6 c.requires.bench_room.bodies_few) c.loop-g.invariant.1.impulses_long c.own_impulses-in-loop-g-1.given; centres_long = front_long _ _ c.solve_group.new.1.1.1.1.1.1.1.1.1.1.1.1.1.1.1.1.1.1.1.1.1.1.1.1.1.1.1.1.0 (fit_3 c.placed_of.ensures (placed_few c.args.kind c.args.bodies) c.requires.bench_room.bodies_few) c.loop-g.invariant.1.centres_long c.own_centres-in-loop-g-1.given; rules_long = front_long _ _ c.solve_group.new.1.1.1.1.1.1.1.1.1.1.1.1.1.1.1.1.1.1.1.1.1.1.1.1.1.1.1.1.1.0 (fit_1 c.count_rows-k.ensures (rows_within c.args.groups.now c.loop-g.g c.args.rows) c.requires.bench_room.rows_few) c.loop-g.invariant.1.rules_long c.own_rules-in-loop-g-1.given })
+    (round_more (bench_of c.args.kind c.args.rows c.args.bodies c.args.words.now c.args.masses.now c.args.centres.now c.args.given.now (rules_in c.args.rule_words.now c.args.rule_tolerances.now) c.args.limit c.args.mode c.args.shift) c.args.marks.now c.args.groups.now c.loop-g.invariant.0 c.loop-g-test.true c.solve_group.ensures c.numbers-1.given c.solution-1.given c.impulses-1.given c.new_centres-1.given c.rule_numbers-1.given c.group_answers-1.given c.group_maxima-1.given, record { numbers_long = front_long _ _ c.solve_group.new.own_numbers (fit_27 c.count_rows-k.ensures (rows_within c.args.groups.now c.loop-g.g c.args.rows) c.requires.bench_room.rows_few) c.loop-g.invariant.1.numbers_long c.own_numbers-in-loop-g-1.given; words_long = front_long _ _ c.solve_group.new.own_words (fit_8 c.count_rows-k.ensures (rows_within c.args.groups.now c.loop-g.g c.args.rows) c.requires.bench_room.rows_few) c.loop-g.invariant.1.words_long c.own_words-in-loop-g-1.given; given_long = front_long _ _ c.solve_group.new.own_given (fit_1 c.count_rows-k.ensures (rows_within c.args.groups.now c.loop-g.g c.args.rows) c.requires.bench_room.rows_few) c.loop-g.invariant.1.given_long c.own_given-in-loop-g-1.given; solution_long = front_long _ _ c.solve_group.new.own_solution (fit_1 c.count_rows-k.ensures (rows_within c.args.groups.now c.loop-g.g c.args.rows) c.requires.bench_room.rows_few) c.loop-g.invariant.1.solution_long c.own_solution-in-loop-g-1.given; impulses_long = front_long _ _ c.solve_group.new.own_impulses (fit_6 c.requires.bench_room.bodies_few) c.loop-g.invariant.1.impulses_long c.own_impulses-in-loop-g-1.given; centres_long = front_long _ _ c.solve_group.new.own_centres (fit_3 c.placed_of.ensures (placed_few c.args.kind c.args.bodies) c.requires.bench_room.bodies_few) c.loop-g.invariant.1.centres_long c.own_centres-in-loop-g-1.given; rules_long = front_long _ _ c.solve_group.new.own_rules (fit_1 c.count_rows-k.ensures (rows_within c.args.groups.now c.loop-g.g c.args.rows) c.requires.bench_room.rows_few) c.loop-g.invariant.1.rules_long c.own_rules-in-loop-g-1.given })
 
 pub returns : goal.returns
 returns c =

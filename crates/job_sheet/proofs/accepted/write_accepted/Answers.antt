@@ -28,5 +28,5 @@ returns c =
     let a = c.args in
     let room = c.requires.job_room in
     let printed = printed_is a.trailer a.numbers.now a.words.now a.masses.now a.centres.now a.solution.now (take a.trailer.rows (replicate 128 0))
-    (check_room room) (length-take-le _ _ room.few_rows) c.checked_small-answer.ensures.answered a.impulses.now a.new_centres.now a.result c.gap.ensures c.number.ensures in
+    (check_room room) (length-take-le _ _ room.few_rows) c.checked_small-answer.ensures.answered a.impulses.now a.new_centres.now a.res c.gap.ensures c.number.ensures in
     wrote_as printed c.write_listing.ensures

@@ -23,4 +23,4 @@ pub returns : goal.returns
 returns c =
     let a = c.args in
     let room = c.requires.check_room in
-    wrote_as (gaps_printed_lem a.trailer a.numbers.now a.words.now a.masses.now a.centres.now a.solution.now a.rule_numbers.now room c.requires.rule_numbers_len.0 (gaps_fit c.requires.rule_numbers_len.1) c.gaps_small-answer.ensures a.result c.gap.ensures c.number.ensures) c.write_gaps.ensures
+    wrote_as (gaps_printed_lem a.trailer a.numbers.now a.words.now a.masses.now a.centres.now a.solution.now a.rule_numbers.now room c.requires.rule_numbers_len.0 (gaps_fit c.requires.rule_numbers_len.1) c.gaps_small-answer.ensures a.res c.gap.ensures c.number.ensures) c.write_gaps.ensures

@@ -21,5 +21,5 @@ pub returns : goal.returns
 returns c =
     let a = c.args in
     let room = c.requires.check_room in
-    let printed = margins_printed_lem a.trailer a.numbers.now a.words.now a.masses.now a.centres.now a.solution.now a.rule_numbers.now room c.requires.rule_numbers_len.0 (lists_fit c.requires.rule_numbers_len.1 c.requires.rule_numbers_len.2) c.margins_small-answer.ensures a.result c.gap.ensures c.number.ensures in
+    let printed = margins_printed_lem a.trailer a.numbers.now a.words.now a.masses.now a.centres.now a.solution.now a.rule_numbers.now room c.requires.rule_numbers_len.0 (lists_fit c.requires.rule_numbers_len.1 c.requires.rule_numbers_len.2) c.margins_small-answer.ensures a.res c.gap.ensures c.number.ensures in
     wrote_as printed c.write_margins.ensures
