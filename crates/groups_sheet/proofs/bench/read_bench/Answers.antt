@@ -1,6 +1,5 @@
 -- `groups_sheet::bench::read_bench` meets its contract. Assumes nothing.
 use mathlib.Core.Path.{refl}
-use borrow.Author.Rules.{rules}
 use Rattle.job_sheet.proofs.Ways.{rows_held, masses_held}
 use Rattle.groups_sheet.proofs.Opened.{opened_first}
 use Rattle.groups_sheet.proofs.Whole.{read_is}

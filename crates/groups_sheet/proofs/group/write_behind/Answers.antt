@@ -1,6 +1,5 @@
 -- `groups_sheet::group::write_behind` meets its contract. Assumes nothing.
 use native.Mathlib.Omega.{arith}
-use borrow.Author.Rules.{rules}
 use Rattle.job_sheet.proofs.Behind.{wrote_behind, behind_end}
 use Rattle.groups_sheet.proofs.group.write_behind.Goals as goal
 

@@ -2,7 +2,6 @@
 use mathlib.Core.Path.{sym}
 use native.Mathlib.Omega.{arith}
 use lib.Seq.{length-take-le}
-use borrow.Author.Rules.{rules}
 use Rattle.groups_sheet.proofs.Alone.{count_few}
 use Rattle.groups_sheet.proofs.group.write_group.Goals as goal
 

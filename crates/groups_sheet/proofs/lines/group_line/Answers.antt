@@ -1,6 +1,5 @@
 -- `groups_sheet::lines::group_line` meets its contract. Assumes nothing.
 use mathlib.Core.Path.{ap}
-use borrow.Author.Rules.{rules}
 use Rattle.listing.specs.Digits.{number}
 use Rattle.listing.proofs.Joined.{room_first, room_rest, wrote_join, room_as, wrote_as}
 use Rattle.groups_sheet.specs.Text.{group_line}

@@ -1,5 +1,4 @@
 -- `groups_sheet::lines::groups_line` meets its contract. Assumes nothing.
-use borrow.Author.Rules.{rules}
 use Rattle.listing.proofs.Joined.{room_first, room_rest, wrote_join, room_as, wrote_as}
 use Rattle.groups_sheet.specs.Text.{groups_line}
 use Rattle.groups_sheet.proofs.Words.{groups_name_lem}

@@ -1,5 +1,4 @@
 -- `groups_sheet::lines::put_row` meets its contract. Assumes nothing.
-use borrow.Author.Rules.{rules}
 use Rattle.listing.proofs.Joined.{room_as, wrote_as}
 use Rattle.groups_sheet.proofs.Words.{row_some, row_left}
 use Rattle.groups_sheet.proofs.lines.put_row.Goals as goal

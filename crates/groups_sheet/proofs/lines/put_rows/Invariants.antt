@@ -1,11 +1,7 @@
 -- `groups_sheet::lines::put_rows` meets its contract: the words of the rows below i are written. Assumes nothing.
 use Prim.Native.Nat.{◌-◌}
-use native.Mathlib.Omega.{arith}
-use borrow.Author.Rules.{rules}
-use Rattle.listing.proofs.Joined.{room_as, wrote_as}
-use Rattle.listing.proofs.Pieces.{Writing, writing_none, writing_room, writing_more, writing_length, writing_end}
+use Rattle.listing.proofs.Pieces.{Writing}
 use Rattle.groups_sheet.specs.Text.{row_word}
-use Rattle.groups_sheet.proofs.Words.{words_pieces}
 use Rattle.groups_sheet.proofs.lines.put_rows.Given as goal
 
 abbrev pub invariant-loop-i : goal.invariant-loop-i

@@ -1,5 +1,4 @@
 -- `groups_sheet::program::print_bench` meets its contract. Assumes nothing.
-use borrow.Author.Rules.{rules}
 use Rattle.groups_sheet.proofs.Alone.{bench_after}
 use Rattle.groups_sheet.proofs.program.print_bench.Goals as goal
 

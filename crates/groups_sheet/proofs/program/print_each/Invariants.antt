@@ -1,6 +1,5 @@
 -- `groups_sheet::program::print_each` meets its contract. Assumes nothing.
 use Prim.Native.Nat.{◌-◌, ◌≤◌}
-use borrow.Author.Rules.{rules}
 use Rattle.groups_sheet.proofs.program.print_each.Given as goal
 
 abbrev pub invariant-loop-g : goal.invariant-loop-g

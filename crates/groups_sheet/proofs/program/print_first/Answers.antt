@@ -1,6 +1,4 @@
 -- `groups_sheet::program::print_first` meets its contract: the line is within the text. Assumes nothing.
-use mathlib.Core.Path.{sym}
-use lib.Seq.{length-take-le}
 use borrow.Author.Rules.{rules}
 use Rattle.groups_sheet.proofs.Words.{groups_room}
 use Rattle.groups_sheet.proofs.program.print_first.Goals as goal

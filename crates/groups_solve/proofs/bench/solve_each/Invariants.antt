@@ -1,14 +1,8 @@
 -- `groups_solve::bench::solve_each` meets its contract: the groups below g are solved. Assumes nothing.
 use Prim.Native.Nat.{◌-◌}
-use mathlib.Core.Path.{refl, sym, ◌∙◌}
-use native.Mathlib.Omega.{arith}
-use lib.Seq.{length-take-le}
-use borrow.Author.Rules.{rules, Fits-under}
 use Rattle.rules.specs.Rows.{rules_in}
-use Rattle.group_table.proofs.Rows.{rows_within}
 use Rattle.group_step.specs.Bench.{bench_of}
-use Rattle.group_step.proofs.Delivery.{placed_few}
-use Rattle.groups_solve.proofs.Rounds.{Round, round_none, round_more, round_end, own_room, fit_1, fit_8, fit_27, fit_6, fit_3, fit_placed, below_rows, Arrays, within_long, front_long, next_below, nearer}
+use Rattle.groups_solve.proofs.Rounds.{Round, Arrays}
 use Rattle.groups_solve.proofs.bench.solve_each.Given as goal
 
 abbrev pub invariant-loop-g : goal.invariant-loop-g

@@ -1,6 +1,5 @@
 -- `groups_solve::bench::still_bodies` meets its contract. Assumes nothing.
 use native.Mathlib.Omega.{arith}
-use borrow.Author.Rules.{rules}
 use Rattle.group_step.proofs.Delivery.{placed_few}
 use Rattle.groups_solve.proofs.Benches.{still_put}
 use Rattle.groups_solve.proofs.bench.still_bodies.Goals as goal

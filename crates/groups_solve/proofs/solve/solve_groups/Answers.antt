@@ -1,5 +1,4 @@
 -- `groups_solve::solve::solve_groups` meets its contract. Assumes nothing.
-use borrow.Author.Rules.{rules}
 use Rattle.rules.specs.Rows.{rules_in}
 use Rattle.group_step.specs.Bench.{bench_of}
 use Rattle.groups_solve.proofs.Rooms.{bench_room, table_room, told_room, judged_rooms, linked_passed}

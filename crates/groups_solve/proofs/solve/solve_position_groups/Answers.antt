@@ -1,5 +1,4 @@
 -- `groups_solve::solve::solve_position_groups` meets its contract. Assumes nothing.
-use borrow.Author.Rules.{rules}
 use Rattle.groups_solve.proofs.solve.solve_position_groups.Goals as goal
 
 pub returns : goal.returns

@@ -1,5 +1,4 @@
 -- `groups_solve::solve::solve_velocity_groups` meets its contract. Assumes nothing.
-use borrow.Author.Rules.{rules}
 use Rattle.groups_solve.proofs.Entered.{moving_groups}
 use Rattle.groups_solve.proofs.solve.solve_velocity_groups.Goals as goal
 

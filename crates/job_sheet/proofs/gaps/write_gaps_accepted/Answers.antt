@@ -1,7 +1,6 @@
 -- `job_sheet::gaps::write_gaps_accepted` meets its contract. Assumes nothing.
 use mathlib.Core.Path.{sym}
 use lib.Seq.{length-take-le}
-use borrow.Author.Rules.{rules}
 use Rattle.job_sheet.proofs.gaps.write_gaps_accepted.Goals as goal
 
 pub slice_bounds-rule_numbers-end : goal.slice_bounds-rule_numbers-end

@@ -1,7 +1,6 @@
 -- `job_sheet::margins::write_margins_accepted` meets its contract. Assumes nothing.
 use mathlib.Core.Path.{sym}
 use lib.Seq.{length-take-le}
-use borrow.Author.Rules.{rules}
 use Rattle.job_sheet.proofs.margins.write_margins_accepted.Goals as goal
 
 pub slice_bounds-rule_numbers-end : goal.slice_bounds-rule_numbers-end

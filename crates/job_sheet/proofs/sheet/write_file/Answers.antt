@@ -1,6 +1,5 @@
 -- `job_sheet::sheet::write_file` meets its contract. Assumes nothing.
-use mathlib.Core.Path.{refl, ◌∙◌}
-use borrow.Author.Rules.{rules}
+use mathlib.Core.Path.{refl}
 use Rattle.listing.proofs.Joined.{wrote_as}
 use Rattle.job_sheet.proofs.Ways.{room_after, rows_held, masses_held, sheet_read, sheet_turned}
 use Rattle.job_sheet.proofs.sheet.write_file.Goals as goal

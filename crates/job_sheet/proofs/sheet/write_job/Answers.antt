@@ -1,8 +1,7 @@
 -- `job_sheet::sheet::write_job` meets its contract. Assumes nothing.
-use mathlib.Core.Path.{refl, sym}
+use mathlib.Core.Path.{refl}
 use lib.ListN.{replicate}
 use lib.Seq.{length-take-le}
-use borrow.Author.Rules.{rules}
 use Rattle.listing.proofs.Joined.{wrote_as}
 use Rattle.job_sheet.proofs.Ways.{room_after, solve_fits_lem, job_odd, job_refused, job_accepted}
 use Rattle.job_sheet.proofs.sheet.write_job.Goals as goal

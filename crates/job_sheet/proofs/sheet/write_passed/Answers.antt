@@ -2,7 +2,6 @@
 use mathlib.Core.Path.{sym}
 use native.Mathlib.Omega.{arith}
 use lib.Seq.{length-take-le}
-use borrow.Author.Rules.{rules}
 use Rattle.job_sheet.proofs.Ways.{rows_few, bodies_few, mode_small}
 use Rattle.job_sheet.proofs.sheet.write_passed.Goals as goal
 

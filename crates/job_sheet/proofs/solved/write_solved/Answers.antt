@@ -1,5 +1,4 @@
 -- `job_sheet::solved::write_solved` meets its contract. Assumes nothing.
-use borrow.Author.Rules.{rules}
 use Rattle.listing.proofs.Joined.{wrote_as}
 use Rattle.job_sheet.proofs.Ways.{check_room, job_shown, margins_shown, gaps_shown}
 use Rattle.job_sheet.proofs.solved.write_solved.Goals as goal

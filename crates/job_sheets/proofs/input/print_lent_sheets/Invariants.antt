@@ -2,7 +2,6 @@
 use Prim.Native.Nat.{◌≤◌}
 use mathlib.Core.Path.{◌≡◌}
 use lib.ListN.{length}
-use borrow.Author.Rules.{rules}
 use Rattle.job_sheets.proofs.input.print_lent_sheets.Given as goal
 
 abbrev pub invariant-loop-left : goal.invariant-loop-left

@@ -1,6 +1,5 @@
 -- `job_stream::chunk::next_place` meets its contract. Assumes nothing.
 use native.Mathlib.Omega.{arith}
-use borrow.Author.Rules.{rules}
 use Rattle.job_stream.proofs.Going.{rest_begun, rest_frame}
 use Rattle.job_stream.proofs.chunk.next_place.Goals as goal
 

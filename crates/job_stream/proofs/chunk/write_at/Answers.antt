@@ -1,7 +1,6 @@
 -- `job_stream::chunk::write_at` meets its contract. Assumes nothing.
 use mathlib.Core.Path.{ap}
 use native.Mathlib.Omega.{arith}
-use borrow.Author.Rules.{rules}
 use Rattle.pairs.proofs.Parted.{rest_is}
 use Rattle.listing.proofs.Joined.{wrote_as}
 use Rattle.job_sheet.proofs.Behind.{wrote_behind, behind_end}

@@ -2,9 +2,7 @@
 use Prim.Native.Nat.{◌-◌}
 use mathlib.Core.Path.{sym, ◌∙◌}
 use native.Mathlib.Omega.{arith}
-use lib.ListN.{length}
-use borrow.Author.Rules.{rules}
-use Rattle.job_stream.proofs.Going.{Going, goes, going_none, going_length, going_within, going_on, going_end, turn_less}
+use Rattle.job_stream.proofs.Going.{goes, going_none, going_within, going_on, going_end, turn_less}
 use Rattle.job_stream.proofs.chunk.write_jobs.Goals as goal
 
 pub loop-out-init : goal.loop-out-init

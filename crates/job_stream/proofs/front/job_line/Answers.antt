@@ -1,6 +1,5 @@
 -- `job_stream::front::job_line` meets its contract. Assumes nothing.
-use borrow.Author.Rules.{rules}
-use Rattle.listing.proofs.Joined.{room_first, room_rest, wrote_join, length_wrote, room_as, wrote_as}
+use Rattle.listing.proofs.Joined.{room_first, room_rest, wrote_join, room_as, wrote_as}
 use Rattle.job_stream.specs.Stream.{job_line}
 use Rattle.job_stream.proofs.Line.{job_name_lem}
 use Rattle.job_stream.proofs.front.job_line.Goals as goal

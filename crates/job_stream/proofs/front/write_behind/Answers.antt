@@ -1,6 +1,5 @@
 -- `job_stream::front::write_behind` meets its contract. Assumes nothing.
 use native.Mathlib.Omega.{arith}
-use borrow.Author.Rules.{rules}
 use Rattle.job_sheet.proofs.Behind.{wrote_behind, behind_end}
 use Rattle.job_stream.proofs.front.write_behind.Goals as goal
 

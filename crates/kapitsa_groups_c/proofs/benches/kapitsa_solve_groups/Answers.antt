@@ -1,5 +1,4 @@
 -- `kapitsa_groups_c::benches::kapitsa_solve_groups` meets its contract. Assumes nothing.
-use borrow.Author.Rules.{rules}
 use Rattle.kapitsa_groups_c.proofs.Grouping.{bench_on, bench_untold, count_length}
 use Rattle.kapitsa_groups_c.proofs.benches.kapitsa_solve_groups.Goals as goal
 

@@ -1,5 +1,4 @@
 -- `kapitsa_groups_c::benches::tell_groups` meets its contract. Assumes nothing.
-use borrow.Author.Rules.{rules}
 use Rattle.kapitsa_groups_c.proofs.Grouping.{told_groups, told_whole}
 use Rattle.kapitsa_groups_c.proofs.benches.tell_groups.Goals as goal
 

@@ -1,5 +1,4 @@
 -- `kapitsa_margins_c::margins::kapitsa_velocity_closing_margins` meets its contract. Assumes nothing.
-use borrow.Author.Rules.{rules}
 use Rattle.kapitsa_joint.specs.declared.kind.Kind.TheVariants as kinds
 use Rattle.kapitsa_c.proofs.Verdicts.{told_lengths}
 use Rattle.kapitsa_margins_c.proofs.Listed.{listed_on, unlisted}

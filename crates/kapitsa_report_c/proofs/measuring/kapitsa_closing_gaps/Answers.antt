@@ -1,6 +1,5 @@
 -- `kapitsa_report_c::measuring::kapitsa_closing_gaps` meets its contract. Assumes nothing.
 use mathlib.Core.List.{[]}
-use borrow.Author.Rules.{rules}
 use Rattle.kapitsa_joint.specs.declared.kind.Kind.TheVariants as kinds
 use Rattle.mass_operator.specs.Flat.{coefficients}
 use Rattle.kapitsa_c.proofs.Verdicts.{told_lengths}

@@ -1,5 +1,4 @@
 -- `kapitsa_report_c::measuring::kapitsa_velocity_closing_gaps` meets its contract. Assumes nothing.
-use borrow.Author.Rules.{rules}
 use Rattle.kapitsa_joint.specs.declared.kind.Kind.TheVariants as kinds
 use Rattle.kapitsa_c.proofs.Verdicts.{told_lengths}
 use Rattle.kapitsa_report_c.proofs.Measured.{measured_on, unmeasured}

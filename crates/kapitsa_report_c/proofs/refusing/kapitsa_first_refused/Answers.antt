@@ -1,5 +1,4 @@
 -- `kapitsa_report_c::refusing::kapitsa_first_refused` meets its contract. Assumes nothing.
-use borrow.Author.Rules.{rules}
 use mathlib.Core.Path.{ap, ◌∙◌}
 use Rattle.kapitsa_joint.specs.declared.kind.Kind.{Kind}
 use Rattle.rules.specs.Rows.{rules_in}

@@ -1,5 +1,4 @@
 -- `kapitsa_report_c::refusing::put_two` meets its contract. Assumes nothing.
-use borrow.Author.Rules.{rules}
 use Rattle.kapitsa_report_c.proofs.Told.{two_set}
 use Rattle.kapitsa_report_c.proofs.refusing.put_two.Goals as goal
 

@@ -1,5 +1,4 @@
 -- `kapitsa_report_c::refusing::tell_place` meets its contract. Assumes nothing.
-use borrow.Author.Rules.{rules}
 use Rattle.kapitsa_report_c.proofs.Told.{words_of}
 use Rattle.kapitsa_report_c.proofs.refusing.tell_place.Goals as goal
 

@@ -1,7 +1,7 @@
 -- `solve_recorded::lists::list_counted` meets its contract. Assumes nothing.
 use Rattle.std.proofs.Common.{◌-◌, arith}
 use Rattle.loops.proofs.Loop.{loops}
-use Rattle.solve_recorded.proofs.Counting.{Jobs, jobs_none, jobs_more, jobs_end, list_missing, begins_within}
+use Rattle.solve_recorded.proofs.Counting.{jobs_none, jobs_more, jobs_end, list_missing, begins_within}
 use Rattle.solve_recorded.proofs.lists.list_counted.Goals as goal
 
 pub begins-requires : goal.begins-requires

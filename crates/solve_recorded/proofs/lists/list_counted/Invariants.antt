@@ -1,7 +1,6 @@
 -- `solve_recorded::lists::list_counted` meets its contract. Assumes nothing.
-use Rattle.std.proofs.Common.{◌-◌, arith}
-use Rattle.loops.proofs.Loop.{loops}
-use Rattle.solve_recorded.proofs.Counting.{Jobs, jobs_none, jobs_more, jobs_end, list_missing, begins_within}
+use Rattle.std.proofs.Common.{◌-◌}
+use Rattle.solve_recorded.proofs.Counting.{Jobs}
 use Rattle.solve_recorded.proofs.lists.list_counted.Given as goal
 
 abbrev pub invariant-loop-i : goal.invariant-loop-i

@@ -1,6 +1,5 @@
 -- `solve_replay::compare::kept_number` meets its contract. Assumes nothing.
 use mathlib.Core.Path.{◌∙◌}
-use borrow.Author.Rules.{rules}
 use Rattle.solve_replay.specs.Compare.{kept_number}
 use Rattle.solve_replay.proofs.compare.kept_number.Goals as goal
 

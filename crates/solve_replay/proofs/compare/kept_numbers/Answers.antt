@@ -1,8 +1,7 @@
 -- `solve_replay::compare::kept_numbers` meets its contract. Assumes nothing.
 use Prim.Native.Nat.{◌-◌}
-use lib.ListN.{length}
-use Rattle.loops.proofs.Every.{Holds, called}
-use Rattle.solve_replay.specs.Compare.{kept_number, kept_numbers}
+use Rattle.loops.proofs.Every.{called}
+use Rattle.solve_replay.specs.Compare.{kept_numbers}
 use Rattle.solve_replay.proofs.compare.kept_numbers.Goals as goal
 
 pub loop-i-init : goal.loop-i-init

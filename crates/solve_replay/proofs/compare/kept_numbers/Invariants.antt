@@ -1,8 +1,8 @@
 -- `solve_replay::compare::kept_numbers` meets its contract. Assumes nothing.
 use Prim.Native.Nat.{◌-◌}
 use lib.ListN.{length}
-use Rattle.loops.proofs.Every.{Holds, called}
-use Rattle.solve_replay.specs.Compare.{kept_number, kept_numbers}
+use Rattle.loops.proofs.Every.{Holds}
+use Rattle.solve_replay.specs.Compare.{kept_number}
 use Rattle.solve_replay.proofs.compare.kept_numbers.Given as goal
 
 abbrev pub invariant-loop-i : goal.invariant-loop-i

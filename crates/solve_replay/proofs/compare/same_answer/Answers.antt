@@ -1,5 +1,4 @@
 -- `solve_replay::compare::same_answer` meets its contract. Assumes nothing.
-use borrow.Author.Rules.{rules}
 use Rattle.solve_replay.specs.Compare.{same_answer}
 use Rattle.solve_replay.proofs.compare.same_answer.Goals as goal
 

@@ -1,8 +1,7 @@
 -- `solve_replay::compare::same_answers` meets its contract. Assumes nothing.
 use Prim.Native.Nat.{◌-◌}
-use lib.ListN.{length}
-use Rattle.loops.proofs.Every.{Holds, called}
-use Rattle.solve_replay.specs.Compare.{same_answer, same_answers}
+use Rattle.loops.proofs.Every.{called}
+use Rattle.solve_replay.specs.Compare.{same_answers}
 use Rattle.solve_replay.proofs.compare.same_answers.Goals as goal
 
 pub loop-i-init : goal.loop-i-init

@@ -1,8 +1,8 @@
 -- `solve_replay::compare::same_answers` meets its contract. Assumes nothing.
 use Prim.Native.Nat.{◌-◌}
 use lib.ListN.{length}
-use Rattle.loops.proofs.Every.{Holds, called}
-use Rattle.solve_replay.specs.Compare.{same_answer, same_answers}
+use Rattle.loops.proofs.Every.{Holds}
+use Rattle.solve_replay.specs.Compare.{same_answer}
 use Rattle.solve_replay.proofs.compare.same_answers.Given as goal
 
 abbrev pub invariant-loop-i : goal.invariant-loop-i

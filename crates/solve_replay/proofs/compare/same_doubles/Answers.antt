@@ -1,9 +1,7 @@
 -- `solve_replay::compare::same_doubles` meets its contract. Assumes nothing.
 use Prim.Native.Nat.{◌-◌}
-use lib.Ieee.{nan}
-use lib.ListN.{get_or, length}
-use Rattle.loops.proofs.Every.{Holds, called}
-use Rattle.solve_replay.specs.Compare.{same_double, same_doubles}
+use Rattle.loops.proofs.Every.{called}
+use Rattle.solve_replay.specs.Compare.{same_doubles}
 use Rattle.solve_replay.proofs.compare.same_doubles.Goals as goal
 
 pub loop-i-init : goal.loop-i-init

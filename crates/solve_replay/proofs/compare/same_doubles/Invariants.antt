@@ -2,8 +2,8 @@
 use Prim.Native.Nat.{◌-◌}
 use lib.Ieee.{nan}
 use lib.ListN.{get_or, length}
-use Rattle.loops.proofs.Every.{Holds, called}
-use Rattle.solve_replay.specs.Compare.{same_double, same_doubles}
+use Rattle.loops.proofs.Every.{Holds}
+use Rattle.solve_replay.specs.Compare.{same_double}
 use Rattle.solve_replay.proofs.compare.same_doubles.Given as goal
 
 abbrev pub invariant-loop-i : goal.invariant-loop-i

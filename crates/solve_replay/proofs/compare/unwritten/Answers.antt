@@ -1,9 +1,7 @@
 -- `solve_replay::compare::unwritten` meets its contract. Assumes nothing.
 use Prim.Native.Nat.{◌-◌}
-use lib.Ieee.{nan}
-use lib.ListN.{get_or, length}
-use Rattle.loops.proofs.Every.{Holds, called}
-use Rattle.solve_replay.specs.Compare.{same_double, unwritten_of}
+use Rattle.loops.proofs.Every.{called}
+use Rattle.solve_replay.specs.Compare.{unwritten_of}
 use Rattle.solve_replay.proofs.compare.unwritten.Goals as goal
 
 pub loop-i-init : goal.loop-i-init

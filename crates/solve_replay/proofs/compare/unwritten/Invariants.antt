@@ -2,8 +2,8 @@
 use Prim.Native.Nat.{◌-◌}
 use lib.Ieee.{nan}
 use lib.ListN.{get_or, length}
-use Rattle.loops.proofs.Every.{Holds, called}
-use Rattle.solve_replay.specs.Compare.{same_double, unwritten_of}
+use Rattle.loops.proofs.Every.{Holds}
+use Rattle.solve_replay.specs.Compare.{same_double}
 use Rattle.solve_replay.proofs.compare.unwritten.Given as goal
 
 abbrev pub invariant-loop-i : goal.invariant-loop-i

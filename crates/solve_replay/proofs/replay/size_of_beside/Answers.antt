@@ -1,5 +1,4 @@
 -- `solve_replay::replay::size_of_beside` meets its contract. Assumes nothing.
-use borrow.Author.Rules.{rules}
 use Rattle.solve_replay.proofs.replay.size_of_beside.Goals as goal
 
 pub returns-in-Position : goal.returns-in-Position

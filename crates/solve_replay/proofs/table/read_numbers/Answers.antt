@@ -1,8 +1,6 @@
 -- `solve_replay::table::read_numbers` meets its contract. Assumes nothing.
-use Prim.Native.Nat.{◌+◌, ◌*◌, ◌-◌, ◌/◌, ◌%◌}
-use lib.Ieee.{nan, binary64, of_bits}
-use lib.ListN.{get_or, length}
-use Rattle.loops.proofs.Fill.{Fills, fills, fills_put}
+use Prim.Native.Nat.{◌-◌}
+use Rattle.loops.proofs.Fill.{fills, fills_put}
 use Rattle.loops.proofs.Tabulate.{filled_tabulate}
 use Rattle.solve_replay.specs.Job.{row_numbers}
 use Rattle.solve_replay.proofs.table.read_numbers.Goals as goal

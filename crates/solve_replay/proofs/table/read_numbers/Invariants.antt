@@ -2,9 +2,7 @@
 use Prim.Native.Nat.{◌+◌, ◌*◌, ◌-◌, ◌/◌, ◌%◌}
 use lib.Ieee.{nan, binary64, of_bits}
 use lib.ListN.{get_or, length}
-use Rattle.loops.proofs.Fill.{Fills, fills, fills_put}
-use Rattle.loops.proofs.Tabulate.{filled_tabulate}
-use Rattle.solve_replay.specs.Job.{row_numbers}
+use Rattle.loops.proofs.Fill.{Fills}
 use Rattle.solve_replay.proofs.table.read_numbers.Given as goal
 
 abbrev pub invariant-loop-i : goal.invariant-loop-i

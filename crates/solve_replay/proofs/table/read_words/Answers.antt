@@ -1,7 +1,6 @@
 -- `solve_replay::table::read_words` meets its contract. Assumes nothing.
-use Prim.Native.Nat.{◌+◌, ◌*◌, ◌-◌, ◌/◌, ◌%◌}
-use lib.ListN.{get_or, length}
-use Rattle.loops.proofs.Fill.{Fills, fills}
+use Prim.Native.Nat.{◌-◌}
+use Rattle.loops.proofs.Fill.{fills}
 use Rattle.loops.proofs.Tabulate.{filled_tabulate}
 use Rattle.solve_replay.specs.Job.{row_words}
 use Rattle.solve_replay.proofs.table.read_words.Goals as goal

@@ -1,9 +1,7 @@
 -- `solve_replay::table::read_words` meets its contract. Assumes nothing.
 use Prim.Native.Nat.{◌+◌, ◌*◌, ◌-◌, ◌/◌, ◌%◌}
 use lib.ListN.{get_or, length}
-use Rattle.loops.proofs.Fill.{Fills, fills}
-use Rattle.loops.proofs.Tabulate.{filled_tabulate}
-use Rattle.solve_replay.specs.Job.{row_words}
+use Rattle.loops.proofs.Fill.{Fills}
 use Rattle.solve_replay.proofs.table.read_words.Given as goal
 
 abbrev pub invariant-loop-i : goal.invariant-loop-i

@@ -1,5 +1,4 @@
 -- `solve_replay::table::unpack_beside` meets its contract. Assumes nothing.
-use borrow.Author.Rules.{rules}
 use Rattle.solve_replay.proofs.Beside.{beside_near, centres_fit_lem, centres_unpacked, residual_fits, residual_unpacked}
 use Rattle.solve_replay.proofs.table.unpack_beside.Goals as goal
 
