@@ -5,7 +5,6 @@
 
 ghost use Rattle.std.specs.Prelude.{◌≡◌, ◌+◌, ◌≤◌, length};
 
-use binary64::RootAnswer;
 use little_endian::word;
 use program_io::read_full;
 
@@ -15,7 +14,7 @@ const REFUSED: u64 = 0xffff_ffff_ffff_ffff;
 
 const NAN: u64 = 0x7ff8_0000_0000_0000;
 
-#[derive(Clone, Copy)]
+#[derive(Clone, Copy, Debug, PartialEq, Eq)]
 struct Record {
     input: u64,
     root: u64,
@@ -24,7 +23,7 @@ struct Record {
     larger: u64,
 }
 
-#[derive(Clone, Copy)]
+#[derive(Clone, Copy, Debug, PartialEq, Eq)]
 struct Tally {
     records: u32,
     differ: u32,
@@ -45,10 +44,9 @@ fn record_at(list: &[u8], at: usize) -> Record
 
 // The bits of the root, or all ones for refusal 19.
 fn root_bits(x: f64) -> u64 {
-    let answer = binary64::root(x);
-    match answer {
-        RootAnswer::Value(y) => binary64::to_bits(y),
-        RootAnswer::Refused(_) => REFUSED,
+    match binary64::root(x) {
+        Ok(y) => binary64::to_bits(y),
+        Err(_) => REFUSED,
     }
 }
 
@@ -114,14 +112,13 @@ fn list_counted(list: &[u8]) -> Tally {
         differ: 0,
         refused: 0,
     };
-    let mut at = 0;
-    while RECORD <= list.len() - at {
+    for k in 0..list.len() / RECORD {
+        let at = k * RECORD;
         let mut next = word(list, 0);
         if 2 * RECORD <= list.len() - at {
             next = word(list, at + RECORD);
         }
         tally = counted(tally, record_at(list, at), next);
-        at += RECORD;
     }
     tally
 }

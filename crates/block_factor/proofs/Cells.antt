@@ -1,30 +1,25 @@
 -- The ways through the functions that make a block's factor. Assumes nothing.
 use Prim.Native.Nat.{ℕ, ◌+◌, ◌*◌, ◌<◌, ◌≤◌}
-use mathlib.Core.Path.{◌≡◌, refl, sym, ap, ◌∙◌}
+use mathlib.Core.Path.{◌≡◌, refl, ap, ◌∙◌}
 use mathlib.Core.Bool.{Bool, true, false, not}
 use mathlib.Core.List.{List}
 use native.Mathlib.Numerals.{add-one}
 use native.Mathlib.Omega.{arith}
 use lib.ListN.{get_or, set, length}
-use lib.Ieee.{Float, nan, binary64, add, sub, mul, div, le}
-use lib.Ieee.Scale.{finite}
-use borrow.Author.Tests.{eq-eqb, ne_eqb, not-false}
+use lib.Ieee.{Float, nan, binary64, sub, mul}
 use Rattle.loops.specs.Run.{Run, going, ended}
 use Rattle.loops.proofs.Loop.{check_pass, check_fail, on_going, on_ended}
-use Rattle.binary64.specs.Order.{min_positive}
-use Rattle.binary64.specs.Answer.{root_of}
-use Rattle.kapitsa_joint.specs.Mass.{mass_of, cross_of}
 use Rattle.kapitsa_joint.specs.declared.row.RowJacobian.{RowJacobian}
-use Rattle.kapitsa_joint.specs.declared.mass.SolverMass.{SolverMass}
 use Rattle.compact_table.specs.Compact.{compact_of}
 use Rattle.mass_operator.specs.System.{System}
 use Rattle.compact_table.specs.Compact.{Linked}
 use Rattle.sparse.specs.Count.{count}
-use Rattle.sparse.specs.Cholesky.{fit, root_value}
-use Rattle.block_factor.specs.Blocks.{block_value, one_pair, block_less, less_of, block_pivot, block_factor, cell_of}
-use Rattle.block_factor.specs.Answers.{cell_out, cell_run, block_column_turn}
-use Rattle.block_factor.specs.declared.block.Cell.{Cell}
-use Rattle.block_factor.specs.declared.block.Cell.TheVariants as cells
+use Rattle.block_factor.specs.Blocks.{block_value, one_pair, block_less, less_of, cell_of}
+use Rattle.block_factor.specs.Answers.{cell_run, block_column_turn}
+use Rattle.refusals.specs.Number.{number_of}
+use Rattle.refusals.specs.Told.{told}
+use Rattle.refusals.specs.declared.Refusal.{Refusal}
+use Rattle.std.specs.Prelude.{Result, Ok, Err}
 
 -- ---- a counted loop that nothing refuses
 pub record Counts {S : Type 0} (f : ℕ → S → S) (s : S) (n i : ℕ) (t : S) : Type 0 where
@@ -47,35 +42,6 @@ pub less_turn_lem : (l : List Float) (row column k : ℕ) (v : Float) → sub bi
 unfolding block_less
 less_turn_lem l row column k v = refl
 
--- ---- `cell`
-module _ (l : List Float) (row column : ℕ) (v : Float) (t : Bool) (et : t ≡ finite v) where
-  pub cell_twelve : not t ≡ true → cell_of l row column v ≡ ended 12
-  unfolding cell_of
-  cell_twelve h = check_fail _ _ _ et h refl
-
-  module _ (h : not t ≡ false) where
-    -- of a value that is finite, `fit` asks only that it is above MIN
-    above : (b : Bool) → b ≡ fit v → not (le v min_positive) ≡ b
-    unfolding fit
-    above b e = sym (e ∙ rw (← et, not-false t h))
-
-    pub cell_pivot : (b : Bool) (x : Float) → row ≡ column → b ≡ fit v → not b ≡ false → x ≡ root_value (root_of v) → cell_of l row column v ≡ going x
-    unfolding cell_of block_pivot
-    cell_pivot b x r e g ex = check_pass _ _ _ et h (rw (eq-eqb row column r, ← ex) (check_pass _ _ _ (sym (above b e)) g refl))
-
-    pub cell_low : (b : Bool) → row ≡ column → b ≡ fit v → not b ≡ true → cell_of l row column v ≡ ended 13
-    unfolding cell_of block_pivot
-    cell_low b r e g = check_pass _ _ _ et h (rw (eq-eqb row column r) (check_fail _ _ _ (sym (above b e)) g refl))
-
-    pub cell_factor : (b : Bool) → (row ≡ column → ⊥) → b ≡ finite (div binary64 v (get_or l (column * 6 + column) nan)) → not b ≡ false
-        → cell_of l row column v ≡ going (div binary64 v (get_or l (column * 6 + column) nan))
-    unfolding cell_of block_factor
-    cell_factor b r e g = check_pass _ _ _ et h (rw (ne_eqb row column r) (check_pass _ _ _ e g refl))
-
-    pub cell_bad : (b : Bool) → (row ≡ column → ⊥) → b ≡ finite (div binary64 v (get_or l (column * 6 + column) nan)) → not b ≡ true → cell_of l row column v ≡ ended 13
-    unfolding cell_of block_factor
-    cell_bad b r e g = check_pass _ _ _ et h (rw (ne_eqb row column r) (check_fail _ _ _ e g refl))
-
 -- ---- `cell_at`
 module _ (s : System) (start row column : ℕ) (l : List Float) (p q : RowJacobian) (t : Bool) (ep : p ≡ s.jacobian (start + row)) (eq : q ≡ s.jacobian (start + column)) (et : t ≡ one_pair p q) where
   pub at_eleven : not t ≡ true → cell_run s start row column l ≡ ended 11
@@ -87,12 +53,12 @@ module _ (s : System) (start row column : ℕ) (l : List Float) (p q : RowJacobi
   at_cell u v h eu ev e = rw (← ep, ← eq, ← eu, ← ev) (check_pass _ _ _ et h e)
 
 -- ---- a turn of `factor_row`
-module _ (s : System) (start row column : ℕ) (l : List Float) (r : Cell) (called : cell_run s start row column l ≡ cell_out r) where
-  pub column_on : (x : Float) → r ≡ cells.Number x → block_column_turn s start row column l ≡ going (set l (row * 6 + column) x)
+module _ (s : System) (start row column : ℕ) (l : List Float) (r : Result Float Refusal) (called : cell_run s start row column l ≡ told r) where
+  pub column_on : (x : Float) → r ≡ Ok x → block_column_turn s start row column l ≡ going (set l (row * 6 + column) x)
   unfolding block_column_turn
   column_on x t = on_going _ _ _ (called ∙ rw t)
 
-  pub column_out_lem : (k : ℕ) → r ≡ cells.Refused k → block_column_turn s start row column l ≡ ended k
+  pub column_out_lem : (k : Refusal) → r ≡ Err k → block_column_turn s start row column l ≡ ended (number_of k)
   unfolding block_column_turn
   column_out_lem k t = on_ended _ _ _ (called ∙ rw t)
 
@@ -106,10 +72,3 @@ module _ (jacobians : List Float) (links : List ℕ) (masses : List Float) (rows
   pub mass_b : 10 * p.body_b + 10 ≤ length masses
   unfolding compact_of
   mass_b = let b = h.b i li in rw e (omega arith)
-
--- ---- `block_value`
-pub block_is : (masses : List Float) (p q : RowJacobian) (v w : ℕ) (m n : SolverMass) (a b : Float) → m ≡ mass_of masses v → v ≡ p.body_a → n ≡ mass_of masses w → w ≡ p.body_b
-    → a ≡ cross_of m p.linear_a p.angular_a q.linear_a q.angular_a → b ≡ cross_of n p.linear_b p.angular_b q.linear_b q.angular_b
-    → add binary64 a b ≡ block_value (mass_of masses) p q
-unfolding block_value
-block_is masses p q v w m n a b em ev en ew ea eb = rw (ea, eb, em, en, ev, ew)

@@ -1,19 +1,16 @@
 -- The ways through the solves on the stretch of one block. Assumes nothing.
 use Prim.Native.Nat.{ℕ, ◌+◌, ◌*◌, ◌-◌, ◌≤◌}
 use mathlib.Core.Path.{◌≡◌, refl, sym, ap, ◌∙◌}
-use mathlib.Core.Bool.{Bool, true, false, not}
 use mathlib.Core.List.{List, ◌++◌, append-nil}
 use native.Mathlib.Omega.{arith}
 use lib.ListN.{get_or, set, length, take, drop, drop_of_length-le}
 use lib.Seq.{take_all, length-take-le}
 use lib.Ieee.{Float, nan, binary64, sub, mul, div}
-use lib.Ieee.Scale.{finite}
+use Rattle.std.specs.Prelude.{Result, Ok, Err}
 use Rattle.loops.specs.Run.{Run, going, ended}
-use Rattle.loops.proofs.Loop.{check_pass, check_fail}
 use Rattle.sparse.specs.Count.{count}
 use Rattle.triangular.specs.Answers.{solve_out}
-use Rattle.triangular.specs.declared.substitution.Solved.{Solved}
-use Rattle.triangular.specs.declared.substitution.Solved.TheVariants as solves
+use Rattle.triangular.specs.declared.substitution.Overflow.{Overflow}
 use Rattle.block_factor.specs.Solves.{block_forward_less, block_forward_turn, block_backward_less, block_backward_of, block_backward_turn, block_backward_run, block_solve_run}
 
 pub forward_less : (l y : List Float) (row k : ℕ) (v : Float) → sub binary64 v (mul binary64 (get_or l (row * 6 + k) nan) (get_or y k nan)) ≡ block_forward_less l y row k v
@@ -29,23 +26,13 @@ pub backward_less : (l y : List Float) (row k : ℕ) (v : Float) → sub binary6
 unfolding block_backward_less
 backward_less l y row k v = refl
 
--- `backward_at`
-module _ (l y : List Float) (row len : ℕ) (v : Float) (t : Bool) (e : v ≡ count (block_backward_less l y row) (get_or y row nan) (len - 1 - row)) (et : t ≡ finite (div binary64 v (get_or l (row * 6 + row) nan))) where
-  pub back_on : not t ≡ false → block_backward_of l len row y ≡ going (set y row (div binary64 v (get_or l (row * 6 + row) nan)))
-  unfolding block_backward_of
-  back_on h = rw (← e) (check_pass _ _ _ et h refl)
-
-  pub back_out : not t ≡ true → block_backward_of l len row y ≡ ended (set y row (div binary64 v (get_or l (row * 6 + row) nan)))
-  unfolding block_backward_of
-  back_out h = rw (← e) (check_fail _ _ _ et h refl)
-
 -- a turn of `backward`
-module _ (l y y' : List Float) (len m t : ℕ) (r : Solved) (called : block_backward_of l m (len - 1 - t) y ≡ solve_out r y') (e : m ≡ len) where
-  pub backs_on : r ≡ solves.Done → block_backward_turn l len t y ≡ going y'
+module _ (l y y' : List Float) (len m t : ℕ) (r : Result Unit Overflow) (called : block_backward_of l m (len - 1 - t) y ≡ solve_out r y') (e : m ≡ len) where
+  pub backs_on : r ≡ Ok tt → block_backward_turn l len t y ≡ going y'
   unfolding block_backward_turn
   backs_on told = rw (← e) (rw (← e) at called ∙ rw told)
 
-  pub backs_out : r ≡ solves.Overflow → block_backward_turn l len t y ≡ ended y'
+  pub backs_out : {e : Overflow} → r ≡ Err e → block_backward_turn l len t y ≡ ended y'
   unfolding block_backward_turn
   backs_out told = rw (← e) (rw (← e) at called ∙ rw told)
 
@@ -67,5 +54,5 @@ first_few y n e h = rw (first_long y n e) (omega arith)
 pub first_alike : (x y : List Float) (n : ℕ) → length x ≡ length y → length y ≡ n → length (take n x) ≡ length (take n y)
 first_alike x y n h e = first_like x y n h e ∙ sym (first_long y n e)
 
-pub rows_solved : (l residual y z : List Float) (n : ℕ) (r : Solved) → length y ≡ n → length residual ≡ length y → block_solve_run l (take n residual) (take n y) ≡ solve_out r z → block_solve_run l residual y ≡ solve_out r (z ++ drop n y)
+pub rows_solved : (l residual y z : List Float) (n : ℕ) (r : Result Unit Overflow) → length y ≡ n → length residual ≡ length y → block_solve_run l (take n residual) (take n y) ≡ solve_out r z → block_solve_run l residual y ≡ solve_out r (z ++ drop n y)
 rows_solved l residual y z n r e h called = rw (take_all n residual (omega arith), take_all n y (omega arith)) at called ∙ ap (solve_out r) (sym (rw (drop_of_length-le y {i = n} (omega arith)) (append-nil z)))

@@ -1,15 +1,9 @@
--- The factor of one block: rows and columns ascending, judged "as the Rust meets them", and what the answers tell.
+-- The factor of one block: rows and columns ascending, judged "as the Rust meets them".
 use Rattle.std.specs.Prelude.{ℕ, ◌+◌, ◌*◌, List, leb, replicate, set, Float}
 use Rattle.loops.specs.Run.{Run, going, ended, turns, check, next}
 use Rattle.loops.specs.Cleared.{plus_zero}
 use Rattle.mass_operator.specs.System.{System}
 use Rattle.block_factor.specs.Blocks.{one_pair, block_value, less_of, cell_of}
-use Rattle.block_factor.specs.declared.block.Cell.{Cell}
-use Rattle.block_factor.specs.declared.block.Cell.TheVariants as cells
-
-abbrev pub cell_out : Cell → Run Float ℕ
-cell_out (cells.Number x) = going x
-cell_out (cells.Refused number) = ended number
 
 -- row and column of the block that starts at row `start`: "11. Mode 2 meets a run ... with differing body pairs"
 unfoldable pub cell_run : System → ℕ → ℕ → ℕ → List Float → Run Float ℕ

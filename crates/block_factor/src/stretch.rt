@@ -5,7 +5,7 @@ ghost use Rattle.sparse.specs.Count.{count};
 ghost use Rattle.triangular.specs.Answers.{solve_out};
 ghost use Rattle.block_factor.specs.Solves.{block_forward_less, block_forward_turn, block_backward_less, block_backward_of, block_backward_run, block_solve_run};
 
-use triangular::Solved;
+use triangular::Overflow;
 
 // `value` less the products of row `row` with what the earlier rows have.
 fn less_earlier(value: f64, lower: &[f64], part: &[f64], row: usize) -> f64
@@ -13,10 +13,8 @@ fn less_earlier(value: f64, lower: &[f64], part: &[f64], row: usize) -> f64
     ensures { result ≡ count (block_forward_less lower.now part.now row) value row }
 {
     let mut rest = value;
-    let mut k = 0;
-    while k < row {
+    for k in 0..row {
         rest = rest - lower[row * 6 + k] * part[k];
-        k += 1;
     }
     rest
 }
@@ -25,11 +23,9 @@ fn forward(lower: &[f64], residual: &[f64], part: &mut [f64])
     requires { (length lower.now ≡ 36) × (length part.old ≤ 6) × (length residual.now ≡ length part.old) }
     ensures { part.new ≡ count (block_forward_turn lower.now residual.now) part.old (length residual.now) }
 {
-    let mut row = 0;
-    while row < residual.len() {
+    for row in 0..residual.len() {
         let value = less_earlier(residual[row], lower, part, row);
         part[row] = value / lower[row * 6 + row];
-        row += 1;
     }
 }
 
@@ -39,16 +35,15 @@ fn less_later(value: f64, lower: &[f64], part: &[f64], row: usize, below: usize)
     ensures { result ≡ count (block_backward_less lower.now part.now row) value below }
 {
     let mut rest = value;
-    let mut k = 0;
-    while k < below {
+    for k in 0..below {
         let lower_row = row + 1 + k;
         rest = rest - lower[lower_row * 6 + row] * part[lower_row];
-        k += 1;
     }
     rest
 }
 
-fn backward_at(lower: &[f64], part: &mut [f64], row: usize) -> Solved
+#[tactic(auto, unfolding(crate::specs::Solves::block_backward_of, loops::specs::Run::check))]
+fn backward_at(lower: &[f64], part: &mut [f64], row: usize) -> Result<(), Overflow>
     requires { (length lower.now ≡ 36) × (length part.old ≤ 6) × (row < length part.old) }
     ensures { block_backward_of lower.now (length part.old) row part.old ≡ solve_out result part.new }
 {
@@ -56,28 +51,24 @@ fn backward_at(lower: &[f64], part: &mut [f64], row: usize) -> Solved
     let value = less_later(part[row], lower, part, row, below) / lower[row * 6 + row];
     part[row] = value;
     if !binary64::is_finite(value) {
-        return Solved::Overflow;
+        return Err(Overflow);
     }
-    Solved::Done
+    Ok(())
 }
 
-fn backward(lower: &[f64], part: &mut [f64]) -> Solved
+fn backward(lower: &[f64], part: &mut [f64]) -> Result<(), Overflow>
     requires { (length lower.now ≡ 36) × (length part.old ≤ 6) }
     ensures { block_backward_run lower.now (length part.old) part.old ≡ solve_out result part.new }
 {
     let len = part.len();
-    let mut t = 0;
-    while t < len {
+    for t in 0..len {
         let row = len - 1 - t;
-        let Solved::Done = backward_at(lower, part, row) else {
-            return Solved::Overflow;
-        };
-        t += 1;
+        backward_at(lower, part, row)?;
     }
-    Solved::Done
+    Ok(())
 }
 
-fn solve_rows(lower: &[f64], residual: &[f64], part: &mut [f64]) -> Solved
+fn solve_rows(lower: &[f64], residual: &[f64], part: &mut [f64]) -> Result<(), Overflow>
     requires { (length lower.now ≡ 36) × (length part.old ≤ 6) × (length residual.now ≡ length part.old) }
     ensures { block_solve_run lower.now residual.now part.old ≡ solve_out result part.new }
 {
@@ -87,7 +78,7 @@ fn solve_rows(lower: &[f64], residual: &[f64], part: &mut [f64]) -> Solved
 
 // `lower` is the block's 36 numbers where they stand; `residual` and `part` are its stretches: nothing else of the output can be touched.
 // The number of rows is a constant in each arm, so that the compiler writes the loops out, which halves the instructions.
-pub fn solve_block(lower: &[f64], residual: &[f64], part: &mut [f64]) -> Solved
+pub fn solve_block(lower: &[f64], residual: &[f64], part: &mut [f64]) -> Result<(), Overflow>
     requires { (length lower.now ≡ 36) × (length part.old ≤ 6) × (length residual.now ≡ length part.old) }
     ensures { block_solve_run lower.now residual.now part.old ≡ solve_out result part.new }
 {

@@ -7,11 +7,11 @@ use native.Mathlib.Omega.{arith}
 use lib.ListN.{length, take, drop, length-drop}
 use lib.Seq.{length-take-le}
 use lib.Ieee.{Float}
+use Rattle.std.specs.Prelude.{Result, Ok, Err}
 use Rattle.loops.specs.Run.{going, ended, check}
 use Rattle.loops.proofs.Loop.{on_going, on_ended}
 use Rattle.triangular.specs.Answers.{solve_out}
-use Rattle.triangular.specs.declared.substitution.Solved.{Solved}
-use Rattle.triangular.specs.declared.substitution.Solved.TheVariants as solves
+use Rattle.triangular.specs.declared.substitution.Overflow.{Overflow}
 use Rattle.block_factor.specs.Solves.{block_solve_run}
 use Rattle.block_jacobi.specs.Runs.{begins, run_length, RunsFit}
 use Rattle.block_jacobi.specs.Blocks.{stretch, put_stretch, block_in, solve_turn, blocks_solve_run}
@@ -21,18 +21,18 @@ part : (a n : ℕ) → a + n - a ≡ n
 part a n = omega arith
 
 -- the stretches of a call are those from `start` to `start + len`, and its block the 36 numbers from `36 * start` on
-module _ (blocks : List Float) (owner : ℕ → ℕ) (residual y z : List Float) (start len n : ℕ) (r : Solved)
+module _ (blocks : List Float) (owner : ℕ → ℕ) (residual y z : List Float) (start len n : ℕ) (r : Result Unit Overflow)
     (first : begins owner start ≡ true) (e : len ≡ run_length owner start n) (en : n ≡ length residual)
     (called : block_solve_run (take (36 * start + 36 - 36 * start) (drop (36 * start) blocks)) (take (start + len - start) (drop start residual)) (take (start + len - start) (drop start y)) ≡ solve_out r z) where
   solved : block_solve_run (block_in blocks start) (stretch residual start len) (stretch y start len) ≡ solve_out r z
   unfolding block_in stretch
   solved = rw (part (36 * start) 36, part start len) at called
 
-  pub solve_on : r ≡ solves.Done → solve_turn (block_in blocks) owner residual start y ≡ going (take start y ++ (z ++ drop (start + len - start) (drop start y)))
+  pub solve_on : r ≡ Ok tt → solve_turn (block_in blocks) owner residual start y ≡ going (take start y ++ (z ++ drop (start + len - start) (drop start y)))
   unfolding solve_turn put_stretch check
   solve_on t = rw (first, ← en, ← e, part start len) (on_going _ _ _ {s = z} (solved ∙ rw t))
 
-  pub solve_out_lem : r ≡ solves.Overflow → solve_turn (block_in blocks) owner residual start y ≡ ended (take start y ++ (z ++ drop (start + len - start) (drop start y)))
+  pub solve_out_lem : {x : Overflow} → r ≡ Err x → solve_turn (block_in blocks) owner residual start y ≡ ended (take start y ++ (z ++ drop (start + len - start) (drop start y)))
   unfolding solve_turn put_stretch check
   solve_out_lem t = rw (first, ← en, ← e, part start len) (on_ended _ _ _ {a = z} (solved ∙ rw t))
 

@@ -1,13 +1,13 @@
 -- Mode 2: the factors of all blocks, run by run, and the solves with them. pcg.rs, build_velocity_block_jacobi_preconditioner, apply_block_jacobi_preconditioner.
 -- "the first row of a run that leaves its body pair ends the whole block test": a Run that has ended carries document 01's number, and the blocks as they then stand.
-use Rattle.std.specs.Prelude.{ℕ, ◌*◌, List, ◌++◌, length, take, drop, Float}
+use Rattle.std.specs.Prelude.{ℕ, ◌*◌, List, ◌++◌, length, take, drop, Float, Result, Ok, Err}
 use Rattle.loops.specs.Run.{Run, going, ended, on, turns, check}
 use Rattle.mass_operator.specs.System.{System}
 use Rattle.block_factor.specs.Answers.{block_of}
 use Rattle.block_factor.specs.Solves.{block_solve_run}
 use Rattle.block_jacobi.specs.Runs.{begins, run_length}
-use Rattle.block_jacobi.specs.declared.build.Blocked.{Blocked}
-use Rattle.block_jacobi.specs.declared.build.Blocked.TheVariants as blocked
+use Rattle.refusals.specs.Number.{number_of}
+use Rattle.refusals.specs.declared.Refusal.{Refusal}
 
 -- ---- a stretch of a lent list, and that list with z in its place
 unfoldable pub stretch : List Float → ℕ → ℕ → List Float
@@ -32,9 +32,14 @@ block_turn s owner i l = check (begins owner i) (on (block_of s i (run_length ow
 unfoldable pub blocks_run : System → (ℕ → ℕ) → List Float → Run (List Float) (ℕ × List Float)
 blocks_run s owner l = turns (block_turn s owner) l s.rows
 
-abbrev pub blocked_out : Blocked → List Float → Run (List Float) (ℕ × List Float)
-blocked_out blocked.Done l = going l
-blocked_out (blocked.Refused number) l = ended (number, l)
+-- the numbers of a block, or the refusal of one
+abbrev pub filled_out : Result Unit Refusal → List Float → Run (List Float) ℕ
+filled_out (Ok _) l = going l
+filled_out (Err refusal) l = ended (number_of refusal)
+
+abbrev pub blocked_out : Result Unit Refusal → List Float → Run (List Float) (ℕ × List Float)
+blocked_out (Ok _) l = going l
+blocked_out (Err refusal) l = ended (number_of refusal, l)
 
 -- ---- the solves
 

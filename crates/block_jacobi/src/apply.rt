@@ -6,7 +6,7 @@ ghost use Rattle.block_jacobi.specs.Blocks.{block_in, blocks_solve_run};
 
 use crate::run::run_length;
 use block_factor::solve_block;
-use triangular::Solved;
+use triangular::Overflow;
 
 // Each block is lent its own stretch of the residual and of the output.
 pub fn apply_block_jacobi_preconditioner(
@@ -14,7 +14,7 @@ pub fn apply_block_jacobi_preconditioner(
     blocks: &[f64],
     residual: &[f64],
     output: &mut [f64],
-) -> Solved
+) -> Result<(), Overflow>
     requires owners_len { (length owners.now ≡ length output.old) × (length residual.now ≡ length output.old) × (36 * length output.old ≤ length blocks.now) }
     requires runs_fit { RunsFit (owner_in owners.now) (length owners.now) }
     ensures { blocks_solve_run (block_in blocks.now) (owner_in owners.now) residual.now output.old ≡ solve_out result output.new }
@@ -24,14 +24,12 @@ pub fn apply_block_jacobi_preconditioner(
         let len = run_length(owners, start);
         let end = start + len;
         let at = 36 * start;
-        let Solved::Done = solve_block(
+        solve_block(
             &blocks[at..at + 36],
             &residual[start..end],
             &mut output[start..end],
-        ) else {
-            return Solved::Overflow;
-        };
+        )?;
         start = end;
     }
-    Solved::Done
+    Ok(())
 }

@@ -8,4 +8,4 @@ pub mod run; // run.rt: runs of rows with one owner
 pub mod store; // store.rt: a block in lent memory
 
 pub use apply::apply_block_jacobi_preconditioner;
-pub use build::{Blocked, build_block_jacobi_preconditioner};
+pub use build::build_block_jacobi_preconditioner;

@@ -9,12 +9,10 @@ pub fn run_length(owners: &[u32], start: usize) -> usize
 {
     let owner = owners[start];
     let left = owners.len() - start;
-    let mut k = 0;
-    while k < left {
+    for k in 0..left {
         if owners[start + k] != owner {
             return k;
         }
-        k += 1;
     }
-    k
+    left
 }

@@ -1,4 +1,5 @@
 // The check of positions and that of velocities.
+ghost use Rattle.refusals.specs.Told.{told};
 ghost use Rattle.kapitsa_joint.specs.Table.{table_of};
 ghost use Rattle.kapitsa_joint.specs.declared.kind.Kind.TheVariants.{Position, Velocity};
 ghost use Rattle.kapitsa_joint.specs.Centre.{centres_in};
@@ -10,8 +11,9 @@ ghost use Rattle.check_refusals.specs.Refusals.{given_fits, table_lengths};
 ghost use Rattle.check_alone.specs.Checked.{AloneHeld};
 
 use crate::memory::checked_in;
-use check_answer::CheckAnswer;
+use check_answer::Verdict;
 use kapitsa_joint::Kind;
+use refusals::Refusal;
 
 // Are the joints closed by these multipliers?
 pub fn checked(
@@ -25,9 +27,9 @@ pub fn checked(
     rule_words: &[u32],
     rule_tolerances: &[f64],
     rule_numbers: &mut [u32],
-) -> CheckAnswer
+) -> Result<Verdict, Refusal>
     ensures { AloneHeld (given_fits Position n b (table_lengths numbers.now words.now masses.now centres.now multipliers.now rule_words.now rule_tolerances.now rule_numbers.old)) (rules_in rule_words.now rule_tolerances.now)
-        (closing_of (table_of n b numbers.now words.now masses.now) (coefficients multipliers.now) (rules_in rule_words.now rule_tolerances.now) (centres_finite (centres_in b centres.now))) result rule_numbers.old rule_numbers.new }
+        (closing_of (table_of n b numbers.now words.now masses.now) (coefficients multipliers.now) (rules_in rule_words.now rule_tolerances.now) (centres_finite (centres_in b centres.now))) (told result) rule_numbers.old rule_numbers.new }
 {
     checked_in(
         Kind::Position,
@@ -56,9 +58,9 @@ pub fn velocity_checked(
     rule_words: &[u32],
     rule_tolerances: &[f64],
     rule_numbers: &mut [u32],
-) -> CheckAnswer
+) -> Result<Verdict, Refusal>
     ensures { AloneHeld (given_fits Velocity n b (table_lengths numbers.now words.now masses.now given.now multipliers.now rule_words.now rule_tolerances.now rule_numbers.old)) (rules_in rule_words.now rule_tolerances.now)
-        (speeds_of (table_of n b numbers.now words.now masses.now) (coefficients multipliers.now) (rules_in rule_words.now rule_tolerances.now) (coefficients given.now)) result rule_numbers.old rule_numbers.new }
+        (speeds_of (table_of n b numbers.now words.now masses.now) (coefficients multipliers.now) (rules_in rule_words.now rule_tolerances.now) (coefficients given.now)) (told result) rule_numbers.old rule_numbers.new }
 {
     checked_in(
         Kind::Velocity,

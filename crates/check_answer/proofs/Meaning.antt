@@ -37,13 +37,12 @@ use Rattle.check_measure.specs.Verdict.{row_dimension, value_of, size_of, radius
 use Rattle.check_measure.specs.Gap.{gap, scaled, value_z}
 use Rattle.check_refusals.specs.Judged.{table_tests, judgements}
 use Rattle.check_refusals.proofs.Judgement.{passed_tolerances, passed_7, passed_18}
-use Rattle.check_answer.specs.Answer.{number_of, gap_of, verdict_of, check_of, Exceeds, CheckMeaning}
-use Rattle.check_answer.specs.declared.CheckAnswer.{CheckAnswer}
-use Rattle.check_answer.specs.declared.CheckAnswer.TheVariants.{Closed, Open, Refused}
+use Rattle.check_answer.specs.Answer.{number_of, gap_of, verdict_of, check_of, Exceeds, CheckMeaning, CheckAnswer}
 use Rattle.check_measure.proofs.Term.{Term, four}
 use Rattle.check_measure.proofs.Values.{Listed, ListedVec, ListedRow, ListedMass, value_term}
 use Rattle.check_answer.proofs.Listed.{listed}
 use Rattle.check_measure.proofs.Radius.{reach_held, reach_finite, reach_least, row_closed, row_open}
+use Rattle.check_answer.specs.declared.Verdict.TheVariants.{Closed, Open}
 
 -- ---- the numbers of a check are doubles
 pub record HeldVec (v : Vec3) : Type 0 where
@@ -172,29 +171,29 @@ module _ (c : Closing) (held : Held c) (few : c.table.rows ≤ 512) (seven : pas
 
 -- ---- tests in order, then an answer that is no refusal
 module _ (l : List (ℕ × Bool)) (v : CheckAnswer) where
-  answered : AllPass l → on (judge l) (λ _. v) Refused ≡ v
+  answered : AllPass l → on (judge l) (λ _. v) ended ≡ v
   unfolding on
   answered p = rw ((judge_going l).1 p)
 
-  passes : ((n : ℕ) → on (judge l) (λ _. v) Refused ≡ Refused n → ⊥) → AllPass l
+  passes : ((n : ℕ) → on (judge l) (λ _. v) ended ≡ ended n → ⊥) → AllPass l
   unfolding on
   passes h = (judge_going l).0 (go (judge l) h)
     where
-      go : (r : Run Unit ℕ) → ((n : ℕ) → on r (λ _. v) Refused ≡ Refused n → ⊥) → r ≡ going tt
+      go : (r : Run Unit ℕ) → ((n : ℕ) → on r (λ _. v) ended ≡ ended n → ⊥) → r ≡ going tt
       go (going u) h = refl
       go (ended m) h = absurd (h m refl)
 
-  refusals : ((n : ℕ) → v ≡ Refused n → ⊥) → (n : ℕ) → (on (judge l) (λ _. v) Refused ≡ Refused n) ↔ FirstToFail l n
+  refusals : ((n : ℕ) → v ≡ ended n → ⊥) → (n : ℕ) → (on (judge l) (λ _. v) ended ≡ ended n) ↔ FirstToFail l n
   unfolding on
   refusals none n = (λ h. (judge_ended l n).0 (go (judge l) h), λ h. rw ((judge_ended l n).1 h))
     where
-      go : (r : Run Unit ℕ) → on r (λ _. v) Refused ≡ Refused n → r ≡ ended n
+      go : (r : Run Unit ℕ) → on r (λ _. v) ended ≡ ended n → r ≡ ended n
       go (going u) h = absurd (none n h)
       go (ended m) h = cc
 
 -- ---- the verdict: no refusal, and closed exactly where the rows close
 module _ (c : Closing) where
-  no_refusal : (n : ℕ) → verdict_of c ≡ Refused n → ⊥
+  no_refusal : (n : ℕ) → verdict_of c ≡ ended n → ⊥
   unfolding verdict_of check
   no_refusal n h = go (closes c) refl
     where
@@ -226,7 +225,7 @@ module _ (c : Closing) where
   unfolding verdict_of check
   verdict_gap = go (closes c)
     where
-      go : (b : Bool) → gap_of (check b (Closed (largest_reaches c)) (Open (largest_reaches c))) ≡ largest_reaches c
+      go : (b : Bool) → gap_of (check b (going (Closed (largest_reaches c))) (going (Open (largest_reaches c)))) ≡ largest_reaches c
       go true = refl
       go false = refl
 
@@ -242,7 +241,7 @@ refusal_above fits c above lent n h =
 
 module _ (fits : Bool) (c : Closing) where
   abbrev Verdict : Type 0
-  Verdict = (n : ℕ) → check_of fits c ≡ Refused n → ⊥
+  Verdict = (n : ℕ) → check_of fits c ≡ ended n → ⊥
 
   pub passes_of : Verdict → AllPass (judgements fits c)
   unfolding check_of
@@ -252,7 +251,7 @@ module _ (fits : Bool) (c : Closing) where
   unfolding check_of
   verdict_of_lem p = answered (judgements fits c) (verdict_of c) p
 
-  refused_of : (n : ℕ) → (check_of fits c ≡ Refused n) ↔ FirstToFail (judgements fits c) n
+  refused_of : (n : ℕ) → (check_of fits c ≡ ended n) ↔ FirstToFail (judgements fits c) n
   unfolding check_of
   refused_of = refusals (judgements fits c) (verdict_of c) (no_refusal c)
 
@@ -326,7 +325,7 @@ pub means_of : (fits : Bool) (c : Closing) {r : CheckAnswer} → Held c → (fit
 means_of fits c held few e = rw e (means fits c held few)
 
 -- refusal 3 turns every check back
-pub means_3 : {fits : Bool} (c : Closing) → fits ≡ false → CheckMeaning fits c (Refused 3)
+pub means_3 : {fits : Bool} (c : Closing) → fits ≡ false → CheckMeaning fits c (ended 3)
 unfolding AllPass FirstToFail
 means_3 {fits} c e = record {
   verdict = (λ h. absurd (h 3 refl), λ p n h. true≢false (sym p.0 ∙ e));
@@ -337,6 +336,6 @@ means_3 {fits} c e = record {
   opened = λ h. absurd (omega arith);
 }
   where
-    back : (n : ℕ) → FirstToFail (judgements fits c) n → Refused 3 ≡ Refused n
-    back n (inl h) = ap Refused h.1
+    back : (n : ℕ) → FirstToFail (judgements fits c) n → ◌≡◌ {A = CheckAnswer} (ended 3) (ended n)
+    back n (inl h) = ap ended h.1
     back n (inr h) = absurd (true≢false (sym h.0 ∙ e))

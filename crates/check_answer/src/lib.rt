@@ -1,42 +1,52 @@
-// The answer of the closing check. specs/ has which it is and what it means, proofs/ that it means that.
+// The answer of the closing check: a verdict or a refusal. specs/ has which it is and what it means, proofs/ that it means that.
 
 #![tactic(auto)]
 
 ghost use Rattle.std.specs.Prelude.{◌≡◌};
-ghost use Rattle.check_answer.specs.Answer.{number_of, gap_of};
+ghost use Rattle.refusals.specs.Told.{told};
+ghost use Rattle.check_answer.specs.Answer.{number_of, gap_in, gap_of};
 
 use kapitsa_joint::Maxima;
+use refusals::Refusal;
 
 // A verdict comes with the measured gap: the largest reach of each dimension.
 #[derive(Clone, Copy)]
-pub enum CheckAnswer {
+pub enum Verdict {
     Closed(Maxima),
     Open(Maxima),
-    Refused(u32),
 }
 
-impl CheckAnswer {
-    pub fn number(self) -> u32
-        ensures { result ≡ number_of self }
+impl Verdict {
+    pub fn gap(self) -> Maxima
+        ensures { result ≡ gap_in self }
     {
         match self {
-            CheckAnswer::Closed(gap) => 1,
-            CheckAnswer::Open(gap) => 0,
-            CheckAnswer::Refused(number) => number,
+            Verdict::Closed(gap) => gap,
+            Verdict::Open(gap) => gap,
         }
     }
+}
 
-    // Twice +0.0 where there is no verdict.
-    pub fn gap(self) -> Maxima
-        ensures { result ≡ gap_of self }
-    {
-        match self {
-            CheckAnswer::Closed(gap) => gap,
-            CheckAnswer::Open(gap) => gap,
-            CheckAnswer::Refused(number) => Maxima {
-                linear: 0.0,
-                angular: 0.0,
-            },
-        }
+// 1 closed, 0 open, or the refusal's number.
+pub fn number(answer: Result<Verdict, Refusal>) -> u32
+    ensures { result ≡ number_of (told answer) }
+{
+    match answer {
+        Ok(Verdict::Closed(_)) => 1,
+        Ok(Verdict::Open(_)) => 0,
+        Err(refusal) => refusal.number(),
+    }
+}
+
+// Twice +0.0 where there is no verdict.
+pub fn gap(answer: Result<Verdict, Refusal>) -> Maxima
+    ensures { result ≡ gap_of (told answer) }
+{
+    match answer {
+        Ok(verdict) => verdict.gap(),
+        Err(_) => Maxima {
+            linear: 0.0,
+            angular: 0.0,
+        },
     }
 }

@@ -14,10 +14,8 @@ pub fn largest_reaches(words: &[u32], reaches: &[f64], rows: usize) -> Maxima
         linear: 0.0,
         angular: 0.0,
     };
-    let mut i = 0;
-    while i < rows {
+    for i in 0..rows {
         maxima = maxima.raised(dimension(words[8 * i + 1]), reaches[i]);
-        i += 1;
     }
     maxima
 }

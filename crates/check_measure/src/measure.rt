@@ -17,6 +17,7 @@ pub fn radius_factor(rows: usize) -> f64
 }
 
 // `value` is the row's value and `size` the same on sizes.
+#[tactic(auto, unfolding(crate::specs::Verdict::reach_of, crate::specs::Verdict::radius_of, crate::specs::Verdict::weight_of, crate::specs::Verdict::measured_of))]
 pub fn reach(rows: usize, error: f64, value: f64, size: f64) -> f64
     requires { rows ≤ 512 }
     ensures { result ≡ reach_of rows error value size }
@@ -39,9 +40,7 @@ pub fn measure_reaches(
     requires { (rows ≤ 512) × (27 * rows ≤ length numbers.now) × (rows ≤ length sizes.now) × (length values.old ≡ rows) × GivenFrom kind (length given.now) rows }
     ensures { values.new ≡ tabulate (reach_in (error_in kind numbers.now given.now) values.old sizes.now rows) rows }
 {
-    let mut i = 0;
-    while i < rows {
+    for i in 0..rows {
         values[i] = reach(rows, error_at(kind, numbers, given, i), values[i], sizes[i]);
-        i += 1;
     }
 }

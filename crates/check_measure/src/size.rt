@@ -4,6 +4,7 @@ ghost use Rattle.check_measure.specs.Verdict.{size_of_row, size_of_mass};
 
 use kapitsa_joint::{RowJacobian, SolverMass};
 
+#[tactic(auto, unfolding(crate::specs::Verdict::size_of_row))]
 pub fn row_size(j: RowJacobian) -> RowJacobian
     ensures { result ≡ size_of_row j }
 {
@@ -21,6 +22,7 @@ pub fn row_size(j: RowJacobian) -> RowJacobian
     }
 }
 
+#[tactic(auto, unfolding(crate::specs::Verdict::size_of_mass))]
 pub fn mass_size(m: SolverMass) -> SolverMass
     ensures { result ≡ size_of_mass m }
 {

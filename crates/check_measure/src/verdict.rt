@@ -6,6 +6,7 @@ ghost use Rattle.check_measure.specs.Rows.{within_in};
 
 use rules::row_tolerance;
 
+#[tactic(auto, unfolding(crate::specs::Rows::within_in))]
 fn row_within(
     words: &[u32],
     reaches: &[f64],
@@ -32,12 +33,5 @@ pub fn rows_close(
     requires rows_value { rows_ruled (rules_in rule_words.now rule_tolerances.now) words.now rows ≡ true }
     ensures { result ≡ every (within_in words.now reaches.now (rules_in rule_words.now rule_tolerances.now)) rows }
 {
-    let mut i = 0;
-    while i < rows {
-        if !row_within(words, reaches, rule_words, rule_tolerances, i) {
-            return false;
-        }
-        i += 1;
-    }
-    true
+    (0..rows).all(|i| row_within(words, reaches, rule_words, rule_tolerances, i))
 }

@@ -1,3 +1,2 @@
--- Refusal 18 judged on bits, and the error of either kind.
+-- Refusal 18 judged on bits.
 pub mod Bits
-pub mod Errors

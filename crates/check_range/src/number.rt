@@ -14,12 +14,14 @@ pub fn in_range(x: f64) -> bool
     (size == 0) | sized
 }
 
+#[tactic(auto, unfolding(crate::specs::Range::vec_in_range))]
 fn vec_in_range(v: Vec3) -> bool
     ensures { result ≡ vec_in_range v }
 {
     in_range(v.x) & in_range(v.y) & in_range(v.z)
 }
 
+#[tactic(auto, unfolding(crate::specs::Range::mat_in_range))]
 fn mat_in_range(m: Mat3) -> bool
     ensures { result ≡ mat_in_range m }
 {
@@ -29,6 +31,7 @@ fn mat_in_range(m: Mat3) -> bool
     vec_in_range(x) & vec_in_range(y) & vec_in_range(z)
 }
 
+#[tactic(auto, unfolding(crate::specs::Range::jacobian_in_range))]
 pub fn jacobian_in_range(j: RowJacobian) -> bool
     ensures { result ≡ jacobian_in_range j }
 {
@@ -42,6 +45,7 @@ pub fn jacobian_in_range(j: RowJacobian) -> bool
         & vec_in_range(angular_b)
 }
 
+#[tactic(auto, unfolding(crate::specs::Range::mass_in_range))]
 pub fn mass_in_range(m: SolverMass) -> bool
     ensures { result ≡ mass_in_range m }
 {

@@ -22,6 +22,7 @@ pub fn error_at(kind: Kind, numbers: &[f64], given: &[f64], i: usize) -> f64
     }
 }
 
+#[tactic(auto, unfolding(crate::specs::Range::row_in_range))]
 pub fn row_in_range_at(
     kind: Kind,
     numbers: &[f64],
@@ -49,14 +50,7 @@ fn rows_in_range(
     requires { (27 * rows ≤ length numbers.now) × (8 * rows ≤ length words.now) × (rows ≤ length multipliers.now) × GivenFrom kind (length given.now) rows }
     ensures { result ≡ every (λ i. row_in_range (jacobian_of (row_of numbers.now words.now i)) (error_in kind numbers.now given.now i) (get_or multipliers.now i nan)) rows }
 {
-    let mut i = 0;
-    while i < rows {
-        if !row_in_range_at(kind, numbers, words, given, multipliers, i) {
-            return false;
-        }
-        i += 1;
-    }
-    true
+    (0..rows).all(|i| row_in_range_at(kind, numbers, words, given, multipliers, i))
 }
 
 fn mass_in_range_at(masses: &[f64], b: usize) -> bool
@@ -70,17 +64,11 @@ pub fn masses_in_range(masses: &[f64], bodies: usize) -> bool
     requires { 10 * bodies ≤ length masses.now }
     ensures { result ≡ every (λ b. mass_in_range (mass_of masses.now b)) bodies }
 {
-    let mut b = 0;
-    while b < bodies {
-        if !mass_in_range_at(masses, b) {
-            return false;
-        }
-        b += 1;
-    }
-    true
+    (0..bodies).all(|b| mass_in_range_at(masses, b))
 }
 
 // Every row with its listed multiplier, and every mass, also of bodies in no row.
+#[tactic(auto, unfolding(crate::specs::Range::table_in_range))]
 pub fn table_in_range(
     kind: Kind,
     numbers: &[f64],

@@ -1,11 +1,8 @@
 -- The order of the check's refusals, as one list. Document 01: "Refusals here: 3, 4, 6, 7, 18"; what document 02 adds of the tolerances, right after 4.
 use Rattle.std.specs.Prelude.{ℕ, Bool, ◌&&◌, List, [], ◌∷◌, ◌++◌}
-use Rattle.loops.specs.Run.{Run, going, ended}
 use Rattle.joint_refusals.specs.Refusals.{passes4, passes6, passes7}
 use Rattle.check_range.specs.Closing.{Closing}
 use Rattle.check_range.specs.Range.{passes18}
-use Rattle.check_refusals.specs.declared.judge.TableJudged.{TableJudged}
-use Rattle.check_refusals.specs.declared.judge.TableJudged.TheVariants.{Passed, Refused}
 
 -- once 3 has passed
 abbrev pub table_tests : Closing → List (ℕ × Bool)
@@ -14,7 +11,3 @@ table_tests c = let t = c.table in (4, passes4 t) ∷ (c.tolerance_tests ++ ((6,
 -- `fits` is refusal 3's
 abbrev pub judgements : Bool → Closing → List (ℕ × Bool)
 judgements fits c = (3, fits) ∷ table_tests c
-
-abbrev pub judged_out : TableJudged → Run Unit ℕ
-judged_out Passed = going tt
-judged_out (Refused number) = ended number

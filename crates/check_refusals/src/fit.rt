@@ -39,6 +39,7 @@ fn beside(kind: Kind, n: usize, b: usize) -> usize
     }
 }
 
+#[tactic(auto, unfolding(crate::specs::Refusals::table_fits))]
 fn table_fits(kind: Kind, n: usize, b: usize, lengths: TableLengths) -> bool
     requires { (n < 4294967296) × (b < 4294967296) }
     ensures { result ≡ table_fits kind n b lengths }
@@ -53,12 +54,14 @@ fn table_fits(kind: Kind, n: usize, b: usize, lengths: TableLengths) -> bool
 }
 
 // The counts, and the lengths of what is given.
+#[tactic(auto, unfolding(crate::specs::Refusals::given_fits))]
 pub fn given_fits(kind: Kind, rows: u32, bodies: u32, table: TableLengths) -> bool
     ensures { result ≡ given_fits kind rows bodies table }
 {
     table_counts_fit(rows, bodies) & table_fits(kind, wide(rows), wide(bodies), table)
 }
 
+#[tactic(auto, unfolding(crate::specs::Refusals::work_fits))]
 fn work_fits(n: usize, b: usize, lengths: WorkLengths) -> bool
     requires { (n < 4294967296) × (b < 4294967296) }
     ensures { result ≡ work_fits n b lengths }
@@ -70,6 +73,7 @@ fn work_fits(n: usize, b: usize, lengths: WorkLengths) -> bool
 }
 
 // The counts and every length.
+#[tactic(auto, unfolding(crate::specs::Refusals::passes3))]
 pub fn fits(kind: Kind, rows: u32, bodies: u32, table: TableLengths, work: WorkLengths) -> bool
     ensures { result ≡ passes3 kind rows bodies table work }
 {

@@ -1,23 +1,19 @@
 // Refusals 4, 27, 28, 6, of velocities 20, 7 and 18, in this order.
 ghost use Rattle.std.specs.Prelude.{◌≡◌, ◌*◌, ◌≤◌, length};
 ghost use Rattle.loops.specs.Judge.{judge};
+ghost use Rattle.refusals.specs.Told.{told};
 ghost use Rattle.kapitsa_joint.specs.Table.{table_of};
 ghost use Rattle.mass_operator.specs.Flat.{coefficients};
 ghost use Rattle.rules.specs.Rows.{rules_in};
 ghost use Rattle.check_range.specs.Closing.{closing_for, given_finite, GivenFrom};
-ghost use Rattle.check_refusals.specs.Judged.{table_tests, judged_out};
+ghost use Rattle.check_refusals.specs.Judged.{table_tests};
 
 use crate::sound::rows_sound;
 use check_range::{masses_in_range, table_in_range};
 use joint_refusals::{masses_finite, residuals_finite, rows_valid, words_fit};
 use kapitsa_joint::Kind;
+use refusals::Refusal;
 use rules::{rows_ruled, rules_fit};
-
-#[derive(Clone, Copy)]
-pub enum TableJudged {
-    Passed,
-    Refused(u32),
-}
 
 // 20, of velocities alone.
 fn given_finite(kind: Kind, given: &[f64], rows: usize) -> bool
@@ -43,34 +39,34 @@ fn judge_in_order(
     rule_words: &[u32],
     rule_tolerances: &[f64],
     placed: bool,
-) -> TableJudged
+) -> Result<(), Refusal>
     requires { (27 * rows ≤ length numbers.now) × (8 * rows ≤ length words.now) × (10 * bodies ≤ length masses.now) × (rows ≤ length multipliers.now) × (3 * length rule_tolerances.now ≤ length rule_words.now) × GivenFrom kind (length given.now) rows }
-    ensures { judge (table_tests (closing_for kind (table_of rows bodies numbers.now words.now masses.now) (coefficients multipliers.now) (rules_in rule_words.now rule_tolerances.now) (coefficients given.now) placed)) ≡ judged_out result }
+    ensures { judge (table_tests (closing_for kind (table_of rows bodies numbers.now words.now masses.now) (coefficients multipliers.now) (rules_in rule_words.now rule_tolerances.now) (coefficients given.now) placed)) ≡ told result }
 {
     let n = rows as usize;
     let b = bodies as usize;
     if !words_fit(words, n) {
-        return TableJudged::Refused(4);
+        return Err(Refusal::Word);
     }
     if !rules_fit(rule_words, rule_tolerances) {
-        return TableJudged::Refused(27);
+        return Err(Refusal::Rule);
     }
     if !rows_ruled(words, rule_words, rule_tolerances, n) {
-        return TableJudged::Refused(28);
+        return Err(Refusal::RulesOfRow);
     }
     if !(masses_finite(masses, b) & placed) {
-        return TableJudged::Refused(6);
+        return Err(Refusal::Mass);
     }
     if !given_finite(kind, given, n) {
-        return TableJudged::Refused(20);
+        return Err(Refusal::Speed);
     }
     if !rows_valid(numbers, words, n, bodies) {
-        return TableJudged::Refused(7);
+        return Err(Refusal::Row);
     }
     if !table_in_range(kind, numbers, words, masses, given, multipliers, n, b) {
-        return TableJudged::Refused(18);
+        return Err(Refusal::Range);
     }
-    TableJudged::Passed
+    Ok(())
 }
 
 // The residual is looked at for velocities alone; `placed` tells whether the centres are finite.
@@ -87,9 +83,9 @@ pub fn judge_table(
     rule_words: &[u32],
     rule_tolerances: &[f64],
     placed: bool,
-) -> TableJudged
+) -> Result<(), Refusal>
     requires { (27 * rows ≤ length numbers.now) × (8 * rows ≤ length words.now) × (10 * bodies ≤ length masses.now) × (rows ≤ length multipliers.now) × (3 * length rule_tolerances.now ≤ length rule_words.now) × GivenFrom kind (length given.now) rows }
-    ensures { judge (table_tests (closing_for kind (table_of rows bodies numbers.now words.now masses.now) (coefficients multipliers.now) (rules_in rule_words.now rule_tolerances.now) (coefficients given.now) placed)) ≡ judged_out result }
+    ensures { judge (table_tests (closing_for kind (table_of rows bodies numbers.now words.now masses.now) (coefficients multipliers.now) (rules_in rule_words.now rule_tolerances.now) (coefficients given.now) placed)) ≡ told result }
 {
     let n = rows as usize;
     let b = bodies as usize;
@@ -98,7 +94,7 @@ pub fn judge_table(
     let sound = masses_in_range(masses, b)
         & rows_sound(kind, numbers, words, given, multipliers, n, bodies);
     if ruled & placed & given_finite(kind, given, n) & sound {
-        return TableJudged::Passed;
+        return Ok(());
     }
     judge_in_order(
         kind,

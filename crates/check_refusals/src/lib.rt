@@ -7,4 +7,4 @@ pub mod judge; // judge.rt: refusals 4, 27, 28, 6, 7 and 18
 pub mod sound; // sound.rt: 4, 7 and 18 of every row in one pass
 
 pub use fit::{TableLengths, WorkLengths, fits, given_fits};
-pub use judge::{TableJudged, judge_table};
+pub use judge::judge_table;

@@ -11,6 +11,7 @@ use joint_refusals::{bodies_below, row_words_fit, scalars_finite, scalars_in_ran
 use kapitsa_joint::{Kind, scalars_at, words_at};
 use kapitsa_math::vec_at;
 
+#[tactic(auto, unfolding(crate::specs::Sound::row_sound, kapitsa_joint::specs::Row::row_of))]
 fn row_sound_at(
     kind: Kind,
     numbers: &[f64],
@@ -48,10 +49,8 @@ pub fn rows_sound(
     ensures { result ≡ every (λ i. row_sound bodies (row_of numbers.now words.now i) (error_in kind numbers.now given.now i) (get_or multipliers.now i nan)) rows }
 {
     let mut all = true;
-    let mut i = 0;
-    while i < rows {
+    for i in 0..rows {
         all = all & row_sound_at(kind, numbers, words, given, multipliers, i, bodies);
-        i += 1;
     }
     all
 }

@@ -11,6 +11,7 @@ use kapitsa_math::Vec3;
 use loops::wide;
 use mass_operator::add_generalized_impulse;
 
+#[tactic(auto, unfolding(crate::specs::Rows::added_at))]
 fn add_at(impulses: &mut [f64], body: u32, linear: Vec3, angular: Vec3, coefficient: f64)
     requires { 6 * body + 6 ≤ length impulses.old }
     ensures { impulses.new ≡ added_at impulses.old body linear angular coefficient }
@@ -24,6 +25,7 @@ fn add_at(impulses: &mut [f64], body: u32, linear: Vec3, angular: Vec3, coeffici
     );
 }
 
+#[tactic(auto, unfolding(crate::specs::Rows::added_row))]
 fn add_row(j: RowJacobian, coefficient: f64, impulses: &mut [f64])
     requires { (6 * j.body_a + 6 ≤ length impulses.old) × (6 * j.body_b + 6 ≤ length impulses.old) }
     ensures { impulses.new ≡ added_row impulses.old j coefficient }
@@ -73,9 +75,7 @@ pub fn sum_impulses(
 {
     loops::clear(impulses);
     loops::clear(size_impulses);
-    let mut i = 0;
-    while i < multipliers.len() {
+    for i in 0..multipliers.len() {
         add_both(numbers, words, i, multipliers[i], impulses, size_impulses);
-        i += 1;
     }
 }

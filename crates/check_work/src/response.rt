@@ -35,9 +35,7 @@ pub fn respond(masses: &[f64], bodies: usize, impulses: &mut [f64], size_impulse
     ensures paired { Paired (λ b. response_of (mass_of masses.now b) (paired_of impulses.old b)) bodies impulses.new }
     ensures paired_2 { Paired (λ b. response_of (mass_of (map absolute masses.now) b) (paired_of size_impulses.old b)) bodies size_impulses.new }
 {
-    let mut b = 0;
-    while b < bodies {
+    for b in 0..bodies {
         turn_both(masses, b, impulses, size_impulses);
-        b += 1;
     }
 }

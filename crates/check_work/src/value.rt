@@ -15,6 +15,7 @@ struct RowValue {
     size: f64,
 }
 
+#[tactic(auto, unfolding(mass_operator::specs::Lent::value_in, mass_operator::specs::Operator::row_value_of))]
 fn value_of(j: RowJacobian, responses: &[f64]) -> f64
     requires { (6 * j.body_a + 6 ≤ length responses.now) × (6 * j.body_b + 6 ≤ length responses.now) }
     ensures { result ≡ value_in j responses.now }
@@ -47,10 +48,7 @@ fn value_at(
     let j = jacobian_at(numbers, words, i);
     let value = value_of(j, responses);
     let size = value_of(row_size(j), size_responses);
-    RowValue {
-        value: value,
-        size: size,
-    }
+    RowValue { value, size }
 }
 
 pub fn fill_values(
@@ -68,11 +66,9 @@ pub fn fill_values(
     ensures values_after { values.new ≡ tabulate (λ i. value_in (rows_in numbers.now words.now i) responses.now) (length values.old) }
     ensures sizes_after { sizes.new ≡ tabulate (λ i. value_in (row_sizes_in numbers.now words.now i) size_responses.now) (length values.old) }
 {
-    let mut i = 0;
-    while i < values.len() {
+    for i in 0..values.len() {
         let row = value_at(numbers, words, i, responses, size_responses);
         values[i] = row.value;
         sizes[i] = row.size;
-        i += 1;
     }
 }

@@ -7,7 +7,7 @@ use native.Mathlib.Omega.{arith}
 use lib.ListN.{length}
 use lib.Ieee.{Float}
 use borrow.Author.Tests.{not-true, not-false}
-use Rattle.loops.specs.Run.{on, check}
+use Rattle.loops.specs.Run.{on, check, ended}
 use Rattle.loops.specs.Judge.{judge, test, AllPass}
 use Rattle.loops.specs.Cleared.{zeros}
 use Rattle.loops.proofs.Both.{both}
@@ -25,9 +25,7 @@ use Rattle.check_refusals.specs.declared.fit.TableLengths.{TableLengths}
 use Rattle.check_refusals.specs.declared.fit.WorkLengths.{WorkLengths}
 use Rattle.check_refusals.proofs.Fitting.{Given, given_of, WorkRoom, work_of}
 use Rattle.check_refusals.proofs.Judgement.{passed_tolerances}
-use Rattle.check_answer.specs.Answer.{check_of, named_by}
-use Rattle.check_answer.specs.declared.CheckAnswer.{CheckAnswer}
-use Rattle.check_answer.specs.declared.CheckAnswer.TheVariants.{Refused}
+use Rattle.check_answer.specs.Answer.{check_of, named_by, CheckAnswer}
 use Rattle.check_answer.proofs.Meaning.{Held, means_3, means_of}
 use Rattle.check_work.specs.Work.{CheckMemory, memory_of, work_lengths, Room, cleared_memory}
 use Rattle.closing_check.specs.Beside.{placed_in, PlacedFrom}
@@ -113,7 +111,7 @@ module _ (kind : Kind) (s : Rules) (t : Table) (listed residual : ℕ → Float)
   abbrev c : Closing
   c = closing_for kind t listed s residual placed
 
-  pub checked_3 : not r ≡ true → Checked fits s c (Refused 3) numbers numbers before before
+  pub checked_3 : not r ≡ true → Checked fits s c (ended 3) numbers numbers before before
   unfolding check_of judge test check on
   checked_3 h =
       let f : fits ≡ false = sym e ∙ not-true r h in

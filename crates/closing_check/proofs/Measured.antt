@@ -5,7 +5,7 @@ use mathlib.Core.Bool.{Bool, true, false}
 use mathlib.Core.List.{List}
 use lib.ListN.{length, get_or}
 use lib.Ieee.{Float, nan, le}
-use Rattle.loops.specs.Run.{check}
+use Rattle.loops.specs.Run.{check, going, ended}
 use Rattle.loops.specs.Every.{every}
 use Rattle.loops.specs.Tabulate.{tabulate}
 use Rattle.loops.proofs.Every.{every_same}
@@ -27,10 +27,9 @@ use Rattle.check_range.specs.Closing.{Closing, closing_for, error_in}
 use Rattle.check_measure.specs.Verdict.{sizes_of, value_of, size_of, reach, within, closes, largest_reaches}
 use Rattle.check_measure.specs.Rows.{reach_in, within_in}
 use Rattle.check_work.specs.Rows.{Measured}
-use Rattle.check_answer.specs.Answer.{verdict_of, check_of, named_by}
-use Rattle.check_answer.specs.declared.CheckAnswer.{CheckAnswer}
-use Rattle.check_answer.specs.declared.CheckAnswer.TheVariants.{Closed, Open, Refused}
+use Rattle.check_answer.specs.Answer.{verdict_of, check_of, named_by, CheckAnswer}
 use Rattle.closing_check.specs.Checked.{verdict_in, Reached}
+use Rattle.check_answer.specs.declared.Verdict.TheVariants.{Closed, Open}
 
 module _ (kind : Kind) (s : Rules) (given : List Float) (placed : Bool) {rows bodies : ℕ} {numbers : List Float} {words : List ℕ} {masses multipliers values sizes : List Float}
     (m : Measured bodies numbers words masses multipliers values sizes) (e : length multipliers ≡ rows) where
@@ -70,22 +69,26 @@ module _ (kind : Kind) (s : Rules) (given : List Float) (placed : Bool) {rows bo
     verdict_is a passed =
         let gap = maxima_by (λ i. dimension_of (get_or words (8 * i + 1) 0)) (λ i. get_or reaches i nan) rows in
         a
-        ∙ ap (λ (b : Bool). check b (Closed gap) (Open gap)) closes_is
-        ∙ ap (λ (m : Maxima). check (closes c) (Closed m) (Open m)) largest_is
+        ∙ ap (λ (b : Bool). check b (going (Closed gap)) (going (Open gap))) closes_is
+        ∙ ap (λ (m : Maxima). check (closes c) (going (Closed m)) (going (Open m))) largest_is
         ∙ sym passed
 
--- a refusal leaves no reaches
-pub reached_none : (n : ℕ) (c : Closing) (values : List Float) → Reached (Refused n) c values
-reached_none n c values = record { reached = λ v. absurd (v n refl) }
+-- a refusal leaves no reaches, and names no rules
+module _ {answer : CheckAnswer} {n : ℕ} (e : answer ≡ ended n) (c : Closing) where
+  pub reached_none : (values : List Float) → Reached answer c values
+  reached_none values = record { reached = λ v. absurd (v n e) }
+
+  pub named_none : (before : List ℕ) → before ≡ named_by answer c before
+  named_none before = rw e
 
 -- ---- `verdict`
 module _ (words : List ℕ) (reaches : List Float) (s : Rules) (rows : ℕ) {r : Bool} {gap : Maxima} (p : r ≡ every (within_in words reaches s) rows)
     (g : gap ≡ maxima_by (λ i. dimension_of (get_or words (8 * i + 1) 0)) (λ i. get_or reaches i nan) rows) where
-  pub all_within : r ≡ true → Closed gap ≡ verdict_in words reaches s rows
+  pub all_within : r ≡ true → going (Closed gap) ≡ verdict_in words reaches s rows
   unfolding verdict_in check
   all_within h = rw (← p, h, ← g)
 
-  pub one_misses : r ≡ false → Open gap ≡ verdict_in words reaches s rows
+  pub one_misses : r ≡ false → going (Open gap) ≡ verdict_in words reaches s rows
   unfolding verdict_in check
   one_misses h = rw (← p, h, ← g)
 
@@ -98,16 +101,5 @@ module _ (s : Rules) (rows bodies : ℕ) (numbers : List Float) (words : List �
   unfolding row_of words_of
   rules_are = refl
 
-  pub named_is : (reaches : List Float) (before : List ℕ) {answer : CheckAnswer} {after : List ℕ} → answer ≡ verdict_in words reaches s rows → length before ≡ rows → after ≡ tabulate (rule_in s words) (length before) → after ≡ named_by answer judged before
-  unfolding verdict_in check
-  named_is reaches before a e n =
-      let gap = maxima_by (λ i. dimension_of (get_or words (8 * i + 1) 0)) (λ i. get_or reaches i nan) rows in
-      n
-      ∙ ap (λ (k : ℕ). tabulate (rule_in s words) k) e
-      ∙ rules_are
-      ∙ go gap (every (within_in words reaches s) rows)
-      ∙ ap (λ (r : CheckAnswer). named_by r judged before) (sym a)
-    where
-      go : (gap : Maxima) (b : Bool) → tabulate judged.rule rows ≡ named_by (check b (Closed gap) (Open gap)) judged before
-      go gap true = refl
-      go gap false = refl
+  pub named_is : (before : List ℕ) {after : List ℕ} → length before ≡ rows → after ≡ tabulate (rule_in s words) (length before) → after ≡ tabulate judged.rule rows
+  named_is before e n = n ∙ ap (λ (k : ℕ). tabulate (rule_in s words) k) e ∙ rules_are

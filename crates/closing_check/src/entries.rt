@@ -1,4 +1,5 @@
 // The two entry points: the closing check of positions, document 01, and that of velocities, document 02, a.
+ghost use Rattle.refusals.specs.Told.{told};
 ghost use Rattle.kapitsa_joint.specs.Table.{table_of};
 ghost use Rattle.kapitsa_joint.specs.declared.kind.Kind.TheVariants.{Position, Velocity};
 ghost use Rattle.kapitsa_joint.specs.Centre.{centres_in};
@@ -11,8 +12,9 @@ ghost use Rattle.check_work.specs.Work.{memory_of, work_lengths};
 ghost use Rattle.closing_check.specs.Checked.{Checked};
 
 use crate::prepared::check_prepared;
-use check_answer::CheckAnswer;
+use check_answer::Verdict;
 use kapitsa_joint::Kind;
+use refusals::Refusal;
 
 // Are the joints closed by these multipliers, the gains since the errors were measured, and how far are they?
 pub fn closing_check(
@@ -30,10 +32,10 @@ pub fn closing_check(
     size_impulses: &mut [f64],
     values: &mut [f64],
     sizes: &mut [f64],
-) -> CheckAnswer
+) -> Result<Verdict, Refusal>
     ensures { Checked (passes3 Position rows bodies (table_lengths numbers.now words.now masses.now centres.now multipliers.now rule_words.now rule_tolerances.now rule_numbers.old) (work_lengths (memory_of impulses.old size_impulses.old values.old sizes.old)))
         (rules_in rule_words.now rule_tolerances.now)
-        (closing_of (table_of rows bodies numbers.now words.now masses.now) (coefficients multipliers.now) (rules_in rule_words.now rule_tolerances.now) (centres_finite (centres_in bodies centres.now))) result rule_numbers.old rule_numbers.new
+        (closing_of (table_of rows bodies numbers.now words.now masses.now) (coefficients multipliers.now) (rules_in rule_words.now rule_tolerances.now) (centres_finite (centres_in bodies centres.now))) (told result) rule_numbers.old rule_numbers.new
         (memory_of impulses.old size_impulses.old values.old sizes.old)
         (memory_of impulses.new size_impulses.new values.new sizes.new) }
 {
@@ -72,10 +74,10 @@ pub fn velocity_closing_check(
     size_impulses: &mut [f64],
     values: &mut [f64],
     sizes: &mut [f64],
-) -> CheckAnswer
+) -> Result<Verdict, Refusal>
     ensures { Checked (passes3 Velocity rows bodies (table_lengths numbers.now words.now masses.now given.now multipliers.now rule_words.now rule_tolerances.now rule_numbers.old) (work_lengths (memory_of impulses.old size_impulses.old values.old sizes.old)))
         (rules_in rule_words.now rule_tolerances.now)
-        (speeds_of (table_of rows bodies numbers.now words.now masses.now) (coefficients multipliers.now) (rules_in rule_words.now rule_tolerances.now) (coefficients given.now)) result rule_numbers.old rule_numbers.new
+        (speeds_of (table_of rows bodies numbers.now words.now masses.now) (coefficients multipliers.now) (rules_in rule_words.now rule_tolerances.now) (coefficients given.now)) (told result) rule_numbers.old rule_numbers.new
         (memory_of impulses.old size_impulses.old values.old sizes.old)
         (memory_of impulses.new size_impulses.new values.new sizes.new) }
 {

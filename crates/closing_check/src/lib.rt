@@ -6,6 +6,6 @@ pub mod check; // check.rt: the check, once refusal 3 has passed
 pub mod entries; // entries.rt: the entry points of positions and of velocities
 pub mod prepared; // prepared.rt: the check of either kind, with refusal 3
 
-pub use check_answer::CheckAnswer;
+pub use check_answer::Verdict;
 pub use entries::{closing_check, velocity_closing_check};
 pub use prepared::check_prepared;

@@ -1,5 +1,6 @@
 // The closing check of either kind over lent tables, a lent list of multipliers and what is lent beside them.
 ghost use Rattle.std.specs.Prelude.{◌≡◌, length};
+ghost use Rattle.refusals.specs.Told.{told};
 ghost use Rattle.rules.specs.Rows.{rules_in};
 ghost use Rattle.check_refusals.specs.Refusals.{passes3, table_lengths};
 ghost use Rattle.check_work.specs.Work.{memory_of, work_lengths};
@@ -7,11 +8,12 @@ ghost use Rattle.closing_check.specs.Beside.{placed_in, closing_in, PlacedFrom};
 ghost use Rattle.closing_check.specs.Checked.{Checked};
 
 use crate::check::judged_check;
-use check_answer::CheckAnswer;
+use check_answer::Verdict;
 use check_refusals::{TableLengths, WorkLengths, fits};
 use check_work::clear_work;
 use joint_refusals::centres_finite;
 use kapitsa_joint::Kind;
+use refusals::Refusal;
 
 // Whether the centres are finite, which velocities have none of.
 pub fn beside_placed(kind: Kind, bodies: u32, beside: &[f64]) -> bool
@@ -42,10 +44,10 @@ pub fn check_prepared(
     size_impulses: &mut [f64],
     values: &mut [f64],
     sizes: &mut [f64],
-) -> CheckAnswer
+) -> Result<Verdict, Refusal>
     ensures { Checked (passes3 kind rows bodies (table_lengths numbers.now words.now masses.now beside.now multipliers.now rule_words.now rule_tolerances.now rule_numbers.old) (work_lengths (memory_of impulses.old size_impulses.old values.old sizes.old)))
         (rules_in rule_words.now rule_tolerances.now)
-        (closing_in kind rows bodies numbers.now words.now masses.now beside.now multipliers.now (rules_in rule_words.now rule_tolerances.now)) result rule_numbers.old rule_numbers.new
+        (closing_in kind rows bodies numbers.now words.now masses.now beside.now multipliers.now (rules_in rule_words.now rule_tolerances.now)) (told result) rule_numbers.old rule_numbers.new
         (memory_of impulses.old size_impulses.old values.old sizes.old)
         (memory_of impulses.new size_impulses.new values.new sizes.new) }
 {
@@ -66,7 +68,7 @@ pub fn check_prepared(
         sizes: sizes.len(),
     };
     if !fits(kind, rows, bodies, table, work) {
-        return CheckAnswer::Refused(3);
+        return Err(Refusal::Length);
     }
     let placed = beside_placed(kind, bodies, beside);
     let answer = judged_check(

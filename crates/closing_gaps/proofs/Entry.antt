@@ -17,7 +17,6 @@ use Rattle.check_refusals.specs.Refusals.{given_fits, work_fits, passes3}
 use Rattle.check_refusals.specs.declared.fit.TableLengths.{TableLengths}
 use Rattle.check_refusals.specs.declared.fit.WorkLengths.{WorkLengths}
 use Rattle.check_refusals.proofs.Fitting.{work_of}
-use Rattle.check_answer.specs.declared.CheckAnswer.{CheckAnswer}
 use Rattle.check_answer.proofs.Meaning.{Held}
 use Rattle.check_work.specs.Work.{CheckMemory}
 use Rattle.closing_check.specs.Beside.{placed_in}
@@ -25,6 +24,7 @@ use Rattle.closing_check.specs.Checked.{Checked, Reached}
 use Rattle.closing_check.proofs.Entry.{passed_3}
 use Rattle.closing_gaps.specs.Gaps.{gaps_lent, kept_by, GapsHeld}
 use Rattle.closing_gaps.proofs.Told.{told_on}
+use Rattle.check_answer.specs.Answer.{CheckAnswer}
 
 -- ---- refusal 3, of the numbers' slice and of all else
 pub fits_both : {a b p q : Bool} → a ≡ p → b ≡ q → (a && b) ≡ (p && q)

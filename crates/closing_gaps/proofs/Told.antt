@@ -11,21 +11,19 @@ use Rattle.loops.specs.Tabulate.{tabulate}
 use Rattle.loops.proofs.Every.{every_iff}
 use Rattle.loops.proofs.Tabulate.{get_d_tabulate, tabulated}
 use Rattle.kapitsa_joint.specs.Maxima.{maxima_by}
-use Rattle.kapitsa_joint.specs.declared.maxima.Maxima.{Maxima}
 use Rattle.kapitsa_joint.proofs.Largest.{maxima_same}
 use Rattle.check_range.specs.Closing.{Closing}
 use Rattle.check_measure.specs.Verdict.{row_dimension, reach, within, closes, largest_reaches}
-use Rattle.check_answer.specs.Answer.{number_of, gap_of, verdict_of, check_of}
-use Rattle.check_answer.specs.declared.CheckAnswer.{CheckAnswer}
-use Rattle.check_answer.specs.declared.CheckAnswer.TheVariants.{Closed, Open, Refused}
+use Rattle.check_answer.specs.Answer.{number_of, gap_of, verdict_of, check_of, CheckAnswer}
 use Rattle.check_answer.proofs.Meaning.{Held, passes_of, verdict_of_lem, closed_closes, closes_closed, verdict_gap, measured_of_lem}
 use Rattle.closing_check.specs.Checked.{Reached}
 use Rattle.closing_gaps.specs.Gaps.{gaps_by, kept_by, GapsMeaning, GapsTold}
+use Rattle.loops.specs.Run.{going, ended}
 
 -- ---- a verdict and the numbers of its rows
-module _ {fits : Bool} {c : Closing} {answer : CheckAnswer} (e : answer ≡ check_of fits c) (held : Held c) (few : fits ≡ true → c.table.rows ≤ 512) (v : (n : ℕ) → answer ≡ Refused n → ⊥) {gaps : List Float}
+module _ {fits : Bool} {c : Closing} {answer : CheckAnswer} (e : answer ≡ check_of fits c) (held : Held c) (few : fits ≡ true → c.table.rows ≤ 512) (v : (n : ℕ) → answer ≡ ended n → ⊥) {gaps : List Float}
     (made : gaps ≡ tabulate (reach c) c.table.rows) where
-  verdict : (n : ℕ) → check_of fits c ≡ Refused n → ⊥
+  verdict : (n : ℕ) → check_of fits c ≡ ended n → ⊥
   verdict n h = v n (e ∙ h)
 
   answer_is : answer ≡ verdict_of c
@@ -52,36 +50,23 @@ module _ {fits : Bool} {c : Closing} {answer : CheckAnswer} (e : answer ≡ chec
     bounded = λ i l. rw (number_is i l) (measured_of_lem fits c held few verdict i l);
   }
 
--- ---- what `keep_gaps` leaves
-module _ {answer : CheckAnswer} (reaches gaps : List Float) where
-  pub kept_closed : {g : Maxima} {after : List Float} → answer ≡ Closed g → after ≡ reaches → after ≡ kept_by answer reaches gaps
-  kept_closed e p = p ∙ sym (ap (λ (a : CheckAnswer). kept_by a reaches gaps) e)
-
-  pub kept_open : {g : Maxima} {after : List Float} → answer ≡ Open g → after ≡ reaches → after ≡ kept_by answer reaches gaps
-  kept_open e p = p ∙ sym (ap (λ (a : CheckAnswer). kept_by a reaches gaps) e)
-
-  pub kept_refused : {n : ℕ} → answer ≡ Refused n → gaps ≡ kept_by answer reaches gaps
-  kept_refused e = sym (ap (λ (a : CheckAnswer). kept_by a reaches gaps) e)
-
 -- ---- of the check that left the reaches
 module _ (c : Closing) {values : List Float} (long : length values ≡ c.table.rows) where
-  reaches_are : {answer : CheckAnswer} → Reached answer c values → ((n : ℕ) → answer ≡ Refused n → ⊥) → values ≡ tabulate (reach c) c.table.rows
+  reaches_are : {answer : CheckAnswer} → Reached answer c values → ((n : ℕ) → answer ≡ ended n → ⊥) → values ≡ tabulate (reach c) c.table.rows
   reaches_are r v = tabulated nan (reach c) c.table.rows values long (r.reached v)
 
   by : (gaps : List Float) (answer : CheckAnswer) → Reached answer c values → kept_by answer values gaps ≡ gaps_by answer c gaps
-  by gaps (Closed g) r = reaches_are r (λ n h. let z : ◌≡◌ {A = ℕ} 0 1 = cc in omega arith)
-  by gaps (Open g) r = reaches_are r (λ n h. let z : ◌≡◌ {A = ℕ} 0 1 = cc in omega arith)
-  by gaps (Refused n) r = refl
+  by gaps (going verdict) r = reaches_are r (λ n h. let z : ◌≡◌ {A = ℕ} 0 1 = cc in omega arith)
+  by gaps (ended n) r = refl
 
-made_by : (c : Closing) (gaps : List Float) (answer : CheckAnswer) → ((n : ℕ) → answer ≡ Refused n → ⊥) → gaps_by answer c gaps ≡ tabulate (reach c) c.table.rows
-made_by c gaps (Closed g) v = refl
-made_by c gaps (Open g) v = refl
-made_by c gaps (Refused n) v = absurd (v n refl)
+made_by : (c : Closing) (gaps : List Float) (answer : CheckAnswer) → ((n : ℕ) → answer ≡ ended n → ⊥) → gaps_by answer c gaps ≡ tabulate (reach c) c.table.rows
+made_by c gaps (going verdict) v = refl
+made_by c gaps (ended n) v = absurd (v n refl)
 
 pub told_on : (c : Closing) (gaps : List Float) {values : List Float} → length values ≡ c.table.rows → {fits : Bool} {answer : CheckAnswer} {after : List Float} → answer ≡ check_of fits c → Held c → (fits ≡ true → c.table.rows ≤ 512) → Reached answer c values → after ≡ kept_by answer values gaps → GapsTold c answer gaps after
 told_on c gaps long {answer = answer} e held few r k =
     let given = k ∙ by c long gaps answer r in
     record { given = given; means = λ v. gaps_mean e held few v (given ∙ made_by c gaps answer v) }
 
-pub told_3 : (c : Closing) (n : ℕ) (gaps : List Float) → GapsTold c (Refused n) gaps gaps
+pub told_3 : (c : Closing) (n : ℕ) (gaps : List Float) → GapsTold c (ended n) gaps gaps
 told_3 c n gaps = record { given = refl; means = λ v. absurd (v n refl) }

@@ -8,12 +8,11 @@ use Rattle.rules.specs.Rules.{Rules}
 use Rattle.check_range.specs.Closing.{Closing}
 use Rattle.check_measure.specs.Verdict.{row_dimension, reach}
 use Rattle.check_measure.specs.Gap.{gap, scaled}
-use Rattle.check_answer.specs.Answer.{number_of, gap_of}
-use Rattle.check_answer.specs.declared.CheckAnswer.{CheckAnswer}
-use Rattle.check_answer.specs.declared.CheckAnswer.TheVariants.{Closed, Open, Refused}
+use Rattle.check_answer.specs.Answer.{number_of, gap_of, CheckAnswer}
 use Rattle.check_work.specs.Work.{CheckMemory}
 use Rattle.closing_check.specs.Checked.{Checked}
 use Rattle.check_alone.specs.Checked.{AloneHeld}
+use Rattle.loops.specs.Run.{going, ended}
 
 -- refusal 3 of the numbers' slice: a place a row. It is true where the refusal does not apply.
 unfoldable pub gaps_lent : ℕ → ℕ → Bool
@@ -21,9 +20,8 @@ gaps_lent n gaps = eqb gaps n
 
 -- each row's rounded |r| + E, in row order, where there is a verdict; a refusal touches nothing
 abbrev pub gaps_by : CheckAnswer → Closing → List Float → List Float
-gaps_by (Closed gap) c before = tabulate (reach c) c.table.rows
-gaps_by (Open gap) c before = tabulate (reach c) c.table.rows
-gaps_by (Refused n) c before = before
+gaps_by (going verdict) c before = tabulate (reach c) c.table.rows
+gaps_by (ended n) c before = before
 
 -- what the numbers of a verdict mean: each row is within its tolerance, which is that of its rule, exactly where its number is;
 -- the gap told of a dimension is the largest of its rows' numbers; and no row's exact gap exceeds its number
@@ -35,7 +33,7 @@ pub record GapsMeaning (c : Closing) (answer : CheckAnswer) (gaps : List Float) 
 -- of the numbers alone: `gaps` is the lent memory
 pub record GapsTold (c : Closing) (answer : CheckAnswer) (gaps gapsAfter : List Float) : Type 0 where
   pub given : gapsAfter ≡ gaps_by answer c gaps
-  pub means : ((n : ℕ) → answer ≡ Refused n → ⊥) → GapsMeaning c answer gapsAfter
+  pub means : ((n : ℕ) → answer ≡ ended n → ⊥) → GapsMeaning c answer gapsAfter
 
 pub record GapsHeld (fits : Bool) (s : Rules) (c : Closing) (answer : CheckAnswer) (numbers numbersAfter : List ℕ) (before after : CheckMemory) (gaps gapsAfter : List Float) : Type 0 where
   pub checked : Checked fits s c answer numbers numbersAfter before after
@@ -48,6 +46,5 @@ pub record GapsAlone (fits : Bool) (s : Rules) (c : Closing) (answer : CheckAnsw
 
 -- ---- over lent reaches, with the answer that these gave
 abbrev pub kept_by : CheckAnswer → List Float → List Float → List Float
-kept_by (Closed gap) reaches gaps = reaches
-kept_by (Open gap) reaches gaps = reaches
-kept_by (Refused n) reaches gaps = gaps
+kept_by (going verdict) reaches gaps = reaches
+kept_by (ended n) reaches gaps = gaps

@@ -1,5 +1,6 @@
 // The check of either kind that gives each row's measured number, over lent tables, a lent list of multipliers and what is lent beside them.
 ghost use Rattle.std.specs.Prelude.{◌&&◌, length};
+ghost use Rattle.refusals.specs.Told.{told};
 ghost use Rattle.rules.specs.Rows.{rules_in};
 ghost use Rattle.check_refusals.specs.Refusals.{passes3, table_lengths};
 ghost use Rattle.check_work.specs.Work.{memory_of, work_lengths};
@@ -7,12 +8,13 @@ ghost use Rattle.closing_check.specs.Beside.{closing_in};
 ghost use Rattle.closing_gaps.specs.Gaps.{gaps_lent, GapsHeld};
 
 use crate::keep::{gaps_fit, keep_gaps};
-use check_answer::CheckAnswer;
+use check_answer::Verdict;
 use check_refusals::{TableLengths, WorkLengths, fits};
 use check_work::clear_work;
 use closing_check::check::judged_check;
 use closing_check::prepared::beside_placed;
 use kapitsa_joint::Kind;
+use refusals::Refusal;
 
 // It answers as `check_prepared` does, with refusal 3 of the numbers' slice too. Where there is a verdict, closed or open, gaps has the number of each row; after a refusal it stays as it was.
 pub fn gaps_prepared(
@@ -32,10 +34,10 @@ pub fn gaps_prepared(
     size_impulses: &mut [f64],
     values: &mut [f64],
     sizes: &mut [f64],
-) -> CheckAnswer
+) -> Result<Verdict, Refusal>
     ensures { GapsHeld (gaps_lent rows (length gaps.old) && passes3 kind rows bodies (table_lengths numbers.now words.now masses.now beside.now multipliers.now rule_words.now rule_tolerances.now rule_numbers.old) (work_lengths (memory_of impulses.old size_impulses.old values.old sizes.old)))
         (rules_in rule_words.now rule_tolerances.now)
-        (closing_in kind rows bodies numbers.now words.now masses.now beside.now multipliers.now (rules_in rule_words.now rule_tolerances.now)) result rule_numbers.old rule_numbers.new
+        (closing_in kind rows bodies numbers.now words.now masses.now beside.now multipliers.now (rules_in rule_words.now rule_tolerances.now)) (told result) rule_numbers.old rule_numbers.new
         (memory_of impulses.old size_impulses.old values.old sizes.old)
         (memory_of impulses.new size_impulses.new values.new sizes.new)
         gaps.old gaps.new }
@@ -58,7 +60,7 @@ pub fn gaps_prepared(
     };
     let room = gaps_fit(rows, gaps.len());
     if !(room & fits(kind, rows, bodies, table, work)) {
-        return CheckAnswer::Refused(3);
+        return Err(Refusal::Length);
     }
     let placed = beside_placed(kind, bodies, beside);
     let answer = judged_check(

@@ -1,5 +1,6 @@
 // The measured numbers of a small table of positions, at most 128 rows and 64 bodies, with work memory of its own.
 ghost use Rattle.std.specs.Prelude.{◌≡◌, true, ◌&&◌, ◌≤◌, length};
+ghost use Rattle.refusals.specs.Told.{told};
 ghost use Rattle.kapitsa_joint.specs.Table.{table_of};
 ghost use Rattle.kapitsa_joint.specs.declared.kind.Kind.TheVariants.{Position};
 ghost use Rattle.kapitsa_joint.specs.Centre.{centres_in};
@@ -11,9 +12,10 @@ ghost use Rattle.check_refusals.specs.Refusals.{given_fits, table_lengths};
 ghost use Rattle.closing_gaps.specs.Gaps.{gaps_lent, GapsAlone};
 
 use crate::entries::closing_gaps;
-use check_answer::CheckAnswer;
+use check_answer::Verdict;
 use check_refusals::{TableLengths, given_fits};
 use kapitsa_joint::Kind;
+use refusals::Refusal;
 
 // With memory for 128 rows and 64 bodies.
 fn with_small_memory(
@@ -28,12 +30,12 @@ fn with_small_memory(
     rule_tolerances: &[f64],
     rule_numbers: &mut [u32],
     gaps: &mut [f64],
-) -> CheckAnswer
+) -> Result<Verdict, Refusal>
     requires rule_numbers_value { given_fits Position n b (table_lengths numbers.now words.now masses.now centres.now multipliers.now rule_words.now rule_tolerances.now rule_numbers.old) ≡ true }
     requires n_bound { (n ≤ 128) × (b ≤ 64) }
     ensures { GapsAlone (gaps_lent n (length gaps.old) && given_fits Position n b (table_lengths numbers.now words.now masses.now centres.now multipliers.now rule_words.now rule_tolerances.now rule_numbers.old))
         (rules_in rule_words.now rule_tolerances.now)
-        (closing_of (table_of n b numbers.now words.now masses.now) (coefficients multipliers.now) (rules_in rule_words.now rule_tolerances.now) (centres_finite (centres_in b centres.now))) result rule_numbers.old rule_numbers.new
+        (closing_of (table_of n b numbers.now words.now masses.now) (coefficients multipliers.now) (rules_in rule_words.now rule_tolerances.now) (centres_finite (centres_in b centres.now))) (told result) rule_numbers.old rule_numbers.new
         gaps.old gaps.new }
 {
     let mut impulses: [f64; 384] = [0.0; 384];
@@ -75,11 +77,11 @@ pub fn gaps_small(
     rule_tolerances: &[f64],
     rule_numbers: &mut [u32],
     gaps: &mut [f64],
-) -> CheckAnswer
+) -> Result<Verdict, Refusal>
     requires { (n ≤ 128) × (b ≤ 64) }
     ensures { GapsAlone (gaps_lent n (length gaps.old) && given_fits Position n b (table_lengths numbers.now words.now masses.now centres.now multipliers.now rule_words.now rule_tolerances.now rule_numbers.old))
         (rules_in rule_words.now rule_tolerances.now)
-        (closing_of (table_of n b numbers.now words.now masses.now) (coefficients multipliers.now) (rules_in rule_words.now rule_tolerances.now) (centres_finite (centres_in b centres.now))) result rule_numbers.old rule_numbers.new
+        (closing_of (table_of n b numbers.now words.now masses.now) (coefficients multipliers.now) (rules_in rule_words.now rule_tolerances.now) (centres_finite (centres_in b centres.now))) (told result) rule_numbers.old rule_numbers.new
         gaps.old gaps.new }
 {
     let table = TableLengths {
@@ -93,7 +95,7 @@ pub fn gaps_small(
         rule_numbers: rule_numbers.len(),
     };
     if !given_fits(Kind::Position, n, b, table) {
-        return CheckAnswer::Refused(3);
+        return Err(Refusal::Length);
     }
     with_small_memory(
         n,

@@ -7,7 +7,7 @@ use native.Mathlib.Omega.{arith}
 use lib.Dec.{eqb}
 use lib.Ieee.{Float, le}
 use borrow.Author.Tests.{eqb-true, eq-eqb}
-use Rattle.loops.specs.Run.{check}
+use Rattle.loops.specs.Run.{check, going, ended}
 use Rattle.loops.specs.Judge.{AllPass}
 use Rattle.loops.specs.Every.{every}
 use Rattle.loops.proofs.Every.{every_iff}
@@ -17,10 +17,10 @@ use Rattle.check_range.specs.Closing.{Closing}
 use Rattle.check_refusals.specs.Judged.{judgements}
 use Rattle.check_measure.specs.Verdict.{value_of, size_of, reach, within, closes, largest_reaches}
 use Rattle.check_answer.specs.Answer.{verdict_of, check_of}
-use Rattle.check_answer.specs.declared.CheckAnswer.TheVariants.{Closed, Open, Refused}
 use Rattle.check_answer.proofs.Meaning.{passes_of, verdict_of_lem}
 use Rattle.closing_margins.specs.Alone.{alone_by, Margin}
 use Rattle.closing_margins.proofs.Compared.{lt_not_le, le_self}
+use Rattle.check_answer.specs.declared.Verdict.TheVariants.{Closed, Open}
 
 -- ---- nothing but the verdict on row i reads x
 module _ (c : Closing) (i : ℕ) (x : Float) where
@@ -38,9 +38,9 @@ module _ (c : Closing) (i : ℕ) (x : Float) where
   alone_other : (j : ℕ) → eqb j i ≡ false → within (alone_by c i x) j ≡ within c j
   alone_other j e = alone_within j ∙ ap (λ (b : Bool). le (reach c j) (cond b x (c.tolerance j))) e
 
-module _ (fits : Bool) (c : Closing) {g : Maxima} (i : ℕ) (l : i < c.table.rows) (shut : check_of fits c ≡ Closed g) where
-  no_refusal : (n : ℕ) → check_of fits c ≡ Refused n → ⊥
-  no_refusal n e = let h : Closed g ≡ Refused n = sym shut ∙ e in let z : ◌≡◌ {A = ℕ} 0 1 = cc in omega arith
+module _ (fits : Bool) (c : Closing) {g : Maxima} (i : ℕ) (l : i < c.table.rows) (shut : check_of fits c ≡ going (Closed g)) where
+  no_refusal : (n : ℕ) → check_of fits c ≡ ended n → ⊥
+  no_refusal n e = let h : going (Closed g) ≡ ended n = sym shut ∙ e in let z : ◌≡◌ {A = ℕ} 0 1 = cc in omega arith
 
   passed : AllPass (judgements fits c)
   passed = passes_of fits c no_refusal
@@ -51,7 +51,7 @@ module _ (fits : Bool) (c : Closing) {g : Maxima} (i : ℕ) (l : i < c.table.row
     where
       go : (b : Bool) → closes c ≡ b → closes c ≡ true
       go true e = e
-      go false e = let h : Open (largest_reaches c) ≡ Closed g = sym (verdict_of_lem fits c passed ∙ check_false _ _ _ e) ∙ shut in let z : ◌≡◌ {A = ℕ} 0 1 = cc in absurd (omega arith)
+      go false e = let h : going (Open (largest_reaches c)) ≡ going (Closed g) = sym (verdict_of_lem fits c passed ∙ check_false _ _ _ e) ∙ shut in let z : ◌≡◌ {A = ℕ} 0 1 = cc in absurd (omega arith)
 
   own : (j : ℕ) → j < c.table.rows → within c j ≡ true
   unfolding closes
@@ -81,7 +81,7 @@ module _ (fits : Bool) (c : Closing) {g : Maxima} (i : ℕ) (l : i < c.table.row
       back h = (every_iff (within (alone_by c i x)) c.table.rows).1 (each h)
 
   -- so is the answer, for every double x
-  pub check_alone : (x : Float) → check_of fits (alone_by c i x) ≡ check (le (reach c i) x) (Closed (largest_reaches c)) (Open (largest_reaches c))
+  pub check_alone : (x : Float) → check_of fits (alone_by c i x) ≡ check (le (reach c i) x) (going (Closed (largest_reaches c))) (going (Open (largest_reaches c)))
   unfolding verdict_of
   check_alone x = verdict_of_lem fits (alone_by c i x) passed ∙ rw (closes_alone x, alone_largest c i x)
 

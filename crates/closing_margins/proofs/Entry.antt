@@ -19,8 +19,6 @@ use Rattle.check_refusals.specs.Refusals.{given_fits, work_fits, passes3}
 use Rattle.check_refusals.specs.declared.fit.TableLengths.{TableLengths}
 use Rattle.check_refusals.specs.declared.fit.WorkLengths.{WorkLengths}
 use Rattle.check_refusals.proofs.Fitting.{given_of}
-use Rattle.check_answer.specs.declared.CheckAnswer.{CheckAnswer}
-use Rattle.check_answer.specs.declared.CheckAnswer.TheVariants.{Closed, Open, Refused}
 use Rattle.check_work.specs.Work.{CheckMemory}
 use Rattle.closing_check.specs.Beside.{closing_in}
 use Rattle.closing_gaps.specs.Gaps.{gaps_lent, gaps_by, GapsHeld}
@@ -30,13 +28,13 @@ use Rattle.closing_margins.proofs.Alone.{margin}
 use Rattle.closing_margins.proofs.Sizes.{all_sized, sized_same}
 use Rattle.margins_list.proofs.Told.{words_dimension, margins_same}
 use Rattle.margins_list.proofs.Ranked.{margins_are}
+use Rattle.check_answer.specs.Answer.{CheckAnswer}
+use Rattle.check_answer.specs.declared.Verdict.TheVariants.{Closed, Open}
+use Rattle.loops.specs.Run.{going, ended}
 
--- ---- the three answers differ
-closed_not_refused : {answer : CheckAnswer} {g : Maxima} → answer ≡ Closed g → (n : ℕ) → answer ≡ Refused n → ⊥
-closed_not_refused {answer} {g} e n h = let z : Closed g ≡ Refused n = sym e ∙ h in let y : ◌≡◌ {A = ℕ} 0 1 = cc in omega arith
-
-closed_not_open : {answer : CheckAnswer} {g h : Maxima} → answer ≡ Closed g → answer ≡ Open h → ⊥
-closed_not_open {answer} {g} {h} e f = let z : Closed g ≡ Open h = sym e ∙ f in let y : ◌≡◌ {A = ℕ} 0 1 = cc in omega arith
+-- ---- closed is no refusal
+closed_not_refused : {answer : CheckAnswer} {g : Maxima} → answer ≡ going (Closed g) → (n : ℕ) → answer ≡ ended n → ⊥
+closed_not_refused {answer} {g} e n h = let z : going (Closed g) ≡ ended n = sym e ∙ h in let y : ◌≡◌ {A = ℕ} 0 1 = cc in omega arith
 
 -- ---- refusal 3, of the list's slices and of the count of rows
 pub lists_passed : (n rows margins : ℕ) {x : Bool} → x ≡ margins_lent n rows margins → not (x && leb n 512) ≡ false → (n ≤ 512) × (margins_lent n rows margins ≡ true)
@@ -63,7 +61,7 @@ module _ (kind : Kind) (n b : ℕ) (t : TableLengths) (w : WorkLengths) where
   unfolding passes3
   words_3 h = omega (arith, (given_of kind n b t (both (given_fits kind n b t) (work_fits n b w) h).0).words)
 
-pub told_3 : (pass : Bool) (c : Closing) (n : ℕ) (rows : List ℕ) (margins : List Float) → MarginsTold pass c (Refused n) rows margins rows margins
+pub told_3 : (pass : Bool) (c : Closing) (n : ℕ) (rows : List ℕ) (margins : List Float) → MarginsTold pass c (ended n) rows margins rows margins
 told_3 pass c n rows margins = record {
   answered = λ g h. absurd (closed_not_refused h n refl);
   listed = λ g h. absurd (closed_not_refused h n refl);
@@ -71,29 +69,12 @@ told_3 pass c n rows margins = record {
   kept = λ _. (refl, refl);
 }
 
--- ---- the ways of `list_closed`
-pub sized_closed : {answer : CheckAnswer} {number : ℕ → Float} {n words : ℕ} {g : Maxima} → ClosedSized answer number n words → answer ≡ Closed g → AllSized number n
-sized_closed {g = g} h e = h.sized g e
-
-pub words_closed : {answer : CheckAnswer} {number : ℕ → Float} {n words : ℕ} {g : Maxima} → ClosedSized answer number n words → answer ≡ Closed g → 8 * n ≤ words
-words_closed {g = g} h e = h.long g e
-
-module _ {answer : CheckAnswer} {dimension : ℕ → ℕ} {number : ℕ → Float} {n : ℕ} where
-  pub listed_closed : {g : Maxima} {rows rowsAfter : List ℕ} {margins marginsAfter : List Float} → answer ≡ Closed g → Margins dimension number n rowsAfter marginsAfter → ClosedListed answer dimension number n rows margins rowsAfter marginsAfter
-  listed_closed {g} e m = record { listed = λ _ _. m; kept = λ h. absurd (h g e) }
-
-  pub listed_open : {g : Maxima} {rows : List ℕ} {margins : List Float} → answer ≡ Open g → ClosedListed answer dimension number n rows margins rows margins
-  listed_open e = record { listed = λ g h. absurd (closed_not_open h e); kept = λ _. (refl, refl) }
-
-  pub listed_refused : {k : ℕ} {rows : List ℕ} {margins : List Float} → answer ≡ Refused k → ClosedListed answer dimension number n rows margins rows margins
-  listed_refused {k} e = record { listed = λ g h. absurd (closed_not_refused h k e); kept = λ _. (refl, refl) }
-
 -- ---- a check that has given each row's number: `numbers` of the rows, `gapsAfter` their measured ones
 module _ {fits : Bool} {s : Rules} (c : Closing) {answer : CheckAnswer} {named namedAfter : List ℕ} {before after : CheckMemory} {gaps gapsAfter : List Float} (h : GapsHeld fits s c answer named namedAfter before after gaps gapsAfter) where
-  closed_numbers : {g : Maxima} → answer ≡ Closed g → (i : ℕ) → i < c.table.rows → number_at gapsAfter i ≡ reach c i
+  closed_numbers : {g : Maxima} → answer ≡ going (Closed g) → (i : ℕ) → i < c.table.rows → number_at gapsAfter i ≡ reach c i
   closed_numbers e i l = rw (h.told.given ∙ ap (λ (a : CheckAnswer). gaps_by a c gaps) e) (get_d_tabulate (reach c) c.table.rows i nan l)
 
-  passed : {g : Maxima} → answer ≡ Closed g → fits ≡ true
+  passed : {g : Maxima} → answer ≡ going (Closed g) → fits ≡ true
   unfolding AllPass
   passed e = (h.checked.means.verdict.0 (closed_not_refused e)).0
 
@@ -118,7 +99,7 @@ module _ (kind : Kind) (rows bodies : ℕ) (numbers : List Float) (words : List 
       → MarginsHeld pass s c answer named namedAfter before after margin_rows margins marginRowsAfter marginsAfter
   held_on {pass = pass} q {answer} h l =
       let checked = rw q at h.checked in
-      let listed : (g : Maxima) → answer ≡ Closed g → MarginsOf c _ _ = λ g e. margins_same (λ i p. words_dimension rows bodies numbers words masses i) (closed_numbers c h e) (l.listed g e) in
+      let listed : (g : Maxima) → answer ≡ going (Closed g) → MarginsOf c _ _ = λ g e. margins_same (λ i p. words_dimension rows bodies numbers words masses i) (closed_numbers c h e) (l.listed g e) in
       record {
         checked = checked;
         told = record {

@@ -10,13 +10,12 @@ use Rattle.loops.specs.Cleared.{plus_zero}
 use Rattle.joint_refusals.specs.Tolerances.{tolerance_fits}
 use Rattle.check_range.specs.Closing.{Closing}
 use Rattle.check_measure.specs.Verdict.{reach}
-use Rattle.check_answer.specs.Answer.{CheckMeaning}
-use Rattle.check_answer.specs.declared.CheckAnswer.{CheckAnswer}
-use Rattle.check_answer.specs.declared.CheckAnswer.TheVariants.{Refused}
+use Rattle.check_answer.specs.Answer.{CheckMeaning, CheckAnswer}
 use Rattle.margins_list.specs.Margins.{Sized, AllSized}
 use Rattle.margins_list.proofs.Fractions.{nought_is}
+use Rattle.loops.specs.Run.{ended}
 
-pub all_sized : {fits : Bool} {c : Closing} {answer : CheckAnswer} → CheckMeaning fits c answer → ((n : ℕ) → answer ≡ Refused n → ⊥) → AllSized (reach c) c.table.rows
+pub all_sized : {fits : Bool} {c : Closing} {answer : CheckAnswer} → CheckMeaning fits c answer → ((n : ℕ) → answer ≡ ended n → ⊥) → AllSized (reach c) c.table.rows
 all_sized m v = record { sized = m.reaches v }
 
 -- the same numbers in lent memory
@@ -45,7 +44,7 @@ below_sized x y t h l = (go x y t (subst (λ (z : Float). le z x ≡ true) nough
     go (fin s m e) y t h l = tt
 
 -- ---- what is judged of tolerances lets row i's number pass, and any from 0 but below it
-module _ {fits : Bool} {c : Closing} {answer : CheckAnswer} (m : CheckMeaning fits c answer) (v : (n : ℕ) → answer ≡ Refused n → ⊥) (i : ℕ) (l : i < c.table.rows) where
+module _ {fits : Bool} {c : Closing} {answer : CheckAnswer} (m : CheckMeaning fits c answer) (v : (n : ℕ) → answer ≡ ended n → ⊥) (i : ℕ) (l : i < c.table.rows) where
   pub number_fits : tolerance_fits (reach c i) ≡ true
   number_fits = sized_fits (reach c i) (m.reaches v i l)
 

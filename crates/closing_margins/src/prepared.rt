@@ -1,5 +1,6 @@
 // The check of either kind that lists its margins, over lent tables, a lent list of multipliers and what is lent beside them.
 ghost use Rattle.std.specs.Prelude.{◌≡◌, true, ◌&&◌, ◌≤◌, length};
+ghost use Rattle.refusals.specs.Told.{told};
 ghost use Rattle.rules.specs.Rows.{rules_in};
 ghost use Rattle.check_refusals.specs.Refusals.{passes3, table_lengths};
 ghost use Rattle.check_work.specs.Work.{memory_of, work_lengths};
@@ -7,9 +8,10 @@ ghost use Rattle.closing_check.specs.Beside.{closing_in};
 ghost use Rattle.closing_margins.specs.Held.{margins_lent, MarginsHeld};
 
 use crate::closed::{list_closed, lists_fit};
-use check_answer::CheckAnswer;
+use check_answer::Verdict;
 use closing_gaps::gaps_prepared;
 use kapitsa_joint::Kind;
+use refusals::Refusal;
 
 // Each row's number first, in memory of the caller's, and of a closed check its list.
 fn margins_with(
@@ -31,11 +33,11 @@ fn margins_with(
     size_impulses: &mut [f64],
     values: &mut [f64],
     sizes: &mut [f64],
-) -> CheckAnswer
+) -> Result<Verdict, Refusal>
     requires { (rows ≤ 512) × (margins_lent rows (length margin_rows.old) (length margins.old) ≡ true) × (length gaps.old ≡ rows) }
     ensures { MarginsHeld (margins_lent rows (length margin_rows.old) (length margins.old) && passes3 kind rows bodies (table_lengths numbers.now words.now masses.now beside.now multipliers.now rule_words.now rule_tolerances.now rule_numbers.old) (work_lengths (memory_of impulses.old size_impulses.old values.old sizes.old)))
         (rules_in rule_words.now rule_tolerances.now)
-        (closing_in kind rows bodies numbers.now words.now masses.now beside.now multipliers.now (rules_in rule_words.now rule_tolerances.now)) result rule_numbers.old rule_numbers.new
+        (closing_in kind rows bodies numbers.now words.now masses.now beside.now multipliers.now (rules_in rule_words.now rule_tolerances.now)) (told result) rule_numbers.old rule_numbers.new
         (memory_of impulses.old size_impulses.old values.old sizes.old)
         (memory_of impulses.new size_impulses.new values.new sizes.new)
         margin_rows.old margins.old margin_rows.new margins.new }
@@ -81,16 +83,16 @@ pub fn margins_prepared(
     size_impulses: &mut [f64],
     values: &mut [f64],
     sizes: &mut [f64],
-) -> CheckAnswer
+) -> Result<Verdict, Refusal>
     ensures { MarginsHeld (margins_lent rows (length margin_rows.old) (length margins.old) && passes3 kind rows bodies (table_lengths numbers.now words.now masses.now beside.now multipliers.now rule_words.now rule_tolerances.now rule_numbers.old) (work_lengths (memory_of impulses.old size_impulses.old values.old sizes.old)))
         (rules_in rule_words.now rule_tolerances.now)
-        (closing_in kind rows bodies numbers.now words.now masses.now beside.now multipliers.now (rules_in rule_words.now rule_tolerances.now)) result rule_numbers.old rule_numbers.new
+        (closing_in kind rows bodies numbers.now words.now masses.now beside.now multipliers.now (rules_in rule_words.now rule_tolerances.now)) (told result) rule_numbers.old rule_numbers.new
         (memory_of impulses.old size_impulses.old values.old sizes.old)
         (memory_of impulses.new size_impulses.new values.new sizes.new)
         margin_rows.old margins.old margin_rows.new margins.new }
 {
     if !(lists_fit(rows, margin_rows.len(), margins.len()) & (rows <= 512)) {
-        return CheckAnswer::Refused(3);
+        return Err(Refusal::Length);
     }
     let mut gaps: [f64; 512] = [0.0; 512];
     let n = rows as usize;

@@ -11,8 +11,7 @@ use Rattle.rules.specs.Rules.{two_rules}
 use Rattle.mass_operator.specs.Flat.{coefficients}
 use Rattle.check_range.specs.Closing.{closing_of}
 use Rattle.check_refusals.specs.Refusals.{given_fits, table_lengths}
-use Rattle.check_answer.specs.Answer.{check_of}
-use Rattle.check_answer.specs.declared.CheckAnswer.{CheckAnswer}
+use Rattle.check_answer.specs.Answer.{check_of, CheckAnswer}
 use Rattle.closing_recorded.specs.Case.{compared_of, seen_in}
 use Rattle.closing_recorded.specs.declared.tally.Seen.{Seen}
 

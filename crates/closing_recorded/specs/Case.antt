@@ -13,8 +13,7 @@ use Rattle.rules.specs.Rules.{Rules, two_rules}
 use Rattle.mass_operator.specs.Flat.{coefficients}
 use Rattle.check_range.specs.Closing.{closing_of}
 use Rattle.check_refusals.specs.Refusals.{given_fits, table_lengths}
-use Rattle.check_answer.specs.Answer.{number_of, gap_of, check_of}
-use Rattle.check_answer.specs.declared.CheckAnswer.{CheckAnswer}
+use Rattle.check_answer.specs.Answer.{number_of, gap_of, check_of, CheckAnswer}
 use Rattle.closing_recorded.specs.Tally.{malformed}
 use Rattle.closing_recorded.specs.declared.tally.Seen.{Seen}
 

@@ -31,14 +31,12 @@ pub fn tallied(rt: &HostRuntime, space: &mut [u8]) -> Tally
     requires { 8 ≤ length space.old }
 {
     let mut tally = Tally::none();
-    let mut left: u32 = 100000;
-    while 0 < left {
+    for _ in 0..100000 {
         let n = next_case(rt, space);
         if n == 0 {
             return tally;
         }
         tally = tally.with(replay(&space[..n]));
-        left -= 1;
     }
     tally
 }

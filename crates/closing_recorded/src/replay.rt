@@ -1,12 +1,14 @@
 // One case: its table read out of its bytes, the check run on it, its answer beside the recorded one.
 ghost use Rattle.std.specs.Prelude.{◌≡◌, ◌*◌, length};
+ghost use Rattle.refusals.specs.Told.{told};
 ghost use Rattle.closing_recorded.specs.Case.{well_formed, Formed, same_gap, compared_of, seen_in, seen_of};
 
 use crate::tally::Seen;
 use check_alone::checked;
-use check_answer::CheckAnswer;
+use check_answer::Verdict;
 use kapitsa_joint::Maxima;
 use little_endian::{double, read_doubles, read_halves, word};
+use refusals::Refusal;
 
 // At most one row and one body more than a check may have, and all of their words.
 fn well_formed(case: &[u8]) -> bool
@@ -33,11 +35,12 @@ fn same_gap(gap: Maxima, linear: u64, angular: u64) -> bool
     (binary64::to_bits(gap.linear) == linear) & (binary64::to_bits(gap.angular) == angular)
 }
 
-fn compared(answer: CheckAnswer, recorded: u64, linear: u64, angular: u64) -> Seen
-    ensures { result ≡ compared_of answer recorded linear angular }
+#[tactic(auto, unfolding(crate::specs::Case::compared_of))]
+fn compared(answer: Result<Verdict, Refusal>, recorded: u64, linear: u64, angular: u64) -> Seen
+    ensures { result ≡ compared_of (told answer) recorded linear angular }
 {
-    let number = answer.number();
-    let gap = answer.gap();
+    let number = check_answer::number(answer);
+    let gap = check_answer::gap(answer);
     Seen {
         answer: number,
         same: (number as u64 == recorded) & same_gap(gap, linear, angular),

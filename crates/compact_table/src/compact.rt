@@ -7,6 +7,7 @@ ghost use Rattle.compact_table.specs.Compact.{compact_of, put_jacobian_of, put_l
 use kapitsa_joint::{RowJacobian, jacobian_at};
 use kapitsa_math::{put_spread, spread_at};
 
+#[tactic(auto, unfolding(crate::specs::Compact::compact_of))]
 pub fn compact_at(jacobians: &[f64], links: &[u32], i: usize) -> RowJacobian
     requires { (12 * i + 12 ≤ length jacobians.now) × (2 * i + 2 ≤ length links.now) }
     ensures { result ≡ compact_of jacobians.now links.now i }
@@ -23,6 +24,7 @@ pub fn compact_at(jacobians: &[f64], links: &[u32], i: usize) -> RowJacobian
     }
 }
 
+#[tactic(auto, unfolding(crate::specs::Compact::put_jacobian_of))]
 fn put_jacobian(jacobians: &mut [f64], i: usize, j: RowJacobian)
     requires { 12 * i + 12 ≤ length jacobians.old }
     ensures { jacobians.new ≡ put_jacobian_of jacobians.old i j }
@@ -38,6 +40,7 @@ fn put_jacobian(jacobians: &mut [f64], i: usize, j: RowJacobian)
     put_spread(jacobians, at + 7, angular_b);
 }
 
+#[tactic(auto, unfolding(crate::specs::Compact::put_link_of))]
 fn put_link(links: &mut [u32], i: usize, j: RowJacobian)
     requires { 2 * i + 2 ≤ length links.old }
     ensures { links.new ≡ put_link_of links.old i j }
@@ -64,9 +67,7 @@ pub fn gather(numbers: &[f64], words: &[u32], rows: usize, jacobians: &mut [f64]
     ensures { Gathered (λ i. jacobian_of (row_of numbers.now words.now i)) rows
         jacobians.old links.old jacobians.new links.new }
 {
-    let mut i = 0;
-    while i < rows {
+    for i in 0..rows {
         gather_at(numbers, words, i, jacobians, links);
-        i += 1;
     }
 }

@@ -5,7 +5,7 @@
 #![tactic(auto)]
 
 use job_converter::{layout_named, write_converted};
-use program_io::{Input, read_input, write_output};
+use program_io::{read_input, write_output};
 use std::env::{Env, FillError};
 
 // 2, a layout word that is none, unless there is just one argument of three letters or fewer.
@@ -24,8 +24,7 @@ fn layout_asked(rt: &HostRuntime) -> u32 {
 fn main(rt: HostRuntime) {
     let layout = layout_asked(&rt);
     let mut file: [u8; 65537] = [0; 65537];
-    let read = read_input(&rt, b"convert", &mut file);
-    let Input::Read(length) = read else {
+    let Some(length) = read_input(&rt, b"convert", &mut file) else {
         return;
     };
     let mut text: [u8; 38448] = [0; 38448];

@@ -31,9 +31,10 @@ use Rattle.mass_operator.specs.Flat.{coefficients}
 use Rattle.position.specs.Problem.{Problem, started_problem}
 use Rattle.position.specs.Prepare.{row_judged, rows_judged}
 use Rattle.position.specs.Kinds.{start_in}
-use Rattle.position.specs.Answers.{begun_out}
-use Rattle.position.specs.declared.prepare.Begun.{Begun}
-use Rattle.position.specs.declared.prepare.Begun.TheVariants as begun
+use Rattle.std.specs.Prelude.{Result, Ok, Err}
+use Rattle.refusals.specs.Number.{number_of}
+use Rattle.refusals.specs.Told.{told}
+use Rattle.refusals.specs.declared.Refusal.{Refusal}
 use Rattle.block_factor.specs.Blocks.{one_pair}
 use Rattle.check_range.specs.Closing.{GivenFrom}
 use Rattle.check_refusals.specs.Refusals.{beside_of}
@@ -72,17 +73,17 @@ module _ (kind : Kind) (rows bodies : ℕ) (numbers : List Float) (words : List 
     unfolding row_judged
     alone_judged = one_row (take 27 (drop (27 * i) numbers)) (take 8 (drop (8 * i) words)) ∙ rw (row_alone numbers words i, e ∙ tolerance_is i, f ∙ start_is kind i)
 
-    module _ (answer : Begun) (ownNumbers : List Float) (own_words : List ℕ) (q : ownNumbers ≡ take 27 (drop (27 * i) numbers)) (r : own_words ≡ take 8 (drop (8 * i) words)) (h : rows_judged (alone ownNumbers own_words) ≡ begun_out answer) where
-      refusal_of_lem : on (row_judged p i) (λ _. 0) (λ n. n) ≡ on (begun_out answer) (λ _. 0) (λ n. n)
+    module _ (answer : Result Unit Refusal) (ownNumbers : List Float) (own_words : List ℕ) (q : ownNumbers ≡ take 27 (drop (27 * i) numbers)) (r : own_words ≡ take 8 (drop (8 * i) words)) (h : rows_judged (alone ownNumbers own_words) ≡ told answer) where
+      refusal_of_lem : on (row_judged p i) (λ _. 0) (λ n. n) ≡ on (told answer) (λ _. 0) (λ n. n)
       refusal_of_lem = ap (λ (r : Run Unit ℕ). on r (λ _. 0) (λ n. n)) (sym alone_judged ∙ rw (← q, ← r) h)
 
-      pub refusal_none : answer ≡ begun.Done → 0 ≡ on (row_judged p i) (λ _. 0) (λ n. n)
+      pub refusal_none : answer ≡ Ok tt → 0 ≡ on (row_judged p i) (λ _. 0) (λ n. n)
       unfolding on
       refusal_none d = sym (refusal_of_lem ∙ rw d)
 
-      pub refusal_told : {n : ℕ} → answer ≡ begun.Refused n → n ≡ on (row_judged p i) (λ _. 0) (λ n. n)
+      pub refusal_told : {n : ℕ} (e : Refusal) → answer ≡ Err e → n ≡ number_of e → n ≡ on (row_judged p i) (λ _. 0) (λ n. n)
       unfolding on
-      refusal_told d = sym (refusal_of_lem ∙ rw d)
+      refusal_told e d q = q ∙ sym (refusal_of_lem ∙ rw d)
 
   -- ---- number by number
   opens_is : (i : ℕ) (kind : Kind) → by_kind kind (opens_of (scalars_of numbers (27 * i + 15)) (words_of words (8 * i))) (velocity_opens_of (scalars_of numbers (27 * i + 15)) (words_of words (8 * i))) ≡ (given_in kind rows bodies numbers words masses beside s).opens i

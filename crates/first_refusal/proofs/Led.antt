@@ -38,7 +38,7 @@ module _ {p : ℕ → Bool} {n : ℕ} where
   pub led_stop : {i : ℕ} {b : Bool} → Led p n i → i < n → b ≡ p i → not b ≡ true → i ≡ leading p n
   led_stop {i} {b} h l e t = sym (le_ind (λ m. leading p m ≡ i) (stop_one p i h.all (sym e ∙ not-true b t)) (λ m q r. stopped p i m q r) n l)
 
-  pub led_end : {i : ℕ} → Led p n i → n ≤ i → i ≡ leading p n
+  pub led_end : {i : ℕ} → Led p n i → n ≤ i → n ≡ leading p n
   led_end {i} h l = let e : n ≡ i = omega arith in rw e (sym h.all)
 
 pub ruleset led = (led_none, led_more, led_stop, led_end, loops)

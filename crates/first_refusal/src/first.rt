@@ -41,8 +41,7 @@ fn first_failing(
     requires count_value { count ≡ count_of kind rows bodies numbers.now words.now masses.now beside.now (rules_in rule_words.now rule_tolerances.now) number }
     ensures { result ≡ leading (passes_at kind rows bodies numbers.now words.now masses.now beside.now (rules_in rule_words.now rule_tolerances.now) number) count }
 {
-    let mut i = 0;
-    while i < count {
+    for i in 0..count {
         if !passes_at(
             kind,
             number,
@@ -58,9 +57,8 @@ fn first_failing(
         ) {
             return i;
         }
-        i += 1;
     }
-    i
+    count
 }
 
 // The first that fails, named.

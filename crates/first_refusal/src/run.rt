@@ -11,14 +11,12 @@ fn run_length(words: &[u32], rows: usize, start: usize) -> usize
 {
     let owner = words[8 * start + 6];
     let left = rows - start;
-    let mut k = 0;
-    while k < left {
+    for k in 0..left {
         if words[8 * (start + k) + 6] != owner {
             return k;
         }
-        k += 1;
     }
-    k
+    left
 }
 
 // Whether `len` rows from `start` on have its bodies.
@@ -28,15 +26,10 @@ fn one_pair(words: &[u32], start: usize, len: usize) -> bool
 {
     let a = words[8 * start + 2];
     let b = words[8 * start + 3];
-    let mut k = 0;
-    while k < len {
+    (0..len).all(|k| {
         let row = 8 * (start + k);
-        if !((words[row + 2] == a) & (words[row + 3] == b)) {
-            return false;
-        }
-        k += 1;
-    }
-    true
+        (words[row + 2] == a) & (words[row + 3] == b)
+    })
 }
 
 fn run_begins(words: &[u32], i: usize) -> bool

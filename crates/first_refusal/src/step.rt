@@ -8,7 +8,7 @@ ghost use Rattle.check_range.specs.Closing.{GivenFrom};
 ghost use Rattle.first_refusal.specs.Place.{given_in};
 
 use kapitsa_joint::Kind;
-use position::{Begun, begin};
+use position::begin;
 use rules::one_rule;
 
 // The tolerance of row i's rule; a NaN where it has none, which no residual exceeds.
@@ -67,7 +67,7 @@ pub fn row_refusal(
         &mut residual,
     );
     match begun {
-        Begun::Done => 0,
-        Begun::Refused(number) => number,
+        Ok(()) => 0,
+        Err(refusal) => refusal.number(),
     }
 }

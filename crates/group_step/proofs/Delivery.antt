@@ -8,10 +8,9 @@ use Rattle.kapitsa_joint.specs.Kind.{placed_of}
 use Rattle.kapitsa_joint.specs.declared.kind.Kind.{Kind}
 use Rattle.kapitsa_joint.specs.declared.kind.Kind.TheVariants as kinds
 use Rattle.position_delivery.specs.Outcome.{Lent}
-use Rattle.position_delivery.specs.declared.answer.PositionPcg.{PositionPcg}
-use Rattle.position_delivery.specs.declared.answer.PositionPcg.TheVariants as answers
 use Rattle.position_delivery.specs.declared.answer.PositionPcgResult.{PositionPcgResult}
 use Rattle.group_table.specs.Pick.{Put, Marked}
+use Rattle.loops.specs.Run.{Run, going, ended}
 use Rattle.group_step.specs.Step.{RowsPut, BodiesPut, OtherRows, OtherBodies, Delivered, TableKept}
 
 pub placed_few : (kind : Kind) (bodies : ℕ) → placed_of kind bodies ≤ bodies
@@ -30,7 +29,7 @@ module _ (kind : Kind) (bodies n : ℕ) (groups marks : List ℕ) (g : ℕ) (own
   bodies_there : BodiesPut marks (g + 1) bodies (placed_of kind bodies) ownImpulses ownCentres before.impulses before.centres after.impulses after.centres
   bodies_there = rw ep at q₀
 
-  pub accepted_there : (answer : PositionPcg) (r : PositionPcgResult) → answer ≡ answers.Accepted r → Delivered kind bodies n groups marks g answer (record { numbers = ownNumbers; solution = ownSolution; impulses = ownImpulses; centres = ownCentres }) named before after rules₀ rules
+  pub accepted_there : (answer : Run PositionPcgResult ℕ) (r : PositionPcgResult) → answer ≡ going r → Delivered kind bodies n groups marks g answer (record { numbers = ownNumbers; solution = ownSolution; impulses = ownImpulses; centres = ownCentres }) named before after rules₀ rules
   accepted_there answer r e = rw e (record {
     numbers_are = p.numbers_put.here;
     solution_are = p.solution_put.here;
@@ -48,7 +47,7 @@ module _ (kind : Kind) (bodies n : ℕ) (groups marks : List ℕ) (g : ℕ) (own
     centres_else = other_bodies bodies_there.centres_put_lem;
   }
 
-pub refused_there : (kind : Kind) (bodies n : ℕ) (groups marks : List ℕ) (g : ℕ) (answer : PositionPcg) (own : Lent) (named : List ℕ) (before : Lent) (rules₀ : List ℕ) (number : ℕ) → answer ≡ answers.Refused number → Delivered kind bodies n groups marks g answer own named before before rules₀ rules₀
+pub refused_there : (kind : Kind) (bodies n : ℕ) (groups marks : List ℕ) (g : ℕ) (answer : Run PositionPcgResult ℕ) (own : Lent) (named : List ℕ) (before : Lent) (rules₀ : List ℕ) (number : ℕ) → answer ≡ ended number → Delivered kind bodies n groups marks g answer own named before before rules₀ rules₀
 refused_there kind bodies n groups marks g answer own named before rules₀ number e = rw e (record { numbers_are = refl; solution_are = refl; rules_are = refl; impulses_are = λ body c l m q. refl; centres_are = λ body c l m q. refl })
 
 pub refused_else : (kind : Kind) (bodies n : ℕ) (groups marks : List ℕ) (g : ℕ) (before : Lent) (rules₀ : List ℕ) → TableKept kind bodies n groups marks g before before rules₀ rules₀

@@ -19,12 +19,13 @@ use Rattle.position.specs.Kinds.{GivenRoom}
 use Rattle.position.specs.Problem.{Problem}
 use Rattle.solve_method.specs.Position.{solve_for}
 use Rattle.position_delivery.specs.Outcome.{Lent}
-use Rattle.position_delivery.specs.declared.answer.PositionPcg.{PositionPcg}
 use Rattle.own_memory.specs.Job.{job_fits, JobSolved}
 use Rattle.group_table.specs.Pick.{pick_rows}
 use Rattle.group_table.proofs.Picks.{pick_long}
 use Rattle.group_step.specs.Bench.{bench_of}
 use Rattle.group_step.specs.Group.{SolvedAlone}
+use Rattle.loops.specs.Run.{Run}
+use Rattle.position_delivery.specs.declared.answer.PositionPcgResult.{PositionPcgResult}
 use Rattle.group_step.specs.Step.{GivenPicked, GroupPicked, BenchRoom, OwnRoom}
 
 -- ---- `pick_given`
@@ -61,7 +62,7 @@ same_given kinds.Velocity k bodies numbers words masses centres x y rules shift 
 
 module _ (kind : Kind) (n bodies : ℕ) (words : List ℕ) (masses centres given : List Float) (rules : Rules) (limit mode : ℕ) (shift : Float) (numbers : List Float) (rows : List ℕ) (k : ℕ) (e : k ≡ length rows)
     {ownNumbers : List Float} {own_words : List ℕ} {given₀ ownGiven : List Float} (p : GroupPicked kind rows numbers words given ownNumbers own_words given₀ ownGiven) where
-  pub own_solved : {fits : Bool} {solution impulses newCentres : List Float} {after : Lent} {named namedAfter : List ℕ} {answer : PositionPcg} → fits ≡ true
+  pub own_solved : {fits : Bool} {solution impulses newCentres : List Float} {after : Lent} {named namedAfter : List ℕ} {answer : Run PositionPcgResult ℕ} → fits ≡ true
       → JobSolved fits rules (solve_for kind k bodies ownNumbers own_words masses centres ownGiven rules shift) (mode_of mode shift) limit (place_of kind) k (record { numbers = ownNumbers; solution = solution; impulses = impulses; centres = newCentres }) after named namedAfter answer
       → SolvedAlone (bench_of kind n bodies words masses centres given rules limit mode shift) numbers rows (record { numbers = pick_rows nan 27 rows numbers; solution = solution; impulses = impulses; centres = newCentres }) after named namedAfter answer
   own_solved {solution = solution} {impulses} {newCentres} {after} {named} {namedAfter} {answer} f j =

@@ -11,17 +11,17 @@ use Rattle.kapitsa_joint.specs.declared.kind.Kind.{Kind}
 use Rattle.preconditioner.specs.Mode.{mode_of}
 use Rattle.solve_method.specs.Position.{solve_for}
 use Rattle.position_delivery.specs.Outcome.{Lent}
-use Rattle.position_delivery.specs.declared.answer.PositionPcg.{PositionPcg}
-use Rattle.position_delivery.specs.declared.answer.PositionPcg.TheVariants as answers
 use Rattle.own_memory.specs.Job.{JobSolved}
 use Rattle.group_table.specs.Pick.{rows_of, pick_rows}
 use Rattle.group_step.specs.Bench.{Bench, Lending}
 use Rattle.group_step.specs.Group.{chosen, linear_of, angular_of, SolvedAlone, GroupSolved}
 use Rattle.group_step.specs.Step.{Delivered, TableKept, TableRoom, TellsGroup, GroupStep}
+use Rattle.loops.specs.Run.{Run, going, ended}
+use Rattle.position_delivery.specs.declared.answer.PositionPcgResult.{PositionPcgResult}
 use Rattle.group_step.proofs.Relent.{relend, kept_numbers_lem, kept_solution, kept_impulses, kept_centres, kept_named, job_same}
 
 -- ---- `solve_group`: what its three calls promise comes to a step
-module _ (b : Bench) (marks : List ℕ) (g : ℕ) (before after : Lending) (rows : List ℕ) (er : rows ≡ rows_of before.groups g b.rows) {solution₀ impulses₀ centres₀ : List Float} {own : Lent} {named₀ named : List ℕ} {answer : PositionPcg} where
+module _ (b : Bench) (marks : List ℕ) (g : ℕ) (before after : Lending) (rows : List ℕ) (er : rows ≡ rows_of before.groups g b.rows) {solution₀ impulses₀ centres₀ : List Float} {own : Lent} {named₀ named : List ℕ} {answer : Run PositionPcgResult ℕ} where
   pub group_step : SolvedAlone b before.table.numbers rows (record { numbers = pick_rows nan 27 rows before.table.numbers; solution = solution₀; impulses = impulses₀; centres = centres₀ }) own named₀ named answer
       → Delivered b.kind b.bodies b.rows before.groups marks g answer own named before.table after.table before.rules after.rules
       → TableKept b.kind b.bodies b.rows before.groups marks g before.table after.table before.rules after.rules
@@ -47,9 +47,9 @@ module _ (b : Bench) (marks : List ℕ) (g : ℕ) (before after : Lending) (rows
 abbrev pub AgreeOn : (ℕ → Type 0) → ℕ → ℕ → List Float → List Float → Type 0
 AgreeOn mine width n x y = (body c : ℕ) → body < n → c < width → mine body → get_or x (width * body + c) nan ≡ get_or y (width * body + c) nan
 
-chosen_same : (answer : PositionPcg) (x y z : List Float) (p : ℕ) → get_or y p nan ≡ get_or z p nan → get_or (chosen answer x y) p nan ≡ get_or (chosen answer x z) p nan
-chosen_same (answers.Accepted r) x y z p e = refl
-chosen_same (answers.Refused number) x y z p e = e
+chosen_same : (answer : Run PositionPcgResult ℕ) (x y z : List Float) (p : ℕ) → get_or y p nan ≡ get_or z p nan → get_or (chosen answer x y) p nan ≡ get_or (chosen answer x z) p nan
+chosen_same (going r) x y z p e = refl
+chosen_same (ended number) x y z p e = e
 
 -- what was lent before it was solved
 module _ (mine : ℕ → Type 0) (b : Bench) (g : ℕ) (rows : List ℕ) {before now after : Lending} where
@@ -72,7 +72,7 @@ module _ (mine : ℕ → Type 0) (b : Bench) (g : ℕ) (rows : List ℕ) {before
         centres_put = λ body c l m q. h.centres_put body c l m q ∙ ap (λ x. get_or x (3 * body + c) nan) (sym (kept_centres j)) ∙ chosen_same h.answer h.centres now.table.centres before.table.centres (3 * body + c) (ec body c l m q);
       }
     where
-      again : (x y : List Float) → x ≡ y → {solution impulses centres : List Float} {left : Lent} {named namedAfter : List ℕ} {answer : PositionPcg}
+      again : (x y : List Float) → x ≡ y → {solution impulses centres : List Float} {left : Lent} {named namedAfter : List ℕ} {answer : Run PositionPcgResult ℕ}
           → JobSolved true b.rules (solve_for b.kind (length rows) b.bodies x (pick_rows 0 8 rows b.words) b.masses b.centres (pick_rows nan 1 rows b.given) b.rules b.shift) (mode_of b.mode b.shift) b.limit (place_of b.kind) (length rows) (record { numbers = x; solution = solution; impulses = impulses; centres = centres }) left named namedAfter answer
           → JobSolved true b.rules (solve_for b.kind (length rows) b.bodies y (pick_rows 0 8 rows b.words) b.masses b.centres (pick_rows nan 1 rows b.given) b.rules b.shift) (mode_of b.mode b.shift) b.limit (place_of b.kind) (length rows) (record { numbers = y; solution = solution; impulses = impulses; centres = centres }) left named namedAfter answer
       again x y e j = rw e at j

@@ -7,9 +7,8 @@ use native.Mathlib.Omega.{arith}
 use lib.ListN.{length, get_or, set, length-set}
 use lib.Seq.{get_or-set_same, get_or-set_other}
 use lib.Ieee.{Float, nan}
-use Rattle.position_delivery.specs.declared.answer.PositionPcg.{PositionPcg}
-use Rattle.position_delivery.specs.declared.answer.PositionPcg.TheVariants as answers
 use Rattle.position_delivery.specs.declared.answer.PositionPcgResult.{PositionPcgResult}
+use Rattle.loops.specs.Run.{Run, going, ended}
 use Rattle.group_step.specs.Step.{WordsPut, MaximaPut, OtherGroups, TellsGroup}
 
 -- two and three places, one behind the other
@@ -60,7 +59,7 @@ pub flag_off : (flag : Bool) → flag ≡ false → ◌≡◌ {A = ℕ} 0 (cond 
 flag_off flag e = rw e
 
 -- ---- the two ways of `tell_group`
-pub tell_accepted : {answer : PositionPcg} (r : PositionPcgResult) (g at flag : ℕ) {w₀ w : List ℕ} {m₀ m : List Float} → answer ≡ answers.Accepted r → at ≡ g → flag ≡ cond r.converged 1 0 → WordsPut (3 * at) 0 r.iterations flag w₀ w → MaximaPut (2 * at) r.linear_residual_m r.angular_residual_rad m₀ m
+pub tell_accepted : {answer : Run PositionPcgResult ℕ} (r : PositionPcgResult) (g at flag : ℕ) {w₀ w : List ℕ} {m₀ m : List Float} → answer ≡ going r → at ≡ g → flag ≡ cond r.converged 1 0 → WordsPut (3 * at) 0 r.iterations flag w₀ w → MaximaPut (2 * at) r.linear_residual_m r.angular_residual_rad m₀ m
     → TellsGroup g answer w₀ w m₀ m
 tell_accepted r g at flag e q f h k = rw (e, ← q) (record {
   told = record { refusal = h.first; count = h.second; flag = h.third ∙ f; linear = k.first; angular = k.second };
@@ -68,7 +67,7 @@ tell_accepted r g at flag e q f h k = rw (e, ← q) (record {
   maxima_else = record { below = k.below; above = k.above };
 })
 
-pub tell_refused : {answer : PositionPcg} (number g at : ℕ) {w₀ w : List ℕ} (m : List Float) → answer ≡ answers.Refused number → at ≡ g → WordsPut (3 * at) number 0 0 w₀ w → TellsGroup g answer w₀ w m m
+pub tell_refused : {answer : Run PositionPcgResult ℕ} (number g at : ℕ) {w₀ w : List ℕ} (m : List Float) → answer ≡ ended number → at ≡ g → WordsPut (3 * at) number 0 0 w₀ w → TellsGroup g answer w₀ w m m
 tell_refused number g at m e q h = rw (e, ← q) (record {
   told = record { refusal = h.first; count = h.second; flag = h.third; linear = refl; angular = refl };
   words_else = words_else h;

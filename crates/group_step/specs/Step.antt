@@ -7,9 +7,10 @@ use Rattle.kapitsa_joint.specs.declared.kind.Kind.TheVariants as kinds
 use Rattle.rules.specs.Rules.{rule_lengths_fit}
 use Rattle.position.specs.Kinds.{GivenRoom}
 use Rattle.position_delivery.specs.Outcome.{Lent}
-use Rattle.position_delivery.specs.declared.answer.PositionPcg.{PositionPcg}
 use Rattle.group_table.specs.Pick.{rows_of, pick_rows, Put, Marked}
 use Rattle.group_step.specs.Bench.{Bench, Lending}
+use Rattle.loops.specs.Run.{Run}
+use Rattle.position_delivery.specs.declared.answer.PositionPcgResult.{PositionPcgResult}
 use Rattle.group_step.specs.Group.{chosen, Told, GroupSolved}
 
 -- ---- the rows, picked
@@ -43,7 +44,7 @@ pub record OtherBodies (width : ℕ) (marks : List ℕ) (mark n : ℕ) (before a
   pub same : (body c : ℕ) → body < n → c < width → (get_or marks body 0 ≡ mark → ⊥) → get_or after (width * body + c) nan ≡ get_or before (width * body + c) nan
 
 -- what an accepted group delivers is in the table, at its rows and at the bodies that bear its mark; of a refused one all is as it was
-pub record Delivered (kind : Kind) (bodies n : ℕ) (groups marks : List ℕ) (g : ℕ) (answer : PositionPcg) (own : Lent) (named : List ℕ) (before after : Lent) (rules₀ rules : List ℕ) : Type 0 where
+pub record Delivered (kind : Kind) (bodies n : ℕ) (groups marks : List ℕ) (g : ℕ) (answer : Run PositionPcgResult ℕ) (own : Lent) (named : List ℕ) (before after : Lent) (rules₀ rules : List ℕ) : Type 0 where
   pub numbers_are : pick_rows nan 27 (rows_of groups g n) after.numbers ≡ chosen answer own.numbers (pick_rows nan 27 (rows_of groups g n) before.numbers)
   pub solution_are : pick_rows nan 1 (rows_of groups g n) after.solution ≡ chosen answer own.solution (pick_rows nan 1 (rows_of groups g n) before.solution)
   pub rules_are : pick_rows 0 1 (rows_of groups g n) rules ≡ chosen answer named (pick_rows 0 1 (rows_of groups g n) rules₀)
@@ -78,7 +79,7 @@ pub record OtherGroups {X : Type 0} (d : X) (width g : ℕ) (before after : List
   pub below : (k : ℕ) → k < width * g → get_or after k d ≡ get_or before k d
   pub above : (k : ℕ) → width * g + width ≤ k → get_or after k d ≡ get_or before k d
 
-pub record TellsGroup (g : ℕ) (answer : PositionPcg) (words₀ words : List ℕ) (maxima₀ maxima : List Float) : Type 0 where
+pub record TellsGroup (g : ℕ) (answer : Run PositionPcgResult ℕ) (words₀ words : List ℕ) (maxima₀ maxima : List Float) : Type 0 where
   pub told : Told g answer words maxima₀ maxima
   pub words_else : OtherGroups 0 3 g words₀ words
   pub maxima_else : OtherGroups nan 2 g maxima₀ maxima

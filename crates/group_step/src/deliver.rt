@@ -1,14 +1,16 @@
 // What an accepted group delivers, into the whole table: its rows' numbers, solution and rules, and the impulses and new centres of its bodies.
 ghost use Rattle.std.specs.Prelude.{◌≡◌, ◌+◌, ◌*◌, ◌<◌, ◌≤◌, length};
+ghost use Rattle.refusals.specs.Told.{told};
 ghost use Rattle.group_table.specs.Pick.{rows_of};
 ghost use Rattle.group_step.specs.Step.{RowsPut, BodiesPut, TableRoom, Delivered, TableKept};
 
-use group_table::{copy_marked, put_numbers, put_words};
+use group_table::{copy_marked, put_rows};
 use kapitsa_joint::{Kind, placed_of};
-use position_delivery::PositionPcg;
+use position_delivery::PositionPcgResult;
+use refusals::Refusal;
 
 // The rows.
-fn put_rows(
+fn put_group(
     groups: &[u32],
     g: u32,
     rows: usize,
@@ -23,9 +25,9 @@ fn put_rows(
     requires own_numbers_len { (length own_numbers.now ≡ 27 * length (rows_of groups.now g rows)) × (length own_solution.now ≡ length (rows_of groups.now g rows)) × (length own_rules.now ≡ length (rows_of groups.now g rows)) }
     ensures { RowsPut groups.now g rows own_numbers.now own_solution.now own_rules.now numbers.old solution.old rule_numbers.old numbers.new solution.new rule_numbers.new }
 {
-    put_numbers(groups, g, rows, 27, own_numbers, numbers);
-    put_numbers(groups, g, rows, 1, own_solution, solution);
-    put_words(groups, g, rows, 1, own_rules, rule_numbers);
+    put_rows(groups, g, rows, 27, own_numbers, numbers);
+    put_rows(groups, g, rows, 1, own_solution, solution);
+    put_rows(groups, g, rows, 1, own_rules, rule_numbers);
 }
 
 // The bodies that bear the group's mark; `placed` of them have centres.
@@ -49,7 +51,7 @@ pub fn put_bodies(
 
 // Where the group is accepted; nothing is written of a refused one.
 pub fn deliver_group(
-    answer: PositionPcg,
+    answer: Result<PositionPcgResult, Refusal>,
     kind: Kind,
     groups: &[u32],
     marks: &[u32],
@@ -70,7 +72,7 @@ pub fn deliver_group(
     requires rows_in_bounds { (rows ≤ length groups.now) × (bodies ≤ length marks.now) × (g + 1 < 4294967296) }
     requires table_room { TableRoom kind (length (rows_of groups.now g rows)) bodies own_numbers.now own_solution.now own_impulses.now own_centres.now own_rules.now }
     requires table_room_2 { TableRoom kind rows bodies numbers.old solution.old impulses.old new_centres.old rule_numbers.old }
-    ensures delivered { Delivered kind bodies rows groups.now marks.now g answer
+    ensures delivered { Delivered kind bodies rows groups.now marks.now g (told answer)
         record { numbers = own_numbers.now; solution = own_solution.now; impulses = own_impulses.now; centres = own_centres.now } own_rules.now
         record { numbers = numbers.entry.now; solution = solution.old; impulses = impulses.old; centres = new_centres.old }
         record { numbers = numbers.exit.now; solution = solution.new; impulses = impulses.new; centres = new_centres.new }
@@ -81,9 +83,9 @@ pub fn deliver_group(
         rule_numbers.old rule_numbers.new }
 {
     match answer {
-        PositionPcg::Accepted(result) => {
+        Ok(_) => {
             let placed = placed_of(kind, bodies);
-            put_rows(
+            put_group(
                 groups,
                 g,
                 rows as usize,
@@ -105,6 +107,6 @@ pub fn deliver_group(
                 new_centres,
             );
         }
-        PositionPcg::Refused(number) => {}
+        Err(_) => {}
     }
 }

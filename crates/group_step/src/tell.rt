@@ -1,8 +1,10 @@
 // What is told of a group: three words, its refusal or 0, its count and its flag; and of an accepted one two numbers, its residual maxima.
 ghost use Rattle.std.specs.Prelude.{◌≡◌, cond, ◌+◌, ◌*◌, ◌≤◌, length};
+ghost use Rattle.refusals.specs.Told.{told};
 ghost use Rattle.group_step.specs.Step.{WordsPut, MaximaPut, TellsGroup};
 
-use position_delivery::PositionPcg;
+use position_delivery::PositionPcgResult;
+use refusals::Refusal;
 
 fn flag_word(flag: bool) -> u32
     ensures { result ≡ cond flag 1 0 }
@@ -30,13 +32,18 @@ fn tell_maxima(at: usize, linear: f64, angular: f64, maxima: &mut [f64])
     maxima[at + 1] = angular;
 }
 
-pub fn tell_group(answer: PositionPcg, g: u32, group_answers: &mut [u32], group_maxima: &mut [f64])
+pub fn tell_group(
+    answer: Result<PositionPcgResult, Refusal>,
+    g: u32,
+    group_answers: &mut [u32],
+    group_maxima: &mut [f64],
+)
     requires { (3 * g + 3 ≤ length group_answers.old) × (2 * g + 2 ≤ length group_maxima.old) }
-    ensures { TellsGroup g answer group_answers.old group_answers.new group_maxima.old group_maxima.new }
+    ensures { TellsGroup g (told answer) group_answers.old group_answers.new group_maxima.old group_maxima.new }
 {
     let at = g as usize;
     match answer {
-        PositionPcg::Accepted(r) => {
+        Ok(r) => {
             let flag = flag_word(r.converged);
             tell_words(3 * at, 0, r.iterations, flag, group_answers);
             tell_maxima(
@@ -46,8 +53,8 @@ pub fn tell_group(answer: PositionPcg, g: u32, group_answers: &mut [u32], group_
                 group_maxima,
             );
         }
-        PositionPcg::Refused(number) => {
-            tell_words(3 * at, number, 0, 0, group_answers);
+        Err(refusal) => {
+            tell_words(3 * at, refusal.number(), 0, 0, group_answers);
         }
     }
 }

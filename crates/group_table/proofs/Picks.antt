@@ -5,9 +5,7 @@ use mathlib.Core.List.{List, [], ◌∷◌, ◌++◌}
 use native.Mathlib.Omega.{arith}
 use native.Mathlib.Nat.{mul-le-mul_left, mul-suc, zero-mul, div-add-mod, mod-lt}
 use native.Mathlib.Decide.{ℕ_discrete, dec_lt}
-use borrow.Author.Count.{below_none, below_more}
-use lib.ListN.{length, get_or, set, length-set}
-use lib.Seq.{get_or-set_same, get_or-set_other}
+use lib.ListN.{length, get_or}
 use Rattle.loops.proofs.Loop.{loops}
 use Rattle.loops.proofs.Tabulate.{length_tabulate, tabulated, tabulate_same}
 use Rattle.group_table.specs.Pick.{rows_of, pick_rows, Put, Marked}
@@ -20,33 +18,6 @@ row_before w i n h = omega (arith, mul-le-mul_left w h, mul-suc w i)
 
 pub row_fits : (w i n m : ℕ) → i < n → w * n ≤ m → w * i + w ≤ m
 row_fits w i n m h l = omega (arith, row_before w i n h)
-
--- ---- a block
-pub record Copying {X : Type 0} (d : X) (width at put c : ℕ) (from to₀ to : List X) : Type 0 where
-  pub within : c ≤ width
-  pub room : put + width ≤ length to₀
-  pub copied : BlockCopied d c at put from to₀ to
-
-module _ {X : Type 0} {d : X} {width at put : ℕ} {from to₀ : List X} where
-  pub copying_none : put + width ≤ length to₀ → Copying d width at put 0 from to₀ to₀
-  copying_none h = record { within = omega arith; room = h; copied = record { long = refl; here = below_none _; before = λ p l. refl; behind = λ p l. refl } }
-
-  pub copying_more : {c : ℕ} {to : List X} → Copying d width at put c from to₀ to → c < width → Copying d width at put (c + 1) from to₀ (set to (put + c) (get_or from (at + c) d))
-  copying_more {c} {to} h l =
-      let f = h.copied in
-      record {
-        within = omega arith;
-        room = h.room;
-        copied = record {
-          long = length-set to (put + c) _ ∙ f.long;
-          here = below_more _ _ (λ k b. get_or-set_other to (put + c) (put + k) _ d (λ q. omega arith) ∙ f.here k b) (get_or-set_same to (put + c) _ d (omega (arith, f.long, h.room)));
-          before = λ p b. get_or-set_other to (put + c) p _ d (λ q. omega arith) ∙ f.before p b;
-          behind = λ p b. get_or-set_other to (put + c) p _ d (λ q. omega arith) ∙ f.behind p (omega arith);
-        };
-      }
-
-  pub copying_end : {c : ℕ} {to : List X} → Copying d width at put c from to₀ to → width ≤ c → BlockCopied d width at put from to₀ to
-  copying_end {c} h l = let e : c ≡ width = omega (arith, h.within) in rw e at h.copied
 
 -- ---- picking
 module _ {X : Type 0} {d : X} {width : ℕ} {groups : List ℕ} {g : ℕ} {from : List X} where
@@ -224,19 +195,12 @@ module _ {groups : List ℕ} {g : ℕ} where
   counting_end {n} {i} {k} h l = let e : i ≡ n = omega (arith, h.within) in h.count ∙ ap (λ j. length (rows_of groups g j)) e
 
 -- ---- rows that bear a mark
-pub record MarkedBelow {X : Type 0} (d : X) (width : ℕ) (marks : List ℕ) (mark n i : ℕ) (from to₀ to : List X) : Type 0 where
-  pub within : i ≤ n
-  pub marked : Marked d width marks mark i from to₀ to
-
 module _ {X : Type 0} {d : X} {width : ℕ} {marks : List ℕ} {mark : ℕ} {from : List X} where
-  pub marked_none : {n : ℕ} {to₀ : List X} → MarkedBelow d width marks mark n 0 from to₀ to₀
-  marked_none = record { within = omega arith; marked = record { long = refl; at = λ b c l. absurd (omega arith); others = λ b c l e. refl } }
+  pub marked_none : {to₀ : List X} → Marked d width marks mark 0 from to₀ to₀
+  marked_none = record { long = refl; at = λ b c l. absurd (omega arith); others = λ b c l e. refl }
 
-  pub marked_more : {n i : ℕ} {to₀ to₁ to : List X} → MarkedBelow d width marks mark n i from to₀ to₁ → i < n → RowMarked d width marks mark i from to₁ to → MarkedBelow d width marks mark n (i + 1) from to₀ to
-  marked_more {to₀ = to₀} h l r = record { within = omega arith; marked = r.more to₀ h.marked }
-
-  pub marked_end : {n i : ℕ} {to₀ to : List X} → MarkedBelow d width marks mark n i from to₀ to → n ≤ i → Marked d width marks mark n from to₀ to
-  marked_end {n} {i} {to₀} {to} h l = let e : i ≡ n = omega (arith, h.within) in subst (λ j. Marked d width marks mark j from to₀ to) e h.marked
+  pub marked_more : {i : ℕ} {to₀ to₁ to : List X} → Marked d width marks mark i from to₀ to₁ → RowMarked d width marks mark i from to₁ to → Marked d width marks mark (i + 1) from to₀ to
+  marked_more {to₀ = to₀} h r = r.more to₀ h
 
   pub mark_other : (i : ℕ) (to : List X) → (get_or marks i 0 ≡ mark → ⊥) → RowMarked d width marks mark i from to to
   mark_other i to e = record { long = refl; more = λ to₀ h. record { long = h.long; at = λ b c l m q. at to₀ h b c l m q (dec_lt b i); others = λ b c m q. h.others b c m (λ l. q (omega arith)) } }
@@ -257,4 +221,4 @@ module _ {X : Type 0} {d : X} {width : ℕ} {marks : List ℕ} {mark : ℕ} {fro
       others to₀ h b c m q (no p) (yes s) = absurd (q (omega arith) (ap (λ x. get_or marks x 0) s ∙ e))
       others to₀ h b c m q (no p) (no s) = k.behind (width * b + c) (omega (arith, row_before width i b (omega arith))) ∙ h.others b c m (λ l. absurd (omega arith))
 
-pub ruleset picks = (copying_none, copying_more, copying_end, picking_none, picking_more, picking_list, pick_other, pick_one, scattering_none, scattering_more, scattering_put, scatter_other, scatter_one, room_pick, room_put, room_one, counting_none, counting_more, counting_end, count_one, count_other, marked_none, marked_more, marked_end, mark_other, mark_one, row_fits, loops)
+pub ruleset picks = (picking_none, picking_more, picking_list, pick_other, pick_one, scattering_none, scattering_more, scattering_put, scatter_other, scatter_one, room_pick, room_put, room_one, counting_none, counting_more, counting_end, count_one, count_other, marked_none, marked_more, mark_other, mark_one, row_fits, loops)

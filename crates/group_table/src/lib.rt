@@ -2,10 +2,10 @@
 
 #![tactic(auto)]
 
-pub mod copy; // copy.rt: blocks, and rows that bear a mark
+pub mod copy; // copy.rt: one row, and rows that bear a mark
 pub mod pick; // pick.rt: the rows of one group as a table of their own
 pub mod put; // put.rt: a table of one group's rows, back into the whole
 
 pub use copy::copy_marked;
-pub use pick::{count_rows, pick_numbers, pick_words};
-pub use put::{put_numbers, put_words};
+pub use pick::{count_rows, pick_rows};
+pub use put::put_rows;

@@ -21,11 +21,8 @@ fn relabel(labels: &mut [u32], bodies: usize, from: u32, to: u32)
     requires { bodies ≤ length labels.old }
     ensures { Front (λ b. renamed from to (get_or labels.old b 0)) bodies labels.old labels.new }
 {
-    let mut b = 0;
-    while b < bodies {
-        let label = rename(labels[b], from, to);
-        labels[b] = label;
-        b += 1;
+    for b in 0..bodies {
+        labels[b] = rename(labels[b], from, to);
     }
 }
 
@@ -59,10 +56,8 @@ fn join_rows(words: &[u32], masses: &[f64], rows: usize, bodies: usize, labels: 
     ensures labels { Labels (links_in words.now) (joins_in masses.now) rows bodies rows labels.new }
 {
     own_labels(labels, bodies);
-    let mut i = 0;
-    while i < rows {
+    for i in 0..rows {
         join_row(words, masses, bodies, labels, i);
-        i += 1;
     }
 }
 
@@ -71,10 +66,8 @@ fn own_labels(labels: &mut [u32], bodies: usize)
     requires { (bodies ≤ length labels.old) × (bodies ≤ 4294967296) }
     ensures { Front (λ b. b) bodies labels.old labels.new }
 {
-    let mut b = 0;
-    while b < bodies {
+    for b in 0..bodies {
         labels[b] = b as u32;
-        b += 1;
     }
 }
 
@@ -107,11 +100,8 @@ fn key_rows(
     requires linked { Linked (links_in words.now) rows bodies }
     ensures { Front (key_of (links_in words.now) (joins_in masses.now) bodies labels.now) rows keys.old keys.new }
 {
-    let mut i = 0;
-    while i < rows {
-        let k = key(words, masses, bodies, labels, i);
-        keys[i] = k;
-        i += 1;
+    for i in 0..rows {
+        keys[i] = key(words, masses, bodies, labels, i);
     }
 }
 
@@ -140,10 +130,8 @@ fn number_rows(groups: &mut [u32], rows: usize, table: &mut [u32]) -> u32
     ensures table_len_unchanged { length table.new ≡ length table.old }
 {
     let mut count = 0;
-    let mut i = 0;
-    while i < rows {
+    for i in 0..rows {
         count = number_row(groups, table, i, count);
-        i += 1;
     }
     count
 }

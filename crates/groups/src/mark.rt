@@ -52,9 +52,7 @@ pub fn mark_bodies(
     ensures marks_len_unchanged { length marks.new ≡ length marks.old }
     ensures marks { Marks (links_in words.now) (joins_in masses.now) rows groups.now marks.new }
 {
-    let mut i = 0;
-    while i < rows {
+    for i in 0..rows {
         mark_row(words, masses, groups, bodies, marks, i);
-        i += 1;
     }
 }

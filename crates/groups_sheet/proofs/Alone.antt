@@ -1,12 +1,12 @@
 -- The rows of one group as a job of their own: the memory for it, and its text. Assumes nothing.
-use Prim.Native.Nat.{ℕ, ◌+◌, ◌*◌, ◌<◌, ◌≤◌}
-use mathlib.Core.Path.{◌≡◌, refl, sym, ap, ◌∙◌}
-use mathlib.Core.List.{List, ◌++◌}
+use Prim.Native.Nat.{ℕ, ◌≤◌}
+use mathlib.Core.Path.{◌≡◌}
+use mathlib.Core.List.{List}
 use native.Mathlib.Omega.{arith}
 use lib.ListN.{length}
 use lib.Ieee.{Float, nan}
 use Rattle.group_table.specs.Pick.{rows_of, pick_rows}
-use Rattle.job_file.specs.Job.{Job, job_with}
+use Rattle.job_file.specs.Job.{job_with}
 use Rattle.job_file.specs.declared.trailer.Trailer.{Trailer}
 use Rattle.listing.specs.Written.{Wrote}
 use Rattle.listing.proofs.Joined.{wrote_as, wrote_join}

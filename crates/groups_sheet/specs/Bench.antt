@@ -1,6 +1,6 @@
 -- A job of several mechanisms: what is judged of its whole table, and the group of each row.
 use Rattle.std.specs.Prelude.{ℕ, ◌*◌, ◌≤◌, ◌≡◌, Bool, ◌&&◌, List, [], ◌∷◌}
-use Rattle.loops.specs.Run.{going}
+use Rattle.loops.specs.Run.{Run, ended, going}
 use Rattle.loops.specs.Judge.{judge}
 use Rattle.kapitsa_joint.specs.Table.{Table, table_of}
 use Rattle.kapitsa_joint.specs.Centre.{centres_in}
@@ -8,8 +8,6 @@ use Rattle.joint_refusals.specs.Refusals.{passes6, passes7, centres_finite}
 use Rattle.joint_refusals.specs.Tolerances.{passes26}
 use Rattle.groups.specs.Together.{links_in, joins_in, Grouped}
 use Rattle.groups_solve.specs.Judged.{grouping_out}
-use Rattle.groups_solve.specs.declared.grouping.Grouping.{Grouping}
-use Rattle.groups_solve.specs.declared.grouping.Grouping.TheVariants.{Groups, Refused}
 use Rattle.job_file.specs.Job.{Job, job_of}
 use Rattle.job_file.specs.declared.trailer.Trailer.{Trailer}
 
@@ -23,13 +21,13 @@ abbrev pub job_tests : Job → List (ℕ × Bool)
 job_tests j = (26, passes26 j.tolerance) ∷ (6, passes6 (job_table j) && centres_finite (centres_in j.bodies j.centres)) ∷ (7, passes7 (job_table j)) ∷ []
 
 -- the answer for a job: its whole table's refusal, the lent list being as it was, or how many groups there are, the list having the number of each row's group
-pub record JobGrouped (j : Job) (before groups : List ℕ) (answer : Grouping) : Type 0 where
+pub record JobGrouped (j : Job) (before groups : List ℕ) (answer : Run ℕ ℕ) : Type 0 where
   pub judged : judge (job_tests j) ≡ grouping_out answer
-  pub kept : (number : ℕ) → answer ≡ Refused number → groups ≡ before
-  pub grouped : (count : ℕ) → answer ≡ Groups count → Grouped (links_in j.words) (joins_in j.masses) j.rows groups count
+  pub kept : (number : ℕ) → answer ≡ ended number → groups ≡ before
+  pub grouped : (count : ℕ) → answer ≡ going count → Grouped (links_in j.words) (joins_in j.masses) j.rows groups count
 
 -- the answer for the job of a file
-pub record BenchRead (file : List ℕ) (j : Job) (before groups : List ℕ) (answer : Grouping) : Type 0 where
+pub record BenchRead (file : List ℕ) (j : Job) (before groups : List ℕ) (answer : Run ℕ ℕ) : Type 0 where
   pub read : job_of file ≡ going j
   pub answered : JobGrouped j before groups answer
 

@@ -1,14 +1,15 @@
 // A file that has passed 1 to 4: its job read, the whole table judged, and a group number for each row.
 ghost use Rattle.std.specs.Prelude.{◌≡◌, length};
+ghost use Rattle.refusals.specs.Told.{told};
 ghost use Rattle.job_file.specs.Job.{job_with, judged_of};
-ghost use Rattle.job_file.specs.declared.judge.FileJudged.TheVariants.{Passed};
+ghost use Rattle.loops.specs.Run.{going};
 ghost use Rattle.groups_sheet.specs.Bench.{BenchRoom, JobGrouped, BenchRead};
 
 use groups::group_rows;
-use groups_solve::Grouping;
 use job_file::{Trailer, read_centres, read_masses, read_rows};
 use joint_refusals::{centres_finite, masses_finite, rows_valid, tolerances_fit};
 use loops::wide;
+use refusals::Refusal;
 
 // A job that has been read: 26 of its two tolerances, then 6 and 7 of the whole table, and then its groups.
 fn group_job(
@@ -18,24 +19,23 @@ fn group_job(
     masses: &[f64],
     centres: &[f64],
     groups: &mut [u32],
-) -> Grouping
+) -> Result<u32, Refusal>
     requires { BenchRoom trailer (length numbers.now) (length words.now) (length masses.now) (length centres.now) (length groups.old) }
-    ensures { JobGrouped (job_with trailer numbers.now words.now masses.now centres.now) groups.old groups.new result }
+    ensures { JobGrouped (job_with trailer numbers.now words.now masses.now centres.now) groups.old groups.new (told result) }
 {
     let rows = wide(trailer.rows);
     let bodies = wide(trailer.bodies);
     if !tolerances_fit(trailer.tolerance) {
-        return Grouping::Refused(26);
+        return Err(Refusal::Tolerance);
     }
     if !(masses_finite(masses, bodies) & centres_finite(centres, bodies)) {
-        return Grouping::Refused(6);
+        return Err(Refusal::Mass);
     }
     if !rows_valid(numbers, words, rows, trailer.bodies) {
-        return Grouping::Refused(7);
+        return Err(Refusal::Row);
     }
     let mut labels: [u32; 192] = [0; 192];
-    let count = group_rows(words, masses, rows, bodies, &mut labels, groups);
-    Grouping::Groups(count)
+    Ok(group_rows(words, masses, rows, bodies, &mut labels, groups))
 }
 
 // The job into lent memory, and the number of each row's group.
@@ -47,10 +47,10 @@ pub fn read_bench(
     masses: &mut [f64],
     centres: &mut [f64],
     groups: &mut [u32],
-) -> Grouping
-    requires file_value { judged_of file.now ≡ Passed trailer }
+) -> Result<u32, Refusal>
+    requires file_value { judged_of file.now ≡ going trailer }
     requires bench_room { BenchRoom trailer (length numbers.old) (length words.old) (length masses.old) (length centres.old) (length groups.old) }
-    ensures { BenchRead file.now (job_with trailer numbers.new words.new masses.new centres.new) groups.old groups.new result }
+    ensures { BenchRead file.now (job_with trailer numbers.new words.new masses.new centres.new) groups.old groups.new (told result) }
 {
     let rows = trailer.rows as usize;
     let bodies = trailer.bodies as usize;

@@ -10,7 +10,7 @@ ghost use Rattle.groups_sheet.specs.Bench.{BenchRoom, OwnRoom};
 ghost use Rattle.groups_sheet.specs.Text.{with_rows, group_text};
 
 use crate::lines::group_line;
-use group_table::{count_rows, pick_numbers, pick_words};
+use group_table::{count_rows, pick_rows};
 use job_file::Trailer;
 use job_sheet::Sheet;
 use job_sheet::sheet::write_job;
@@ -88,8 +88,8 @@ fn write_picked(
     ensures { Wrote out.old 0 (group_text (job_with trailer numbers.now words.now masses.now centres.now) g (rows_of groups.now g trailer.rows)) out.new result }
 {
     let rows = trailer.rows as usize;
-    pick_numbers(groups, g, rows, 27, numbers, own_numbers);
-    pick_words(groups, g, rows, 8, words, own_words);
+    pick_rows(groups, g, rows, 27, numbers, own_numbers);
+    pick_rows(groups, g, rows, 8, words, own_words);
     let at = group_line(groups, g, trailer.rows, count, out);
     write_behind(
         with_rows(trailer, count),

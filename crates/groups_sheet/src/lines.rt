@@ -34,10 +34,8 @@ fn put_rows(out: &mut [u8], at: usize, groups: &[u32], g: u32, rows: u32) -> usi
     ensures { Wrote out.old at (row_words (rows_of groups.now g rows)) out.new result }
 {
     let mut next = at;
-    let mut i = 0;
-    while i < rows {
+    for i in 0..rows {
         next = put_row(out, next, groups, g, i);
-        i += 1;
     }
     next
 }

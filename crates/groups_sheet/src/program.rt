@@ -1,15 +1,14 @@
 // The program: reads a job file from standard input, and prints its first line and then group by group. No contract can say what is read or printed.
 ghost use Rattle.std.specs.Prelude.{◌≡◌, length};
 ghost use Rattle.job_file.specs.Job.{judged_of};
-ghost use Rattle.job_file.specs.declared.judge.FileJudged.TheVariants.{Passed};
+ghost use Rattle.loops.specs.Run.{going};
 ghost use Rattle.groups_sheet.specs.Bench.{BenchRoom};
 
 use crate::bench::read_bench;
 use crate::group::write_group;
 use crate::lines::groups_line;
-use groups_solve::Grouping;
-use job_file::{FileJudged, Trailer, judge_file};
-use program_io::{Input, read_input, write_output};
+use job_file::{Trailer, judge_file};
+use program_io::{read_input, write_output};
 
 // Whether all was written; where not, this is told, and nothing more is printed.
 fn print_first(rt: &HostRuntime, refusal: u32, count: u32) -> bool {
@@ -53,12 +52,10 @@ fn print_each(
     if !print_first(rt, 0, count) {
         return;
     }
-    let mut g = 0;
-    while g < count {
+    for g in 0..count {
         if !print_group(rt, trailer, groups, g, numbers, words, masses, centres) {
             return;
         }
-        g += 1;
     }
 }
 
@@ -73,14 +70,14 @@ fn print_bench(
     centres: &mut [f64],
     groups: &mut [u32],
 )
-    requires file_value { judged_of file.now ≡ Passed trailer }
+    requires file_value { judged_of file.now ≡ going trailer }
     requires bench_room { BenchRoom trailer (length numbers.old) (length words.old) (length masses.old) (length centres.old) (length groups.old) }
 {
     match read_bench(file, trailer, numbers, words, masses, centres, groups) {
-        Grouping::Refused(number) => {
-            print_first(rt, number, 0);
+        Err(refusal) => {
+            print_first(rt, refusal.number(), 0);
         }
-        Grouping::Groups(count) => {
+        Ok(count) => {
             print_each(rt, trailer, groups, count, numbers, words, masses, centres);
         }
     }
@@ -88,7 +85,7 @@ fn print_bench(
 
 // Memory for what the program takes: 128 rows and 64 bodies.
 fn print_passed(rt: &HostRuntime, file: &[u8], trailer: Trailer)
-    requires { judged_of file.now ≡ Passed trailer }
+    requires { judged_of file.now ≡ going trailer }
 {
     let mut numbers: [f64; 3456] = [0.0; 3456];
     let mut words: [u32; 1024] = [0; 1024];
@@ -116,14 +113,13 @@ fn print_passed(rt: &HostRuntime, file: &[u8], trailer: Trailer)
 // A file has at most 65,536 bytes. One byte more is read, so that a longer one is refused whatever it begins with. Of a file that can't be read nothing is printed.
 pub fn print_groups(rt: &HostRuntime) {
     let mut file: [u8; 65537] = [0; 65537];
-    let read = read_input(rt, b"mechanisms", &mut file);
-    let Input::Read(length) = read else {
+    let Some(length) = read_input(rt, b"mechanisms", &mut file) else {
         return;
     };
     match judge_file(&file[..length]) {
-        FileJudged::Refused(number) => {
-            print_first(rt, number, 0);
+        Ok(trailer) => print_passed(rt, &file[..length], trailer),
+        Err(refusal) => {
+            print_first(rt, refusal.number(), 0);
         }
-        FileJudged::Passed(trailer) => print_passed(rt, &file[..length], trailer),
     }
 }

@@ -22,8 +22,6 @@ use Rattle.position.specs.Problem.{Problem}
 use Rattle.solve_method.specs.Method.{method_of}
 use Rattle.solve_method.specs.Position.{solve_for}
 use Rattle.position_delivery.specs.Outcome.{Lent, Outcome, outcome_at}
-use Rattle.position_delivery.specs.declared.answer.PositionPcg.{PositionPcg}
-use Rattle.position_delivery.specs.declared.answer.PositionPcg.TheVariants as answers
 use Rattle.solve_by_rules.specs.Ruled.{named_by}
 use Rattle.own_memory.specs.Job.{JobSolved}
 use Rattle.groups.specs.Together.{Links, links_of, joins_of, body_a, body_b, Has, Grouped, Member, Apart}
@@ -35,10 +33,12 @@ use Rattle.group_step.specs.Group.{chosen, refusal_of, count_of, flag_of, linear
 use Rattle.group_step.proofs.Delivery.{placed_few}
 use Rattle.group_step.proofs.Stepping.{group_mine}
 use Rattle.group_step.proofs.Relent.{left_with, relend, kept_solution, kept_impulses, kept_centres}
+use Rattle.loops.specs.Run.{Run, going, ended}
+use Rattle.position_delivery.specs.declared.answer.PositionPcgResult.{PositionPcgResult}
 use Rattle.groups_solve.specs.Solved.{BenchSolved}
 
 -- ---- two solves of one problem, lent the same rows, give one answer and the same numbers; what takes the answer may differ where it is refused
-module _ {s : Rules} {p : Problem} {mode : Mode} {limit place n : ℕ} {before₁ after₁ before₂ after₂ : Lent} {named₁ namedAfter₁ named₂ namedAfter₂ : List ℕ} {answer₁ answer₂ : PositionPcg}
+module _ {s : Rules} {p : Problem} {mode : Mode} {limit place n : ℕ} {before₁ after₁ before₂ after₂ : Lent} {named₁ namedAfter₁ named₂ namedAfter₂ : List ℕ} {answer₁ answer₂ : Run PositionPcgResult ℕ}
     (j : JobSolved true s p mode limit place n before₁ after₁ named₁ namedAfter₁ answer₁) (k : JobSolved true s p mode limit place n before₂ after₂ named₂ namedAfter₂ answer₂) (e : before₂.numbers ≡ before₁.numbers) where
   one_outcome : ◌≡◌ {A = Outcome} (record { answer = answer₁; lent = after₁ }) (record { answer = answer₂; lent = left_with answer₂ after₂ before₁.solution before₁.impulses before₁.centres })
   one_outcome =
@@ -72,9 +72,9 @@ OnRows d width groups g n x y = (i c : ℕ) → i < n → get_or groups i 0 ≡ 
 picked_alike : {X : Type 0} (d : X) (width : ℕ) (groups : List ℕ) (g n : ℕ) (x y : List X) → OnRows d width groups g n x y → pick_rows d width (rows_of groups g n) x ≡ pick_rows d width (rows_of groups g n) y
 picked_alike d width groups g n x y e = pick_same d width (rows_of groups g n) x y (λ k c l m. e _ c ((in_order groups g n).below k l) ((in_order groups g n).group k l) m)
 
-chosen_alike : (answer : PositionPcg) (x y z : List Float) (p : ℕ) → get_or y p nan ≡ get_or z p nan → get_or (chosen answer x y) p nan ≡ get_or (chosen answer x z) p nan
-chosen_alike (answers.Accepted r) x y z p e = refl
-chosen_alike (answers.Refused number) x y z p e = e
+chosen_alike : (answer : Run PositionPcgResult ℕ) (x y z : List Float) (p : ℕ) → get_or y p nan ≡ get_or z p nan → get_or (chosen answer x y) p nan ≡ get_or (chosen answer x z) p nan
+chosen_alike (going r) x y z p e = refl
+chosen_alike (ended number) x y z p e = e
 
 -- what two tables tell alike of group g, whose rows are these and whose bodies are `mine`
 pub record AlikeAt (mine : ℕ → Type 0) (kind : Kind) (bodies g : ℕ) (rows : List ℕ) (x y : Lending) : Type 0 where
@@ -125,13 +125,13 @@ module _ (mine : ℕ → Type 0) (b₁ b₂ : Bench) (g : ℕ) (rows : List ℕ)
       angular = h₁.told.angular ∙ angular_one h₁.answer h₂.answer answer_one ∙ sym h₂.told.angular;
     }
       where
-        named : (x y : PositionPcg) → x ≡ y → named_by x (group_problem b₁ before₁.table.numbers rows).rule (length rows) (pick_rows 0 1 rows before₁.rules) ≡ named_by y (group_problem b₁ before₁.table.numbers rows).rule (length rows) (pick_rows 0 1 rows before₂.rules)
+        named : (x y : Run PositionPcgResult ℕ) → x ≡ y → named_by x (group_problem b₁ before₁.table.numbers rows).rule (length rows) (pick_rows 0 1 rows before₁.rules) ≡ named_by y (group_problem b₁ before₁.table.numbers rows).rule (length rows) (pick_rows 0 1 rows before₂.rules)
         named x y e = rw (e, a.rules)
 
-        linear_one : (x y : PositionPcg) → x ≡ y → linear_of x (get_or before₁.maxima (2 * g) nan) ≡ linear_of y (get_or before₂.maxima (2 * g) nan)
+        linear_one : (x y : Run PositionPcgResult ℕ) → x ≡ y → linear_of x (get_or before₁.maxima (2 * g) nan) ≡ linear_of y (get_or before₂.maxima (2 * g) nan)
         linear_one x y e = rw (e, a.linear)
 
-        angular_one : (x y : PositionPcg) → x ≡ y → angular_of x (get_or before₁.maxima (2 * g + 1) nan) ≡ angular_of y (get_or before₂.maxima (2 * g + 1) nan)
+        angular_one : (x y : Run PositionPcgResult ℕ) → x ≡ y → angular_of x (get_or before₁.maxima (2 * g + 1) nan) ≡ angular_of y (get_or before₂.maxima (2 * g + 1) nan)
         angular_one x y e = rw (e, a.angular)
 
 -- ---- the theorem

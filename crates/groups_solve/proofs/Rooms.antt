@@ -8,6 +8,9 @@ use lib.Dec.{eqb, leb}
 use lib.ListN.{length}
 use lib.Ieee.{Float}
 use borrow.Author.Tests.{eqb-true}
+use Rattle.std.specs.Prelude.{Result, Ok}
+use Rattle.refusals.specs.Told.{told}
+use Rattle.refusals.specs.declared.Refusal.{Refusal}
 use Rattle.loops.specs.Run.{going}
 use Rattle.loops.specs.Judge.{judge, AllPass}
 use Rattle.loops.proofs.Both.{both}
@@ -32,9 +35,7 @@ use Rattle.own_memory.proofs.Lending.{counts_within}
 use Rattle.groups.specs.Together.{links_in, Linked}
 use Rattle.group_step.specs.Bench.{Bench, bench_problem}
 use Rattle.group_step.specs.Step.{BenchRoom, TableRoom, ToldRoom}
-use Rattle.groups_solve.specs.Judged.{bench_tests, groups_lent, whole_out}
-use Rattle.groups_solve.specs.declared.judge.Whole.{Whole}
-use Rattle.groups_solve.specs.declared.judge.Whole.TheVariants as whole
+use Rattle.groups_solve.specs.Judged.{bench_tests, groups_lent}
 
 -- ---- 3
 module _ (kind : Kind) (n b mode : ℕ) (numbers : List Float) (words : List ℕ) (masses solution impulses centres newCentres : List Float) (rule_words : List ℕ) (rule_tolerances : List Float) (rule_numbers : List ℕ) (given : List Float)
@@ -93,8 +94,8 @@ rules_long : (words tolerances : ℕ) → rule_lengths_fit words tolerances ≡ 
 unfolding rule_lengths_fit
 rules_long words tolerances h = let e = eqb-true words (3 * tolerances) (both (leb tolerances 64) (eqb words (3 * tolerances)) h).1 in omega arith
 
-pub linked_passed : (b : Bench) (numbers : List Float) {w : Whole} → judge (bench_tests (bench_problem b numbers)) ≡ whole_out w → w ≡ whole.Passed → Linked (links_in b.words) b.rows b.bodies
-linked_passed b numbers j e = linked_rows b.kind b.rows b.bodies numbers b.words b.masses b.centres b.given b.rules b.shift (j ∙ ap whole_out e)
+pub linked_passed : (b : Bench) (numbers : List Float) {w : Result Unit Refusal} → judge (bench_tests (bench_problem b numbers)) ≡ told w → w ≡ Ok tt → Linked (links_in b.words) b.rows b.bodies
+linked_passed b numbers j e = linked_rows b.kind b.rows b.bodies numbers b.words b.masses b.centres b.given b.rules b.shift (j ∙ ap told e)
 
 pub judged_rooms : (kind : Kind) (n b mode : ℕ) (numbers : List Float) (words : List ℕ) (masses solution impulses centres newCentres : List Float) (rule_words : List ℕ) (rule_tolerances : List Float) (rule_numbers : List ℕ) (given : List Float)
     → job_fits kind n b mode (length numbers) (length words) (length masses) (length solution) (length impulses) (length centres) (length newCentres) (length rule_words) (length rule_tolerances) (length rule_numbers) (length given) ≡ true

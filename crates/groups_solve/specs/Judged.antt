@@ -6,10 +6,6 @@ use Rattle.kapitsa_joint.specs.Kind.{by_kind}
 use Rattle.kapitsa_joint.specs.declared.kind.Kind.{Kind}
 use Rattle.joint_refusals.specs.Refusals.{passes4, passes6, passes7, centres_finite}
 use Rattle.position.specs.Problem.{Problem}
-use Rattle.groups_solve.specs.declared.judge.Whole.{Whole}
-use Rattle.groups_solve.specs.declared.judge.Whole.TheVariants as whole
-use Rattle.groups_solve.specs.declared.grouping.Grouping.{Grouping}
-use Rattle.groups_solve.specs.declared.grouping.Grouping.TheVariants.{Groups, Refused}
 
 -- once 3 has passed: 25, 4, 27, 28, 6, of velocities 20, and 7
 abbrev pub bench_tests : Problem → List (ℕ × Bool)
@@ -24,14 +20,9 @@ unfoldable pub groups_lent : ℕ → ℕ → ℕ → ℕ → Bool
 groups_lent rows numbers answers maxima = (eqb numbers rows && eqb answers (3 * rows)) && eqb maxima (2 * rows)
 
 -- how many groups there are, or the whole table's refusal
-abbrev pub grouping_out : Grouping → Run Unit ℕ
-grouping_out (Groups count) = going tt
-grouping_out (Refused number) = ended number
-
--- ---- what the functions that judge answer
-abbrev pub whole_out : Whole → Run Unit ℕ
-whole_out whole.Passed = going tt
-whole_out (whole.Refused number) = ended number
+abbrev pub grouping_out : Run ℕ ℕ → Run Unit ℕ
+grouping_out (going count) = going tt
+grouping_out (ended number) = ended number
 
 abbrev pub centres_pass : Kind → ℕ → List Float → Bool
 centres_pass kind bodies centres = by_kind kind (centres_finite (centres_in bodies centres)) true

@@ -1,6 +1,7 @@
 -- What a solve by groups promises. Document 02, g.
 use Rattle.std.specs.Prelude.{ℕ, ◌+◌, ◌*◌, ◌<◌, ◌≤◌, ◌≡◌, Bool, length, get_or}
 use Rattle.std.specs.Float.{nan}
+use Rattle.loops.specs.Run.{Run, going, ended}
 use Rattle.loops.specs.Cleared.{plus_zero}
 use Rattle.loops.specs.Judge.{judge}
 use Rattle.kapitsa_joint.specs.Kind.{placed_of}
@@ -9,8 +10,6 @@ use Rattle.group_table.specs.Pick.{rows_of}
 use Rattle.group_step.specs.Bench.{Bench, Lending, bench_table, bench_problem}
 use Rattle.group_step.specs.Group.{GroupSolved}
 use Rattle.groups_solve.specs.Judged.{whole_tests, grouping_out}
-use Rattle.groups_solve.specs.declared.grouping.Grouping.{Grouping}
-use Rattle.groups_solve.specs.declared.grouping.Grouping.TheVariants.{Groups, Refused}
 
 -- "Such a zero-mass body, or one in no row, is given impulses of +0.0", and keeps its centre
 pub record StaysPut (b : Bench) (body : ℕ) (after : Lending) : Type 0 where
@@ -38,7 +37,7 @@ pub record BenchSolved (b : Bench) (before after : Lending) (count : ℕ) : Type
   pub long : SameLengths before after
 
 -- fits is whether refusal 3 passes
-pub record GroupsSolved (fits : Bool) (b : Bench) (before after : Lending) (answer : Grouping) : Type 0 where
+pub record GroupsSolved (fits : Bool) (b : Bench) (before after : Lending) (answer : Run ℕ ℕ) : Type 0 where
   pub answered : judge (whole_tests fits (bench_problem b before.table.numbers)) ≡ grouping_out answer  -- the whole table's tests, in their order
-  pub kept : (number : ℕ) → answer ≡ Refused number → after ≡ before  -- a refusal of the whole table touches nothing
-  pub solved : (count : ℕ) → answer ≡ Groups count → BenchSolved b before after count
+  pub kept : (number : ℕ) → answer ≡ ended number → after ≡ before  -- a refusal of the whole table touches nothing
+  pub solved : (count : ℕ) → answer ≡ going count → BenchSolved b before after count

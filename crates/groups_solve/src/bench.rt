@@ -82,8 +82,7 @@ fn solve_each(
     let n = rows as usize;
     let body_numbers = 6 * (bodies as usize);
     let centre_numbers = 3 * (placed_of(kind, bodies) as usize);
-    let mut g = 0;
-    while g < count {
+    for g in 0..count {
         let k = count_rows(groups, g, n);
         solve_group(
             kind,
@@ -117,7 +116,6 @@ fn solve_each(
             &mut own_centres[..centre_numbers],
             &mut own_rules[..k],
         );
-        g += 1;
     }
 }
 

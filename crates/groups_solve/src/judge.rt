@@ -6,11 +6,13 @@ ghost use Rattle.rules.specs.Rows.{rules_in};
 ghost use Rattle.position_steps.specs.Opening.{given_fits};
 ghost use Rattle.solve_method.specs.Position.{solve_for};
 ghost use Rattle.position.specs.Kinds.{GivenRoom};
-ghost use Rattle.groups_solve.specs.Judged.{bench_tests, groups_lent, centres_pass, whole_out};
+ghost use Rattle.refusals.specs.Told.{told};
+ghost use Rattle.groups_solve.specs.Judged.{bench_tests, groups_lent, centres_pass};
 
 use joint_refusals::{centres_finite, masses_finite, residuals_finite, rows_valid, words_fit};
 use kapitsa_joint::Kind;
 use preconditioner::shift_fits;
+use refusals::Refusal;
 use rules::{rows_ruled, rules_fit};
 
 // 3, of the slices that take the groups.
@@ -43,12 +45,6 @@ fn given_pass(kind: Kind, given: &[f64], rows: u32) -> bool
     }
 }
 
-#[derive(Clone, Copy)]
-pub enum Whole {
-    Passed,
-    Refused(u32),
-}
-
 // Once 3 has passed.
 pub fn judge_bench(
     kind: Kind,
@@ -62,30 +58,30 @@ pub fn judge_bench(
     rule_tolerances: &[f64],
     given: &[f64],
     shift: f64,
-) -> Whole
+) -> Result<(), Refusal>
     requires { (27 * rows ≤ length numbers.now) × (8 * rows ≤ length words.now) × (10 * bodies ≤ length masses.now) × (3 * placed_of kind bodies ≤ length centres.now) × (3 * length rule_tolerances.now ≤ length rule_words.now) × GivenRoom kind (length given.now) rows }
-    ensures { judge (bench_tests (solve_for kind rows bodies numbers.now words.now masses.now centres.now given.now (rules_in rule_words.now rule_tolerances.now) shift)) ≡ whole_out result }
+    ensures { judge (bench_tests (solve_for kind rows bodies numbers.now words.now masses.now centres.now given.now (rules_in rule_words.now rule_tolerances.now) shift)) ≡ told result }
 {
     if !shift_fits(shift) {
-        return Whole::Refused(25);
+        return Err(Refusal::Shift);
     }
     if !words_fit(words, rows as usize) {
-        return Whole::Refused(4);
+        return Err(Refusal::Word);
     }
     if !rules_fit(rule_words, rule_tolerances) {
-        return Whole::Refused(27);
+        return Err(Refusal::Rule);
     }
     if !rows_ruled(words, rule_words, rule_tolerances, rows as usize) {
-        return Whole::Refused(28);
+        return Err(Refusal::RulesOfRow);
     }
     if !(masses_finite(masses, bodies as usize) & centres_pass(kind, centres, bodies)) {
-        return Whole::Refused(6);
+        return Err(Refusal::Mass);
     }
     if !given_pass(kind, given, rows) {
-        return Whole::Refused(20);
+        return Err(Refusal::Speed);
     }
     if !rows_valid(numbers, words, rows as usize, bodies) {
-        return Whole::Refused(7);
+        return Err(Refusal::Row);
     }
-    Whole::Passed
+    Ok(())
 }

@@ -3,9 +3,7 @@
 #![tactic(auto)]
 
 pub mod bench; // bench.rt: the groups numbered, and each of them solved
-pub mod grouping; // grouping.rt: how many groups there are, or the whole table's refusal
 pub mod judge; // judge.rt: what is judged of the whole table
 pub mod solve; // solve.rt: the entries
 
-pub use grouping::Grouping;
 pub use solve::{solve_groups, solve_position_groups, solve_velocity_groups};

@@ -4,16 +4,17 @@ ghost use Rattle.kapitsa_joint.specs.declared.kind.Kind.TheVariants.{Position, V
 ghost use Rattle.rules.specs.Rows.{rules_in};
 ghost use Rattle.own_memory.specs.Job.{job_fits};
 ghost use Rattle.group_step.specs.Bench.{bench_of, lending_of};
+ghost use Rattle.refusals.specs.Told.{told};
 ghost use Rattle.groups_solve.specs.Judged.{groups_lent};
 ghost use Rattle.groups_solve.specs.Solved.{GroupsSolved};
 
 use crate::bench::solve_bench;
-use crate::grouping::Grouping;
-use crate::judge::{Whole, groups_lent, judge_bench};
+use crate::judge::{groups_lent, judge_bench};
 use kapitsa_joint::Kind;
 use own_memory::job_fits;
+use refusals::Refusal;
 
-// Of either kind. Of each group three words at 3g, its refusal or 0, its count and its flag, and two numbers at 2g, its residual maxima; of a refused group these two stay as they were, as do all its numbers.
+// Of either kind: how many groups there are, or the whole table's refusal. Of each group three words at 3g, its refusal or 0, its count and its flag, and two numbers at 2g, its residual maxima; of a refused group these two stay as they were, as do all its numbers.
 pub fn solve_groups(
     kind: Kind,
     numbers: &mut [f64],
@@ -35,11 +36,11 @@ pub fn solve_groups(
     group_numbers: &mut [u32],
     group_answers: &mut [u32],
     group_maxima: &mut [f64],
-) -> Grouping
+) -> Result<u32, Refusal>
     ensures { GroupsSolved (job_fits kind rows bodies mode (length numbers.old) (length words.now) (length masses.now) (length solution.old) (length impulses.old) (length centres.now) (length new_centres.old) (length rule_words.now) (length rule_tolerances.now) (length rule_numbers.old) (length given.now) && groups_lent rows (length group_numbers.old) (length group_answers.old) (length group_maxima.old))
         (bench_of kind rows bodies words.now masses.now centres.now given.now (rules_in rule_words.now rule_tolerances.now) limit mode shift)
         (lending_of numbers.old solution.old impulses.old new_centres.old rule_numbers.old group_numbers.old group_answers.old group_maxima.old)
-        (lending_of numbers.new solution.new impulses.new new_centres.new rule_numbers.new group_numbers.new group_answers.new group_maxima.new) result }
+        (lending_of numbers.new solution.new impulses.new new_centres.new rule_numbers.new group_numbers.new group_answers.new group_maxima.new) (told result) }
 {
     let lent = groups_lent(
         rows,
@@ -65,9 +66,9 @@ pub fn solve_groups(
         given.len(),
     ) & lent)
     {
-        return Grouping::Refused(3);
+        return Err(Refusal::Length);
     }
-    match judge_bench(
+    judge_bench(
         kind,
         numbers,
         words,
@@ -79,13 +80,8 @@ pub fn solve_groups(
         rule_tolerances,
         given,
         shift,
-    ) {
-        Whole::Passed => {}
-        Whole::Refused(number) => {
-            return Grouping::Refused(number);
-        }
-    }
-    let count = solve_bench(
+    )?;
+    Ok(solve_bench(
         kind,
         numbers,
         words,
@@ -106,8 +102,7 @@ pub fn solve_groups(
         group_numbers,
         group_answers,
         group_maxima,
-    );
-    Grouping::Groups(count)
+    ))
 }
 
 // Of positions.
@@ -130,11 +125,11 @@ pub fn solve_position_groups(
     group_numbers: &mut [u32],
     group_answers: &mut [u32],
     group_maxima: &mut [f64],
-) -> Grouping
+) -> Result<u32, Refusal>
     ensures { GroupsSolved (job_fits Position rows bodies mode (length numbers.old) (length words.now) (length masses.now) (length solution.old) (length impulses.old) (length centres.now) (length new_centres.old) (length rule_words.now) (length rule_tolerances.now) (length rule_numbers.old) 0 && groups_lent rows (length group_numbers.old) (length group_answers.old) (length group_maxima.old))
         (bench_of Position rows bodies words.now masses.now centres.now [] (rules_in rule_words.now rule_tolerances.now) limit mode shift)
         (lending_of numbers.old solution.old impulses.old new_centres.old rule_numbers.old group_numbers.old group_answers.old group_maxima.old)
-        (lending_of numbers.new solution.new impulses.new new_centres.new rule_numbers.new group_numbers.new group_answers.new group_maxima.new) result }
+        (lending_of numbers.new solution.new impulses.new new_centres.new rule_numbers.new group_numbers.new group_answers.new group_maxima.new) (told result) }
 {
     let none: [f64; 0] = [0.0; 0];
     solve_groups(
@@ -180,11 +175,11 @@ pub fn solve_velocity_groups(
     group_numbers: &mut [u32],
     group_answers: &mut [u32],
     group_maxima: &mut [f64],
-) -> Grouping
+) -> Result<u32, Refusal>
     ensures { GroupsSolved (job_fits Velocity rows bodies mode (length numbers.old) (length words.now) (length masses.now) (length solution.old) (length impulses.old) 0 0 (length rule_words.now) (length rule_tolerances.now) (length rule_numbers.old) (length given.now) && groups_lent rows (length group_numbers.old) (length group_answers.old) (length group_maxima.old))
         (bench_of Velocity rows bodies words.now masses.now [] given.now (rules_in rule_words.now rule_tolerances.now) limit mode shift)
         (lending_of numbers.old solution.old impulses.old [] rule_numbers.old group_numbers.old group_answers.old group_maxima.old)
-        (lending_of numbers.new solution.new impulses.new [] rule_numbers.new group_numbers.new group_answers.new group_maxima.new) result }
+        (lending_of numbers.new solution.new impulses.new [] rule_numbers.new group_numbers.new group_answers.new group_maxima.new) (told result) }
 {
     let none: [f64; 0] = [0.0; 0];
     let mut no_centres: [f64; 0] = [0.0; 0];

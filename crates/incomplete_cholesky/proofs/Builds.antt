@@ -9,28 +9,27 @@ use lib.Dec.{ltb}
 use lib.ListN.{length, get_or, take, drop, get_or-replicate, length-replicate, length-take, get_or-eq_default}
 use lib.Seq.{drop_at, length-take-le}
 use lib.Ieee.{Float}
+use Rattle.std.specs.Prelude.{Result, Ok, Err}
 use Rattle.loops.specs.Run.{Run, going, ended, on, check}
 use Rattle.loops.specs.Cleared.{cleared_words}
 use Rattle.mass_operator.specs.System.{System}
 use Rattle.sparse.specs.Triangle.{Sparse}
 use Rattle.sparse.specs.Cholesky.{factor_run, or_thirteen}
-use Rattle.sparse.proofs.Left.{free, free_past}
+use Rattle.sparse.proofs.Left.{free, free_past, numbered_out}
 use Rattle.sparse.specs.Kept.{Kept, numbers}
 use Rattle.sparse.specs.Marks.{AtMost}
-use Rattle.sparse.specs.Answers.{factor_out}
-use Rattle.sparse.specs.declared.cholesky.Factored.{Factored}
-use Rattle.sparse.specs.declared.cholesky.Factored.TheVariants as factors
+use Rattle.sparse.specs.Answers.{factor_out, factored_out}
+use Rattle.refusals.specs.declared.Refusal.{Refusal}
+use Rattle.refusals.specs.Number.{number_of}
+use Rattle.refusals.specs.Told.{told}
+use Rattle.loops.proofs.Inverse.{apart, ended_inj}
 use Rattle.triangular.specs.Column.{Indexed}
 use Rattle.pairs.specs.Pairs.{pattern_of, pair_count, pair_limit, pairs_of, finite_pairs}
 use Rattle.pairs.specs.Pattern.{starts_in, columns_in}
 use Rattle.pairs.specs.Answers.{judged_pairs, pairs_run, paired_in, paired_of, PairsHeld}
 use Rattle.pairs.proofs.Places.{pairs_free}
-use Rattle.pairs.specs.declared.gathering.Paired.{Paired}
-use Rattle.pairs.specs.declared.gathering.Paired.TheVariants as paired
 use Rattle.pairs.proofs.Parted.{rest_of, columns_lent_long, starts_lent, columns_lent}
 use Rattle.incomplete_cholesky.specs.Build.{cholesky_run, build_out, finish_out, Finished, FactorHeld, FactorPast}
-use Rattle.incomplete_cholesky.specs.declared.build.Built.{Built}
-use Rattle.incomplete_cholesky.specs.declared.build.Built.TheVariants as built
 
 -- ---- `factor_afresh`
 pub marks_clear : (marks₀ marks : List ℕ) → marks ≡ cleared_words marks₀ → AtMost marks 0
@@ -53,40 +52,44 @@ module _ (w rows : ℕ) (ew : w ≡ rows) where
   pub order_fit : (pattern order₀ order : List ℕ) (k : ℕ) → length pattern ≡ rows + 1 + k → length order₀ ≡ rows + 2 * k → length order ≡ length order₀ → length order ≡ rows + 2 * length (rest_of (w + 1) pattern)
   order_fit pattern order₀ order k h h₀ e = omega (arith, columns_lent_long w rows ew pattern k h)
 
-module _ (w rows : ℕ) (ew : w ≡ rows) (pattern : List ℕ) (diagonal₀ values₀ values diagonal : List Float) (f : Factored)
+module _ (w rows : ℕ) (ew : w ≡ rows) (pattern : List ℕ) (diagonal₀ values₀ values diagonal : List Float) (f : Result Unit Refusal)
     (called : factor_run (numbers (take (w + 1) pattern) (rest_of (w + 1) pattern) values₀) diagonal₀ ≡ factor_out f (numbers (take (w + 1) pattern) (rest_of (w + 1) pattern) values) diagonal) where
   made : factor_run (numbers (starts_in rows pattern) (columns_in rows pattern) values₀) diagonal₀ ≡ factor_out f (numbers (starts_in rows pattern) (columns_in rows pattern) values) diagonal
   made = rw (starts_lent w rows ew pattern, columns_lent w rows ew pattern) at called
 
   -- `&mut order[..w]` came back as marks
-  pub finish_refused : (order marks : List ℕ) (k : ℕ) → length order ≡ rows + k → length marks ≡ length (take w order) → f ≡ factors.Refused
-      → Finished rows diagonal₀ (built.Refused 13) (starts_in rows pattern) (columns_in rows pattern) order (marks ++ drop w order) values₀ values diagonal
-  finish_refused order marks k l g t = record {
-    answered = made ∙ rw t;
-    indexed = λ c e. absurd (let z : ◌≡◌ {A = ℕ} 0 1 = cc in omega arith);
-    refused = λ c e. let z : 13 ≡ c = cc in (sym z, rw (← ew) (drop_at marks (drop w order) w (g ∙ length-take-le w order (omega arith))));
-  }
+  module _ (numbered : or_thirteen (factor_run (numbers (take (w + 1) pattern) (rest_of (w + 1) pattern) values₀) diagonal₀) ≡ factored_out f (numbers (take (w + 1) pattern) (rest_of (w + 1) pattern) values) diagonal) where
+    thirteen : {e : Refusal} → f ≡ Err e → number_of e ≡ 13
+    thirteen t = ended_inj (sym (numbered ∙ rw t) ∙ numbered_out {s = (numbers (take (w + 1) pattern) (rest_of (w + 1) pattern) values, diagonal)} (called ∙ rw t))
 
-  pub finish_done : (order₀ order : List ℕ) (count : ℕ) → f ≡ factors.Done → Indexed (take (w + 1) pattern) (rest_of (w + 1) pattern) order rows count
-      → Finished rows diagonal₀ (built.Done count) (starts_in rows pattern) (columns_in rows pattern) order₀ order values₀ values diagonal
+    pub finish_refused : (order marks : List ℕ) (k : ℕ) → length order ≡ rows + k → length marks ≡ length (take w order) → {e : Refusal} → f ≡ Err e → (f' : Result ℕ Refusal) → f' ≡ Err e
+        → Finished rows diagonal₀ (told f') (starts_in rows pattern) (columns_in rows pattern) order (marks ++ drop w order) values₀ values diagonal
+    finish_refused order marks k l g {e} t f' t' = rw t' (record {
+      answered = made ∙ rw t;
+      indexed = λ c u. absurd (apart _ u refl);
+      refused = λ c u. (sym (ended_inj u) ∙ thirteen t, rw (← ew) (drop_at marks (drop w order) w (g ∙ length-take-le w order (omega arith))));
+    })
+
+  pub finish_done : (order₀ order : List ℕ) (count : ℕ) → {x : Unit} → f ≡ Ok x → Indexed (take (w + 1) pattern) (rest_of (w + 1) pattern) order rows count
+      → Finished rows diagonal₀ (going count) (starts_in rows pattern) (columns_in rows pattern) order₀ order values₀ values diagonal
   finish_done order₀ order count t h = record {
     answered = made ∙ rw t;
     indexed = λ c e. let z : count ≡ c = cc in rw (starts_lent w rows ew pattern, columns_lent w rows ew pattern, z) at h;
-    refused = λ k e. absurd (let z : ◌≡◌ {A = ℕ} 0 1 = cc in omega arith);
+    refused = λ k e. absurd (apart _ refl e);
   }
 
 -- ---- `build_incomplete_cholesky_preconditioner`
-module _ (s : System) (starts columns : List ℕ) (values₀ values : List Float) (r : Paired) (held : PairsHeld s r values₀ starts columns values) where
-  pub paired_kept : (count : ℕ) → r ≡ paired.Done count → Kept starts columns
-  paired_kept count t = (held.done count t).kept
+module _ (s : System) (starts columns : List ℕ) (values₀ values : List Float) (q : Result ℕ Refusal) (held : PairsHeld s (told q) values₀ starts columns values) where
+  pub paired_kept : (count : ℕ) → q ≡ Ok count → Kept starts columns
+  paired_kept count t = (held.done count (ap told t)).kept
 
   -- what the answer says of the pairs' own run
-  refused_run : (x : Run Sparse ℕ) → paired_in s x ≡ r → (k : ℕ) → r ≡ paired.Refused k → x ≡ ended k
+  refused_run : (x : Run Sparse ℕ) → paired_in s x ≡ told q → (k : ℕ) → told q ≡ ended k → x ≡ ended k
   unfolding on
   refused_run (going L) e k t = absurd (let z : ◌≡◌ {A = ℕ} 0 1 = cc in omega arith)
   refused_run (ended a) e k t = let z : a ≡ k = cc in rw z
 
-  done_run : (a b : Bool) (L : Sparse) (x : Run Sparse ℕ) → x ≡ cond a (ended 10) (check b (going L) (ended 12)) → paired_in s x ≡ r → (c : ℕ) → r ≡ paired.Done c → x ≡ going L
+  done_run : (a b : Bool) (L : Sparse) (x : Run Sparse ℕ) → x ≡ cond a (ended 10) (check b (going L) (ended 12)) → paired_in s x ≡ told q → (c : ℕ) → told q ≡ going c → x ≡ going L
   unfolding on check
   done_run true b L x h e c t = absurd (let z : ◌≡◌ {A = ℕ} 0 1 = cc in omega arith)
   done_run false true L x h e c t = h
@@ -99,23 +102,23 @@ module _ (s : System) (starts columns : List ℕ) (values₀ values : List Float
   ten_or_twelve false true L k e n = absurd (let z : ◌≡◌ {A = ℕ} 0 1 = cc in omega arith)
   ten_or_twelve false false L k e n = cc
 
-  pairs_refused : (k : ℕ) → r ≡ paired.Refused k → pairs_run s ≡ ended k
+  pairs_refused : (k : ℕ) → told q ≡ ended k → pairs_run s ≡ ended k
   unfolding paired_of
   pairs_refused = refused_run (pairs_run s) (sym held.answered)
 
-  pairs_done : (c : ℕ) → r ≡ paired.Done c → pairs_run s ≡ going (pairs_of s)
+  pairs_done : (c : ℕ) → told q ≡ going c → pairs_run s ≡ going (pairs_of s)
   unfolding paired_of pairs_run judged_pairs
   pairs_done = done_run (ltb pair_limit (pair_count (pattern_of s) s.rows)) (finite_pairs (pairs_of s) s.rows) (pairs_of s) _ refl (sym held.answered)
 
-  refused_as : (k : ℕ) → r ≡ paired.Refused k → (k ≡ 10 → ⊥) → k ≡ 12
+  refused_as : (k : ℕ) → told q ≡ ended k → (k ≡ 10 → ⊥) → k ≡ 12
   unfolding pairs_run judged_pairs
   refused_as k t = ten_or_twelve (ltb pair_limit (pair_count (pattern_of s) s.rows)) (finite_pairs (pairs_of s) s.rows) (pairs_of s) k (pairs_refused k t)
 
-  pub build_refused : (order : List ℕ) (diagonal : List Float) (k : ℕ) → r ≡ paired.Refused k → FactorHeld s diagonal (built.Refused k) starts columns order order values₀ values diagonal
+  build_ended : (order : List ℕ) (diagonal : List Float) (k : ℕ) → told q ≡ ended k → FactorHeld s diagonal (ended k) starts columns order order values₀ values diagonal
   unfolding cholesky_run on
-  build_refused order diagonal k t = record {
+  build_ended order diagonal k t = record {
     answered = rw (pairs_refused k t);
-    pattern = λ n. let z = refused_as k t (λ z. n (ap built.Refused z)) in let c = held.twelve (rw z at t) in (c.kept, c.places);
+    pattern = λ n. let z = refused_as k t (λ z. n (ap ended z)) in let c = held.twelve (rw z at t) in (c.kept, c.places);
     indexed = λ c e. absurd (let z : ◌≡◌ {A = ℕ} 0 1 = cc in omega arith);
     ten = λ e. let z : k ≡ 10 = cc in (refl, held.ten (rw z at t), refl);
     ten_words = λ e. let z : k ≡ 10 = cc in held.ten_words (rw z at t);
@@ -123,21 +126,24 @@ module _ (s : System) (starts columns : List ℕ) (values₀ values : List Float
     thirteen = λ e. let z : k ≡ 13 = cc in absurd (let u = refused_as k t (λ u. omega arith) in omega arith);
   }
 
-  module _ (diagonal₀ : List Float) (b : Built) (order₀ order : List ℕ) (values' diagonal : List Float) (count : ℕ) (t : r ≡ paired.Done count)
+  pub build_refused : (order : List ℕ) (diagonal : List Float) {x : Refusal} → q ≡ Err x → (q' : Result ℕ Refusal) → q' ≡ Err x → FactorHeld s diagonal (told q') starts columns order order values₀ values diagonal
+  build_refused order diagonal {x} t q' t' = rw t' (build_ended order diagonal (number_of x) (ap told t))
+
+  module _ (diagonal₀ : List Float) (b : Run ℕ ℕ) (order₀ order : List ℕ) (values' diagonal : List Float) (count : ℕ) (t : q ≡ Ok count)
       (h : Finished s.rows diagonal₀ b starts columns order₀ order values values' diagonal) where
     made_of : factor_run (pairs_of s) diagonal₀ ≡ finish_out b (numbers starts columns values') diagonal
-    made_of = ap (λ (L : Sparse). factor_run L diagonal₀) (sym (held.done count t).pairs) ∙ h.answered
+    made_of = ap (λ (L : Sparse). factor_run L diagonal₀) (sym (held.done count (ap told t)).pairs) ∙ h.answered
 
-    told : (q : Built) → ((k : ℕ) → q ≡ built.Refused k → k ≡ 13) → or_thirteen (finish_out q (numbers starts columns values') diagonal) ≡ build_out q (numbers starts columns values') diagonal
+    as_thirteen : (a : Run ℕ ℕ) → ((k : ℕ) → a ≡ ended k → k ≡ 13) → or_thirteen (finish_out a (numbers starts columns values') diagonal) ≡ build_out a (numbers starts columns values') diagonal
     unfolding on
-    told (built.Done c) n = refl
-    told (built.Refused k) n = let z : k ≡ 13 = n k refl in rw z
+    as_thirteen (going c) n = refl
+    as_thirteen (ended k) n = let z : k ≡ 13 = n k refl in rw z
 
     pub build_finished : FactorHeld s diagonal₀ b starts columns order₀ order values₀ values' diagonal
     unfolding cholesky_run on
     build_finished = record {
-      answered = rw (pairs_done count t) (ap or_thirteen made_of ∙ told b (λ k e. (h.refused k e).0));
-      pattern = λ _. ((held.done count t).kept, (held.done count t).places);
+      answered = rw (pairs_done count (ap told t)) (ap or_thirteen made_of ∙ as_thirteen b (λ k e. (h.refused k e).0));
+      pattern = λ _. ((held.done count (ap told t)).kept, (held.done count (ap told t)).places);
       indexed = h.indexed;
       ten = λ e. absurd (let z = (h.refused 10 e).0 in omega arith);
       ten_words = λ e. absurd (let z = (h.refused 10 e).0 in omega arith);

@@ -4,4 +4,4 @@
 
 pub mod build; // build.rt: pairs, factor and index, with refusals 10, 12 and 13
 
-pub use build::{Built, build_incomplete_cholesky_preconditioner};
+pub use build::build_incomplete_cholesky_preconditioner;

@@ -3,6 +3,7 @@ use Prim.Native.Nat.{ℕ}
 use mathlib.Core.Path.{◌≡◌, refl, ap, ◌∙◌}
 use mathlib.Core.Bool.{Bool, true, false, not}
 use lib.Ieee.{Float, eq}
+use Rattle.std.specs.Prelude.{Result}
 use Rattle.loops.specs.Run.{ended}
 use Rattle.loops.specs.Judge.{judge}
 use Rattle.loops.specs.Cleared.{plus_zero}
@@ -13,8 +14,9 @@ use Rattle.kapitsa_math.specs.declared.matrix.Mat3.{Mat3}
 use Rattle.inertia.specs.Divided.{scale_of, divided_of, symmetric_of}
 use Rattle.inertia.specs.Triangle.{triangle_run}
 use Rattle.inertia.specs.Factor.{has_scale, matrix_tests, factor_run}
-use Rattle.inertia.specs.Answers.{factored_out}
-use Rattle.inertia.specs.declared.triangle.Factored.{Factored}
+use Rattle.inertia.specs.Answers.{cholesky_out}
+use Rattle.inertia.specs.declared.triangle.CholeskyError.{CholeskyError}
+use Rattle.inertia.specs.declared.triangle.Cholesky3.{Cholesky3}
 
 -- ---- the ways
 module _ (m : Mat3) {r : Bool} (e : r ≡ finite_columns_of m) where
@@ -39,6 +41,6 @@ module _ (m : Mat3) {r : Bool} (e : r ≡ finite_columns_of m) where
       unfolding matrix_tests judge has_scale
       factor_23 l = ends r 23 (test_pass _ 21 _ e h (test_pass _ 22 _ symmetry k (test_fail _ 23 _ refl (rw (← p, l)))))
 
-      pub factor_on : (a : Factored) → eq scale plus_zero ≡ false → triangle_run n scale ≡ factored_out a → factor_run m ≡ factored_out a
+      pub factor_on : (a : Result Cholesky3 CholeskyError) → eq scale plus_zero ≡ false → triangle_run n scale ≡ cholesky_out a → factor_run m ≡ cholesky_out a
       unfolding factor_run matrix_tests judge has_scale
       factor_on a l g = on_going _ _ _ (test_pass _ 21 _ e h (test_pass _ 22 _ symmetry k (test_pass _ 23 _ refl (rw (← p, l)) refl))) ∙ rw (← p, ← q) g

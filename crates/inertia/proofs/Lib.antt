@@ -1,5 +1,4 @@
 -- The ways through each function; what an accepted factor and an inverse mean; each refusal in its place.
-pub mod Dividing
 pub mod Pivot
 pub mod Rows
 pub mod Scale

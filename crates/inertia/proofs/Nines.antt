@@ -8,28 +8,22 @@ use lib.Dec.{eqb}
 use lib.ListN.{length}
 use lib.Ieee.{Float}
 use borrow.Author.Tests.{not-false, eqb-true}
+use Rattle.std.specs.Prelude.{Result, Ok, Err}
 use Rattle.loops.specs.Run.{ended}
 use Rattle.loops.proofs.Judge.{test_pass, test_fail}
 use Rattle.loops.proofs.Inverse.{apart, going_inj}
 use Rattle.loops.proofs.Both.{both}
-use Rattle.kapitsa_math.specs.Lent.{vec_of, put_vec_of}
-use Rattle.kapitsa_math.specs.declared.vector.Vec3.{Vec3}
+use Rattle.kapitsa_math.specs.Lent.{put_vec_of}
 use Rattle.kapitsa_math.specs.declared.matrix.Mat3.{Mat3}
 use Rattle.inertia.specs.Inverse.{inverse_run}
-use Rattle.inertia.specs.Answers.{number_of, inverted_out}
+use Rattle.inertia.specs.Answers.{number_of, cholesky_out}
 use Rattle.inertia.specs.MinusZero.{MatrixMeaning, InverseMeaning}
 use Rattle.inertia.proofs.InOrder.{inverse_in_place}
 use Rattle.inertia.specs.Lent.{mat_of, nine_of, nines_fit, lent_run, inverse_lent_of, InverseTold}
 use Rattle.inertia.specs.declared.triangle.CholeskyError.{CholeskyError}
 use Rattle.inertia.specs.declared.triangle.CholeskyError.TheVariants.{NonFiniteInput, NotSymmetric, NotPositiveDefinite, ResultOutOfRange}
-use Rattle.inertia.specs.declared.inverse.Inverted.{Inverted}
-use Rattle.inertia.specs.declared.inverse.Inverted.TheVariants.{Inverse, Refused}
 
 -- ---- the matrix
-pub mat_is : (l : List Float) {a b c : Vec3} → a ≡ vec_of l 0 → b ≡ vec_of l 3 → c ≡ vec_of l 6 → ◌≡◌ {A = Mat3} record { x = a; y = b; z = c } (mat_of l)
-unfolding mat_of
-mat_is l p q r = rw (p, q, r)
-
 nine_put : (l : List Float) (m : Mat3) → length l ≡ 9 → put_vec_of (put_vec_of (put_vec_of l 0 m.x) 3 m.y) 6 m.z ≡ nine_of m
 unfolding put_vec_of nine_of
 nine_put (a ∷ b ∷ c ∷ d ∷ e ∷ f ∷ g ∷ h ∷ i ∷ []) m n = refl
@@ -76,18 +70,18 @@ module _ (inertia inverse : List Float) {r : Bool} (e : r ≡ nines_fit inertia 
   unfolding lent_run
   lent_3 h = refused 3 (omega arith) (test_fail _ 3 _ e h)
 
-  module _ (h : not r ≡ false) {m : Mat3} (q : m ≡ mat_of inertia) (a : Inverted) (k : inverse_run m ≡ inverted_out a) where
-    runs : lent_run inertia inverse ≡ inverted_out a
+  module _ (h : not r ≡ false) {m : Mat3} (q : m ≡ mat_of inertia) (a : Result Mat3 CholeskyError) (k : inverse_run m ≡ cholesky_out a) where
+    runs : lent_run inertia inverse ≡ cholesky_out a
     unfolding lent_run
-    runs = test_pass _ 3 _ e h (subst (λ (m : Mat3). inverse_run m ≡ inverted_out a) q k)
+    runs = test_pass _ 3 _ e h (subst (λ (m : Mat3). inverse_run m ≡ cholesky_out a) q k)
 
-    pub lent_refused : {x : CholeskyError} {n : ℕ} → a ≡ Refused x → n ≡ number_of x → InverseTold inertia inverse record { number = n; inverse = inverse }
-    lent_refused {x} v w = rw w (refused (number_of x) (number_above x) (runs ∙ ap inverted_out v))
+    pub lent_refused : {x : CholeskyError} {n : ℕ} → a ≡ Err x → n ≡ number_of x → InverseTold inertia inverse record { number = n; inverse = inverse }
+    lent_refused {x} v w = rw w (refused (number_of x) (number_above x) (runs ∙ ap cholesky_out v))
 
-    pub lent_told : {i : Mat3} {out : List Float} → InverseMeaning a → a ≡ Inverse i → out ≡ nine_of i → InverseTold inertia inverse record { number = 0; inverse = out }
+    pub lent_told : {i : Mat3} {out : List Float} → InverseMeaning a → a ≡ Ok i → out ≡ nine_of i → InverseTold inertia inverse record { number = 0; inverse = out }
     unfolding inverse_lent_of
     lent_told {i} t v w =
-        let g = runs ∙ ap inverted_out v in
+        let g = runs ∙ ap cholesky_out v in
         record {
           answered = rw (g, w);
           zero = (λ _. (i, g), λ _. refl);

@@ -10,6 +10,7 @@ use lib.Ieee.{Float, nan, inf, fin, binary64, low, sub, mul, div, le, fits, of_b
 use lib.Ieee.Fits.{add-fits, sub-fits, mul-fits, div-fits, and_i}
 use lib.Ieee.Positive.{positive}
 use lib.Ieee.Scale.{finite}
+use Rattle.std.specs.Prelude.{Result, Ok, Err}
 use Rattle.loops.specs.Run.{going}
 use Rattle.loops.specs.Judge.{test, judge, AllPass}
 use Rattle.loops.specs.Cleared.{plus_zero}
@@ -29,13 +30,9 @@ use Rattle.inertia.specs.Factor.{matrix_tests, factor_run}
 use Rattle.inertia.specs.Solve.{less_product, forward_x, forward_y, forward_z, forward_of, backward_x, backward_y, backward_z, backward_of, solution_of, solve_run}
 use Rattle.inertia.specs.Inverse.{unit_x, unit_y, unit_z, columns_run, inverse_run}
 use Rattle.inertia.specs.MinusZero.{no_minus_zero, NoMinusZeros, MatrixMeaning, InverseMeaning}
-use Rattle.inertia.specs.Answers.{factored_out, inverted_out}
+use Rattle.inertia.specs.Answers.{cholesky_out}
 use Rattle.inertia.specs.declared.triangle.Cholesky3.{Cholesky3}
 use Rattle.inertia.specs.declared.triangle.CholeskyError.{CholeskyError}
-use Rattle.inertia.specs.declared.triangle.Factored.{Factored}
-use Rattle.inertia.specs.declared.triangle.Factored.TheVariants as factors
-use Rattle.inertia.specs.declared.inverse.Inverted.{Inverted}
-use Rattle.inertia.specs.declared.inverse.Inverted.TheVariants.{Inverse, Refused}
 use Rattle.inertia.proofs.Inverting.{inverse_done}
 use Rattle.inertia.proofs.Pivot.{above_positive}
 use Rattle.inertia.proofs.Scale.{scale_unsigned, scale_positive}
@@ -231,12 +228,12 @@ unfolding inverse_run
 going_meaning m i h = let (f, e, g) = (next_going (factor_run m) columns_run i).0 h in columns_meaning f i (factor_small m f e) g
 
 -- ---- of what `inverse_spd` answers
-module _ (m : Mat3) {r : Factored} (e : factor_run m ≡ factored_out r) where
-  pub inverse_means : {f : Cholesky3} (s : Inverted) → r ≡ factors.Factor f → columns_run f ≡ inverted_out s → InverseMeaning s
-  inverse_means s h k = record { accepted = λ i g. going_meaning m i (inverse_done m e s h k ∙ ap inverted_out g) }
+module _ (m : Mat3) {r : Result Cholesky3 CholeskyError} (e : factor_run m ≡ cholesky_out r) where
+  pub inverse_means : {f : Cholesky3} (s : Result Mat3 CholeskyError) → r ≡ Ok f → columns_run f ≡ cholesky_out s → InverseMeaning s
+  inverse_means s h k = record { accepted = λ i g. going_meaning m i (inverse_done m e s h k ∙ ap cholesky_out g) }
 
-pub inverse_none : (x : CholeskyError) → InverseMeaning (Refused x)
+pub inverse_none : (x : CholeskyError) → InverseMeaning (Err x)
 inverse_none x = record { accepted = λ i g. absurd (none g) }
   where
-    none : {i : Mat3} → Refused x ≡ Inverse i → ⊥
+    none : {i : Mat3} → Err x ≡ Ok i → ⊥
     none g = let z : ◌≡◌ {A = ℕ} 0 1 = cc in omega arith

@@ -11,19 +11,23 @@ use lib.Pow.{pow_pos}
 use lib.Ieee.{Float, nan, inf, fin, Format, binary64, low, up, down, le, lt, eq, fits, of_bits}
 use lib.Ieee.Positive.{positive}
 use lib.Ieee.Scale.{finite}
-use Rattle.loops.specs.Run.{going, ended}
+use Rattle.std.specs.Prelude.{Option, Result, Ok, Err, Some, None}
+use Rattle.loops.specs.Run.{Run, going, ended}
 use Rattle.loops.specs.Cleared.{plus_zero}
 use Rattle.loops.proofs.Loop.{on_going, on_ended}
+use Rattle.loops.proofs.Inverse.{apart}
 use Rattle.loops.proofs.Judge.{test_going, test_ended}
+use Rattle.std.specs.Result.{result_ok}
+use Rattle.std.proofs.lemmas.Option.{none-some}
+use Rattle.inertia.specs.Answers.{accepted_out}
+use Rattle.refusals.specs.Told.{told}
+use Rattle.refusals.specs.declared.Refusal.{Refusal}
 use Rattle.binary64.specs.Units.{units_of}
 use Rattle.binary64.specs.SquareRoot.{radicand, unsigned, NearestRoot, square_root}
 use Rattle.binary64.specs.Answer.{root_of, RootMeaning}
-use Rattle.binary64.specs.declared.square_root.RootAnswer.{RootAnswer}
-use Rattle.binary64.specs.declared.square_root.RootAnswer.TheVariants.{Value, Refused}
 use Rattle.binary64.proofs.Units.{units_of_lem, units_pos}
 use Rattle.inertia.specs.Triangle.{passes_pivot, pivot_run}
 use Rattle.inertia.specs.Meaning.{PivotTells}
-use Rattle.inertia.specs.declared.triangle.PivotRoot.TheVariants.{Root, NotPositive}
 
 -- ---- finite and not at most zero: above zero
 nought_is : plus_zero ≡ fin false 0 (pos 0)
@@ -49,7 +53,7 @@ above_positive x t h = go x t (subst (λ (z : Float). le x z ≡ false) nought_i
     go (fin false (suc m) e) t h = lt→ltb 0 (suc m) (zero-lt-suc m)
 
 -- ---- its root
-root_value_lem : (x : Float) → T (positive x) → root_of x ≡ Value (square_root binary64 x)
+root_value_lem : (x : Float) → T (positive x) → root_of x ≡ going (square_root binary64 x)
 unfolding root_of
 root_value_lem nan p = absurd p
 root_value_lem (inf s) p = absurd p
@@ -88,10 +92,10 @@ radicand_positive (fin true m e) t p = absurd p
 radicand_positive (fin false zero e) t p = absurd p
 radicand_positive (fin false (suc m) e) t p = mul-pos (units_pos binary64 false m e t) (pow_pos (low binary64))
 
-inside : {a b : Float} → Value a ≡ Value b → a ≡ b
+inside : {a b : Float} → ◌≡◌ {A = Run Float ℕ} (going a) (going b) → a ≡ b
 inside k = cc
 
-root_positive : (x : Float) {a : RootAnswer} {y : Float} → T (fits binary64 x) → T (positive x) → RootMeaning x a → a ≡ Value y → T (positive y)
+root_positive : (x : Float) {a : Run Float ℕ} {y : Float} → T (fits binary64 x) → T (positive x) → RootMeaning x a → a ≡ going y → T (positive y)
 root_positive x t p m v =
     let (z, e) = m.nearest p in
     subst (λ (y : Float). T (positive y)) (inside (sym e.0 ∙ v)) (nearest_positive x z (radicand_positive x t p) e.1)
@@ -114,34 +118,31 @@ module _ (x : Float) {r : Bool} (e : r ≡ finite x) where
   unfolding passes_pivot
   pivot_low h l = off x (rw (← e, not-false r h, l))
 
-  module _ (h : not r ≡ false) (l : le x plus_zero ≡ false) {a : RootAnswer} (q : a ≡ root_of x) where
-    known : a ≡ Value (square_root binary64 x)
-    known = q ∙ root_value_lem x (above_positive x (sym e ∙ not-false r h) l)
+  module _ (h : not r ≡ false) (l : le x plus_zero ≡ false) where
+    known : root_of x ≡ going (square_root binary64 x)
+    known = root_value_lem x (above_positive x (sym e ∙ not-false r h) l)
 
-    pub pivot_root : {y : Float} → a ≡ Value y → pivot_run x ≡ going y
+    -- refusal 19 is never met
+    pub pivot_root : (a : Result Float Refusal) {o : Option Float} → told a ≡ root_of x → o ≡ result_ok a → pivot_run x ≡ accepted_out o
     unfolding passes_pivot
-    pivot_root {y} v = well x (rw (← e, not-false r h, l)) ∙ ap going (inside (sym known ∙ v))
-
-    pub pivot_never : {n : ℕ} → a ≡ Refused n → pivot_run x ≡ ended 23
-    pivot_never v = absurd (apart (sym known ∙ v))
-      where
-        apart : {a : Float} {n : ℕ} → Value a ≡ Refused n → ⊥
-        apart k = let z : ◌≡◌ {A = ℕ} 0 1 = cc in omega arith
+    pivot_root (Ok y) q v = well x (rw (← e, not-false r h, l)) ∙ ap going (inside (sym (q ∙ known))) ∙ sym (ap accepted_out v)
+    pivot_root (Err n) q v = absurd (apart _ known (sym q))
 
 -- ---- what an accepted pivot tells
 held : {b : Bool} → b ≡ true → T b
 held e = rw e tt
 
-pub pivot_tells : (x : Float) {r : Bool} {a : RootAnswer} {y : Float} → T (fits binary64 x) → r ≡ finite x → not r ≡ false → le x plus_zero ≡ false → RootMeaning x a → a ≡ Value y → PivotTells x (Root y)
-pivot_tells x {r = r} {y = y} t e h l m v =
+pub pivot_tells : (x : Float) {r : Bool} (a : Result Float Refusal) {o : Option Float} → T (fits binary64 x) → r ≡ finite x → not r ≡ false → le x plus_zero ≡ false → RootMeaning x (told a) → o ≡ result_ok a → PivotTells x o
+pivot_tells x {r = r} a t e h l m v =
     let f = sym e ∙ not-false r h in
-    record { accepted = λ p k. (held f, subst (λ (z : Float). T (positive z)) (root_inside k) (root_positive x t (above_positive x f l) m v)) }
+    record { accepted = λ p k. (held f, root_positive x t (above_positive x f l) m (ap told (was a (sym v ∙ k)))) }
   where
-    root_inside : {a b : Float} → Root a ≡ Root b → a ≡ b
-    root_inside k = cc
+    was : (a : Result Float Refusal) {p : Float} → result_ok a ≡ Some p → a ≡ Ok p
+    was (Ok y) k = let e : y ≡ _ = cc in ap Ok e
+    was (Err n) k = absurd (none-some _ k)
 
-pub pivot_none : (x : Float) → PivotTells x NotPositive
+pub pivot_none : (x : Float) → PivotTells x None
 pivot_none x = record { accepted = λ p k. absurd (none k) }
   where
-    none : {p : Float} → NotPositive ≡ Root p → ⊥
+    none : {p : Float} → None ≡ Some p → ⊥
     none k = let z : ◌≡◌ {A = ℕ} 0 1 = cc in omega arith

@@ -1,17 +1,12 @@
 -- What an accepted factor is, whatever the matrix was: its pivots are above zero, its numbers are finite, and so is its scale.
-use Rattle.std.specs.Prelude.{◌≡◌, T, Float}
+use Rattle.std.specs.Prelude.{◌≡◌, T, Float, Option, Some, Result, Ok}
 use Rattle.std.specs.Float.Ieee.Scale.{finite}
 use Rattle.std.specs.Float.Ieee.Positive.{positive}
 use Rattle.loops.specs.Cleared.{plus_zero}
 use Rattle.kapitsa_math.specs.Vector.{is_finite_of}
 use Rattle.kapitsa_math.specs.declared.vector.Vec3.{Vec3}
 use Rattle.inertia.specs.declared.triangle.Cholesky3.{Cholesky3}
-use Rattle.inertia.specs.declared.triangle.PivotRoot.{PivotRoot}
-use Rattle.inertia.specs.declared.triangle.PivotRoot.TheVariants as pivots
-use Rattle.inertia.specs.declared.triangle.Row.{Row}
-use Rattle.inertia.specs.declared.triangle.Row.TheVariants as rows
-use Rattle.inertia.specs.declared.triangle.Factored.{Factored}
-use Rattle.inertia.specs.declared.triangle.Factored.TheVariants as factors
+use Rattle.inertia.specs.declared.triangle.CholeskyError.{CholeskyError}
 
 -- ---- the factor
 pub record TriangleMeaning (f : Cholesky3) : Type 0 where
@@ -23,16 +18,16 @@ pub record CholeskyMeaning (f : Cholesky3) : Type 0 where
   pub triangle : TriangleMeaning f
   pub scaled : T (positive f.scale)
 
-pub record FactorMeaning (r : Factored) : Type 0 where
-  pub accepted : (f : Cholesky3) → r ≡ factors.Factor f → CholeskyMeaning f
+pub record FactorMeaning (r : Result Cholesky3 CholeskyError) : Type 0 where
+  pub accepted : (f : Cholesky3) → r ≡ Ok f → CholeskyMeaning f
 
 -- ---- the same of its parts
-pub record TriangleTells (r : Factored) : Type 0 where
-  pub accepted : (f : Cholesky3) → r ≡ factors.Factor f → TriangleMeaning f
+pub record TriangleTells (r : Result Cholesky3 CholeskyError) : Type 0 where
+  pub accepted : (f : Cholesky3) → r ≡ Ok f → TriangleMeaning f
 
 -- a pivot is finite, and its root p above zero
-pub record PivotTells (value : Float) (r : PivotRoot) : Type 0 where
-  pub accepted : (p : Float) → r ≡ pivots.Root p → T (finite value) × T (positive p)
+pub record PivotTells (value : Float) (r : Option Float) : Type 0 where
+  pub accepted : (p : Float) → r ≡ Some p → T (finite value) × T (positive p)
 
 pub record FirstMeaning (row : Vec3) : Type 0 where
   pub pivot : T (positive row.x)
@@ -47,5 +42,5 @@ pub record ThirdMeaning (row : Vec3) : Type 0 where
   pub left : T (finite row.x) × T (finite row.y)
   pub pivot : T (positive row.z)
 
-pub record RowTells (Means : Vec3 → Type 0) (r : Row) : Type 0 where
-  pub accepted : (row : Vec3) → r ≡ rows.Done row → Means row
+pub record RowTells (Means : Vec3 → Type 0) (r : Option Vec3) : Type 0 where
+  pub accepted : (row : Vec3) → r ≡ Some row → Means row

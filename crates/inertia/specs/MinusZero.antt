@@ -1,11 +1,10 @@
 -- What an inverse is, whatever the matrix was: its nine numbers are finite, and none of them is -0.0. So a sum that begins at -0.0 in place of +0.0 can't show in it.
-use Rattle.std.specs.Prelude.{zero, suc, Bool, true, false, ◌≡◌, T, Float}
+use Rattle.std.specs.Prelude.{zero, suc, Bool, true, false, ◌≡◌, T, Float, Result, Ok}
 use Rattle.std.specs.Float.{nan, inf, fin}
 use Rattle.kapitsa_math.specs.Matrix.{finite_columns_of}
 use Rattle.kapitsa_math.specs.declared.vector.Vec3.{Vec3}
 use Rattle.kapitsa_math.specs.declared.matrix.Mat3.{Mat3}
-use Rattle.inertia.specs.declared.inverse.Inverted.{Inverted}
-use Rattle.inertia.specs.declared.inverse.Inverted.TheVariants.{Inverse}
+use Rattle.inertia.specs.declared.triangle.CholeskyError.{CholeskyError}
 
 unfoldable pub no_minus_zero : Float → Bool
 no_minus_zero nan = true
@@ -25,5 +24,5 @@ pub record MatrixMeaning (m : Mat3) : Type 0 where
   pub y : NoMinusZeros m.y
   pub z : NoMinusZeros m.z
 
-pub record InverseMeaning (r : Inverted) : Type 0 where
-  pub accepted : (m : Mat3) → r ≡ Inverse m → MatrixMeaning m
+pub record InverseMeaning (r : Result Mat3 CholeskyError) : Type 0 where
+  pub accepted : (m : Mat3) → r ≡ Ok m → MatrixMeaning m

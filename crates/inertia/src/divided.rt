@@ -8,6 +8,7 @@ use kapitsa_math::{Mat3, Vec3};
 const SYMMETRY_TOLERANCE: f64 = 7.105427357601002e-15;
 
 // The largest of `least` and the sizes of three numbers.
+#[tactic(auto, unfolding(crate::specs::Divided::largest_of))]
 fn largest(v: Vec3, least: f64) -> f64
     ensures { result ≡ largest_of v least }
 {
@@ -15,6 +16,7 @@ fn largest(v: Vec3, least: f64) -> f64
     binary64::max(binary64::max(binary64::max(least, s.x), s.y), s.z)
 }
 
+#[tactic(auto, unfolding(crate::specs::Divided::scale_of))]
 pub fn scale_of(m: Mat3) -> f64
     ensures { result ≡ scale_of m }
 {
@@ -24,6 +26,7 @@ pub fn scale_of(m: Mat3) -> f64
     largest(z, largest(y, largest(x, 0.0)))
 }
 
+#[tactic(auto, unfolding(crate::specs::Divided::divided_vec_of))]
 pub fn divided_vec(v: Vec3, scale: f64) -> Vec3
     ensures { result ≡ divided_vec_of v scale }
 {
@@ -34,6 +37,7 @@ pub fn divided_vec(v: Vec3, scale: f64) -> Vec3
     }
 }
 
+#[tactic(auto, unfolding(crate::specs::Divided::divided_of))]
 pub fn divided(m: Mat3, scale: f64) -> Mat3
     ensures { result ≡ divided_of m scale }
 {
@@ -47,6 +51,7 @@ pub fn divided(m: Mat3, scale: f64) -> Mat3
     }
 }
 
+#[tactic(auto, unfolding(crate::specs::Divided::near_of))]
 fn near(a: f64, b: f64) -> bool
     ensures { result ≡ near_of a b }
 {
@@ -54,6 +59,7 @@ fn near(a: f64, b: f64) -> bool
 }
 
 // Refusal 22, on the divided numbers: true where it does not apply.
+#[tactic(auto, unfolding(crate::specs::Divided::symmetric_of))]
 pub fn symmetric(n: Mat3) -> bool
     ensures { result ≡ symmetric_of n }
 {

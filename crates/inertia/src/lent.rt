@@ -2,9 +2,10 @@
 ghost use Rattle.std.specs.Prelude.{◌≡◌, length};
 ghost use Rattle.inertia.specs.Lent.{mat_of, nine_of, nines_fit, InverseTold};
 
-use crate::inverse::{Inverted, inverse_spd};
+use crate::inverse::inverse_spd;
 use kapitsa_math::{Mat3, put_vec, vec_at};
 
+#[tactic(auto, unfolding(crate::specs::Lent::mat_of))]
 pub fn mat_at(numbers: &[f64]) -> Mat3
     requires { length numbers.now ≡ 9 }
     ensures { result ≡ mat_of numbers.now }
@@ -26,6 +27,7 @@ pub fn put_mat(out: &mut [f64], m: Mat3)
 }
 
 // Refusal 3: true where it does not apply.
+#[tactic(auto, unfolding(crate::specs::Lent::nines_fit))]
 fn nines_fit(inertia: &[f64], inverse: &[f64]) -> bool
     ensures { result ≡ nines_fit inertia.now inverse.now }
 {
@@ -40,10 +42,10 @@ pub fn inverse_in(inertia: &[f64], inverse: &mut [f64]) -> u32
         return 3;
     }
     match inverse_spd(mat_at(inertia)) {
-        Inverted::Inverse(m) => {
+        Ok(m) => {
             put_mat(inverse, m);
             0
         }
-        Inverted::Refused(error) => error.number(),
+        Err(error) => error.number(),
     }
 }

@@ -10,7 +10,7 @@ pub mod substitution; // substitution.rt: Cholesky3::solve, forward and backward
 pub mod triangle; // triangle.rt: Cholesky3 and its errors, and the triangle row by row
 
 pub use factor::factor_spd;
-pub use inverse::{Inverted, inverse_spd};
+pub use inverse::inverse_spd;
 pub use lent::{inverse_in, mat_at, put_mat};
-pub use substitution::{Solved, solve};
-pub use triangle::{Cholesky3, CholeskyError, Factored};
+pub use substitution::solve;
+pub use triangle::{Cholesky3, CholeskyError};

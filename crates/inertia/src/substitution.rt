@@ -1,17 +1,11 @@
 // Cholesky3::solve of matrix.rs: total for any Cholesky3, whoever made it. Refusals 21 and 12.
 ghost use Rattle.std.specs.Prelude.{◌≡◌};
 ghost use Rattle.inertia.specs.Solve.{forward_of, backward_of, solve_run};
-ghost use Rattle.inertia.specs.Answers.{solved_out};
+ghost use Rattle.inertia.specs.Answers.{cholesky_out};
 
 use crate::divided::divided_vec;
 use crate::triangle::{Cholesky3, CholeskyError};
 use kapitsa_math::Vec3;
-
-#[derive(Clone, Copy)]
-pub enum Solved {
-    Solution(Vec3),
-    Refused(CholeskyError),
-}
 
 fn forward(f: Cholesky3, b: Vec3) -> Vec3
     ensures { result ≡ forward_of f b }
@@ -37,19 +31,19 @@ fn backward(f: Cholesky3, v: Vec3) -> Vec3
     Vec3 { x: x, y: y, z: z }
 }
 
-pub fn solve(f: Cholesky3, rhs: Vec3) -> Solved
-    ensures { solve_run f rhs ≡ solved_out result }
+pub fn solve(f: Cholesky3, rhs: Vec3) -> Result<Vec3, CholeskyError>
+    ensures { solve_run f rhs ≡ cholesky_out result }
 {
     if !rhs.is_finite() {
-        return Solved::Refused(CholeskyError::NonFiniteInput);
+        return Err(CholeskyError::NonFiniteInput);
     }
     let b = divided_vec(rhs, f.scale);
     if !b.is_finite() {
-        return Solved::Refused(CholeskyError::ResultOutOfRange);
+        return Err(CholeskyError::ResultOutOfRange);
     }
     let solution = backward(f, forward(f, b));
     if !solution.is_finite() {
-        return Solved::Refused(CholeskyError::ResultOutOfRange);
+        return Err(CholeskyError::ResultOutOfRange);
     }
-    Solved::Solution(solution)
+    Ok(solution)
 }

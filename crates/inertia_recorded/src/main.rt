@@ -22,8 +22,7 @@ fn tallied(rt: &HostRuntime, space: &mut [u8]) -> Tally
     requires { length space.old ≡ 256 }
 {
     let mut tally = Tally::none();
-    let mut left: u32 = 10000000;
-    while 0 < left {
+    for _ in 0..10000000 {
         let n = read_full(rt, space);
         if n == 0 {
             return tally;
@@ -32,7 +31,6 @@ fn tallied(rt: &HostRuntime, space: &mut [u8]) -> Tally
             return tally.cut_short();
         }
         tally = tally.with(seen(space));
-        left -= 1;
     }
     tally
 }

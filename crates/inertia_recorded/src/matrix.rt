@@ -2,7 +2,7 @@
 ghost use Rattle.std.specs.Prelude.{◌+◌, ◌≤◌, length};
 
 use crate::tally::{DIFFER, SIGN, Seen};
-use inertia::{Cholesky3, Factored, Inverted, Solved, factor_spd, inverse_spd, solve};
+use inertia::{Cholesky3, factor_spd, inverse_spd, solve};
 use kapitsa_math::{Mat3, Vec3};
 use little_endian::{double, word};
 
@@ -10,11 +10,7 @@ use little_endian::{double, word};
 fn byte(bytes: &[u8], at: usize) -> u32
     requires { at + 1 ≤ length bytes.now }
 {
-    wide(bytes[at])
-}
-
-fn wide(x: u8) -> u32 {
-    x as u32
+    u32::from(bytes[at])
 }
 
 fn vec(bytes: &[u8], at: usize) -> Vec3
@@ -86,8 +82,8 @@ fn solve_seen(bytes: &[u8], f: Cholesky3) -> u32
 {
     let number = byte(bytes, 73);
     match solve(f, vec(bytes, 136)) {
-        Solved::Solution(v) => same(0, number) | vec_alike(bytes, 160, v),
-        Solved::Refused(error) => same(error.number(), number),
+        Ok(v) => same(0, number) | vec_alike(bytes, 160, v),
+        Err(error) => same(error.number(), number),
     }
 }
 
@@ -96,8 +92,8 @@ fn factor_seen(bytes: &[u8], m: Mat3) -> u32
 {
     let number = byte(bytes, 72);
     match factor_spd(m) {
-        Factored::Factor(f) => same(0, number) | triangle_seen(bytes, f) | solve_seen(bytes, f),
-        Factored::Refused(error) => same(error.number(), number),
+        Ok(f) => same(0, number) | triangle_seen(bytes, f) | solve_seen(bytes, f),
+        Err(error) => same(error.number(), number),
     }
 }
 
@@ -107,8 +103,8 @@ fn inverse_seen(bytes: &[u8], m: Mat3) -> u32
 {
     let number = byte(bytes, 74);
     match inverse_spd(m) {
-        Inverted::Inverse(i) => columns_seen(bytes, i) | same(0, number),
-        Inverted::Refused(error) => same(error.number(), number),
+        Ok(i) => columns_seen(bytes, i) | same(0, number),
+        Err(error) => same(error.number(), number),
     }
 }
 

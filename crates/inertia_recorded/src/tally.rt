@@ -1,6 +1,6 @@
 // The counts.
 // What is seen of a record: the inverse's number (of a factor by hand the solve's), and how it compares.
-#[derive(Clone, Copy)]
+#[derive(Clone, Copy, Debug, PartialEq, Eq)]
 pub struct Seen {
     pub by_hand: bool,
     pub number: u32,
@@ -12,7 +12,7 @@ pub const SIGN: u32 = 1;
 
 pub const DIFFER: u32 = 2;
 
-#[derive(Clone, Copy)]
+#[derive(Clone, Copy, Debug, PartialEq, Eq)]
 pub struct Tally {
     pub matrices: u32,
     pub accepted: u32,

@@ -1,19 +1,18 @@
 -- What 1 to 3 have passed: `opened_file`. Assumes nothing.
 use Prim.Native.Nat.{ℕ, ◌-◌, ◌≤◌}
-use mathlib.Core.Path.{◌≡◌}
+use mathlib.Core.Path.{◌≡◌, refl}
 use mathlib.Core.Bool.{true, ◌&&◌}
 use mathlib.Core.List.{List}
 use lib.Dec.{leb}
 use lib.ListN.{length}
 use borrow.Author.Tests.{leb-true}
+use Rattle.loops.specs.Run.{going}
 use Rattle.loops.proofs.Both.{both}
 use Rattle.joint_refusals.specs.Counts.{table_counts_fit, counts_fit}
 use Rattle.job_file.specs.File.{trailer_of}
 use Rattle.job_file.specs.Refusals.{size_fits, limits_fit, apart, ends_fit, sections_fit, passes1, passes2, passes3}
 use Rattle.job_file.specs.Job.{opened_of}
 use Rattle.job_file.specs.declared.trailer.Trailer.{Trailer}
-use Rattle.job_file.specs.declared.judge.FileJudged.{FileJudged}
-use Rattle.job_file.specs.declared.judge.FileJudged.TheVariants.{Passed}
 use Rattle.job_file.proofs.Judgement.{passed, rows_inside, masses_inside, spare_passed}
 use Rattle.job_converter.specs.Opened.{Opened}
 
@@ -35,17 +34,16 @@ module _ (file : List ℕ) where
   unfolding passes3 counts_fit
   mode_few h = let t = trailer_of file in let (_, m) = both (table_counts_fit t.rows t.bodies) (leb t.mode 2) h in leb-true _ _ m
 
-  module _ {r : FileJudged} (o : r ≡ opened_of file) {t : Trailer} (e : r ≡ Passed t) where
-    pub opened_file : Opened file t
-    opened_file =
-        let p = passed file o e in
-        record {
-          same = p.same;
-          long = long_file p.one;
-          few_rows = rw p.same (few_counted p.two).0;
-          few_bodies = rw p.same (few_counted p.two).1;
-          mode_known = rw p.same (mode_few p.three);
-          spare_known = spare_passed file o e;
-          rows_inside = rows_inside file o e;
-          masses_inside = masses_inside file o e;
-        }
+  pub opened_file : {t : Trailer} → going t ≡ opened_of file → Opened file t
+  opened_file o =
+      let p = passed file o refl in
+      record {
+        same = p.same;
+        long = long_file p.one;
+        few_rows = rw p.same (few_counted p.two).0;
+        few_bodies = rw p.same (few_counted p.two).1;
+        mode_known = rw p.same (mode_few p.three);
+        spare_known = spare_passed file o refl;
+        rows_inside = rows_inside file o refl;
+        masses_inside = masses_inside file o refl;
+      }

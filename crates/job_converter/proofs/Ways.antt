@@ -3,8 +3,6 @@ use Prim.Native.Nat.{ℕ, ◌<◌, ◌≤◌}
 use mathlib.Core.Path.{◌≡◌, refl, sym, ap, ◌∙◌}
 use mathlib.Core.Bool.{Bool, true, false, ◌&&◌}
 use mathlib.Core.List.{List, [], ◌∷◌}
-use mathlib.Core.Logic.{◌≢◌}
-use native.Mathlib.Omega.{arith}
 use lib.Dec.{leb, eqb}
 use borrow.Author.Tests.{le-leb, lt-leb, eq-eqb, leb-true, eqb-true}
 use Rattle.loops.specs.Run.{Run, going, ended, on, next, check}
@@ -14,13 +12,11 @@ use Rattle.job_file.specs.File.{trailer_of}
 use Rattle.job_file.specs.Refusals.{keys_fit, passes4}
 use Rattle.job_file.specs.Job.{answer_of, opened_of}
 use Rattle.job_file.specs.declared.trailer.Trailer.{Trailer}
-use Rattle.job_file.specs.declared.judge.FileJudged.{FileJudged}
-use Rattle.job_file.specs.declared.judge.FileJudged.TheVariants.{Passed, Refused}
 use Rattle.job_file.proofs.Judgement.{passed}
 use Rattle.job_writer.specs.JobBits.{job_bits_of}
 use Rattle.job_writer.specs.Written.{written}
 use Rattle.job_converter.specs.Opened.{Opened}
-use Rattle.job_converter.specs.Converted.{in_layout, converted_length, output_fits, last_tests, number_of, converted_of}
+use Rattle.job_converter.specs.Converted.{in_layout, converted_length, output_fits, last_tests, converted_of}
 
 -- ---- 3 of the output
 
@@ -51,15 +47,15 @@ module _ (d e : Bool) where
   abbrev two : Run Unit ℕ
   two = judge ((4, d) ∷ (24, e) ∷ [])
 
-  pub last_4 : d ≡ false → 4 ≡ number_of two
+  pub last_4 : d ≡ false → ended 4 ≡ two
   unfolding judge test check on
   last_4 p = rw p
 
-  pub last_24 : d ≡ true → e ≡ false → 24 ≡ number_of two
+  pub last_24 : d ≡ true → e ≡ false → ended 24 ≡ two
   unfolding judge test check on
   last_24 p q = rw (p, q)
 
-  pub last_none : d ≡ true → e ≡ true → 0 ≡ number_of two
+  pub last_none : d ≡ true → e ≡ true → going tt ≡ two
   unfolding judge test check on
   last_none p q = rw (p, q)
 
@@ -68,50 +64,43 @@ module _ (d e : Bool) where
 abbrev five : Bool → Bool → Bool → Bool → Bool → Bool → List ℕ → Run (List ℕ) ℕ
 five a b c o d e file = next (judge ((1, a) ∷ (2, b) ∷ (3, c && o) ∷ (4, d) ∷ (24, e) ∷ [])) (λ _. going file)
 
-early : (t : Trailer) (a b c o d e : Bool) (file : List ℕ) (n : ℕ) → answer_of t ((1, a) ∷ (2, b) ∷ (3, c) ∷ []) ≡ Refused n → five a b c o d e file ≡ ended n
+early : (t : Trailer) (a b c o d e : Bool) (file : List ℕ) (n : ℕ) → answer_of t ((1, a) ∷ (2, b) ∷ (3, c) ∷ []) ≡ ended n → five a b c o d e file ≡ ended n
 unfolding answer_of judge test check on
 early t false b c o d e file n h = ap ended (cc)
 early t true false c o d e file n h = ap ended (cc)
 early t true true false o d e file n h = ap ended (cc)
-early t true true true o d e file n h = absurd (let z : ◌≡◌ {A = ℕ} 0 1 = cc in omega arith)
+early t true true true o d e file n h = cc
 
 way_3 : {a b c o : Bool} (d e : Bool) (file : List ℕ) → a ≡ true → b ≡ true → c ≡ true → o ≡ false → five a b c o d e file ≡ ended 3
 unfolding judge test check on
 way_3 d e file p q r s = rw (p, q, r, s)
 
-way_last : {a b c o : Bool} (d e : Bool) (file : List ℕ) (n : ℕ) → a ≡ true → b ≡ true → c ≡ true → o ≡ true → n ≡ number_of (two d e) → n ≢ 0 → five a b c o d e file ≡ ended n
+-- 1 to 3 have passed
+way_two : {a b c o : Bool} (d e : Bool) (file : List ℕ) {r : Run Unit ℕ} → a ≡ true → b ≡ true → c ≡ true → o ≡ true → r ≡ two d e → five a b c o d e file ≡ next r (λ _. going file)
 unfolding judge test check on
-way_last false e file n p q r s h z = rw (p, q, r, s, h)
-way_last true false file n p q r s h z = rw (p, q, r, s, h)
-way_last true true file n p q r s h z = absurd (z h)
+way_two d e file p q r s l = rw (p, q, r, s, l)
 
-way_going : {a b c o : Bool} (d e : Bool) (file : List ℕ) (n : ℕ) → a ≡ true → b ≡ true → c ≡ true → o ≡ true → n ≡ number_of (two d e) → n ≡ 0 → five a b c o d e file ≡ going file
-unfolding judge test check on
-way_going false e file n p q r s h z = absurd (omega arith)
-way_going true false file n p q r s h z = absurd (omega arith)
-way_going true true file n p q r s h z = rw (p, q, r, s)
-
-module _ (file : List ℕ) (layout out : ℕ) {r : FileJudged} (o : r ≡ opened_of file) where
-  pub convert_early : {n : ℕ} → r ≡ Refused n → converted_of file layout out ≡ ended n
+module _ (file : List ℕ) (layout out : ℕ) where
+  pub convert_early : {n : ℕ} → ended n ≡ opened_of file → converted_of file layout out ≡ ended n
   unfolding converted_of opened_of
-  convert_early {n} e = early _ _ _ _ _ _ _ _ n (sym o ∙ e)
+  convert_early {n} o = early _ _ _ _ _ _ _ _ n (sym o)
 
-  module _ {t : Trailer} (e : r ≡ Passed t) where
+  module _ {t : Trailer} (o : going t ≡ opened_of file) where
     output_same : output_fits t layout out ≡ output_fits (trailer_of file) layout out
-    output_same = ap (λ t. output_fits t layout out) (passed file o e).same
+    output_same = ap (λ t. output_fits t layout out) (passed file o refl).same
 
     pub convert_3 : output_fits t layout out ≡ false → converted_of file layout out ≡ ended 3
     unfolding converted_of
-    convert_3 h = let p = passed file o e in way_3 _ _ _ p.one p.two p.three (sym output_same ∙ h)
+    convert_3 h = let p = passed file o refl in way_3 _ _ _ p.one p.two p.three (sym output_same ∙ h)
 
-    module _ (h : output_fits t layout out ≡ true) {n : ℕ} (l : n ≡ number_of (judge (last_tests file layout))) where
-      pub convert_last : n ≢ 0 → converted_of file layout out ≡ ended n
-      unfolding converted_of
-      convert_last z = let p = passed file o e in way_last _ _ _ n p.one p.two p.three (sym output_same ∙ h) l z
+    module _ (h : output_fits t layout out ≡ true) where
+      pub convert_last : {n : ℕ} → ended n ≡ judge (last_tests file layout) → converted_of file layout out ≡ ended n
+      unfolding converted_of on
+      convert_last l = let p = passed file o refl in way_two _ _ _ p.one p.two p.three (sym output_same ∙ h) l
 
-      pub convert_going : n ≡ 0 → converted_of file layout out ≡ going (written (in_layout layout (job_bits_of file)))
-      unfolding converted_of
-      convert_going z = let p = passed file o e in way_going _ _ _ n p.one p.two p.three (sym output_same ∙ h) l z
+      pub convert_going : going tt ≡ judge (last_tests file layout) → converted_of file layout out ≡ going (written (in_layout layout (job_bits_of file)))
+      unfolding converted_of on
+      convert_going l = let p = passed file o refl in way_two _ _ _ p.one p.two p.three (sym output_same ∙ h) l
 
 -- 4 of an opened file
 pub keys_same : {file : List ℕ} {t : Trailer} {p : Bool} → Opened file t → p ≡ keys_fit file t.row_offset t.rows → p ≡ passes4 file

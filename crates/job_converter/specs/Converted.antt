@@ -1,6 +1,6 @@
 -- Document 02, e: "A converter reads a job file, refusing by 1 to 4, and writes its job as the writer does, with 104-byte masses, or back with the old ones (a job already there keeps its layout)."
 use Rattle.std.specs.Prelude.{ℕ, Bool, ◌&&◌, List, [], ◌∷◌, leb, eqb}
-use Rattle.loops.specs.Run.{Run, going, on, next}
+use Rattle.loops.specs.Run.{Run, going, next}
 use Rattle.loops.specs.Judge.{judge}
 use Rattle.job_file.specs.File.{trailer_of}
 use Rattle.job_file.specs.Refusals.{passes1, passes2, passes3, passes4}
@@ -31,10 +31,6 @@ last_tests file layout = (4, passes4 file) ∷ (24, centres_fit (file_centre_bit
 
 abbrev pub tests : List ℕ → ℕ → ℕ → List (ℕ × Bool)
 tests file layout out = (1, passes1 file) ∷ (2, passes2 file) ∷ (3, passes3 file && output_fits (trailer_of file) layout out) ∷ last_tests file layout
-
--- the number that a judgement answers: 0 where all pass
-abbrev pub number_of : Run Unit ℕ → ℕ
-number_of run = on run (λ _. 0) (λ n. n)
 
 -- the converted file, or the number of the refusal
 unfoldable pub converted_of : List ℕ → ℕ → ℕ → Run (List ℕ) ℕ

@@ -9,6 +9,7 @@ use job_file::row_word;
 use little_endian::word;
 
 // Number j of 27 of row i, where the row section begins at `offset`.
+#[tactic(auto, unfolding(job_file::specs::File::row_bits))]
 pub fn row_bits(file: &[u8], offset: usize, i: usize, j: usize) -> u64
     requires { number_place offset i j + 8 ≤ length file.now }
     ensures { result ≡ row_bits file.now offset i j }
@@ -17,6 +18,7 @@ pub fn row_bits(file: &[u8], offset: usize, i: usize, j: usize) -> u64
 }
 
 // Number j of 10 of body b, where the mass section begins at `offset` and the trailer has this spare.
+#[tactic(auto, unfolding(job_file::specs::File::mass_bits))]
 pub fn mass_bits(file: &[u8], offset: usize, spare: u32, b: usize, j: usize) -> u64
     requires { mass_place offset spare b j + 8 ≤ length file.now }
     ensures { result ≡ mass_bits file.now offset spare b j }
@@ -41,10 +43,8 @@ pub fn read_number_bits(file: &[u8], offset: usize, rows: usize, numbers: &mut [
     requires { (rows_end offset rows ≤ length file.now) × (length numbers.old ≡ 27 * rows) }
     ensures { numbers.new ≡ section_number_bits file.now offset rows }
 {
-    let mut k = 0;
-    while k < numbers.len() {
+    for k in 0..numbers.len() {
         numbers[k] = row_bits(file, offset, k / 27, k % 27);
-        k += 1;
     }
 }
 
@@ -53,10 +53,8 @@ pub fn read_words(file: &[u8], offset: usize, rows: usize, words: &mut [u32])
     requires { (rows_end offset rows ≤ length file.now) × (length words.old ≡ 8 * rows) }
     ensures { words.new ≡ section_words file.now offset rows }
 {
-    let mut k = 0;
-    while k < words.len() {
+    for k in 0..words.len() {
         words[k] = row_word(file, offset, k / 8, k % 8);
-        k += 1;
     }
 }
 
@@ -65,10 +63,8 @@ pub fn read_mass_bits(file: &[u8], offset: usize, spare: u32, bodies: usize, mas
     requires { (masses_end offset spare bodies ≤ length file.now) × (length masses.old ≡ 10 * bodies) }
     ensures { masses.new ≡ section_mass_bits file.now offset spare bodies }
 {
-    let mut k = 0;
-    while k < masses.len() {
+    for k in 0..masses.len() {
         masses[k] = mass_bits(file, offset, spare, k / 10, k % 10);
-        k += 1;
     }
 }
 
@@ -77,9 +73,7 @@ pub fn read_centre_bits(file: &[u8], offset: usize, spare: u32, bodies: usize, c
     requires { (masses_end offset spare bodies ≤ length file.now) × (length centres.old ≡ 3 * bodies) }
     ensures { centres.new ≡ section_centre_bits file.now offset spare bodies }
 {
-    let mut k = 0;
-    while k < centres.len() {
+    for k in 0..centres.len() {
         centres[k] = centre_bits(file, offset, spare, k / 3, k % 3);
-        k += 1;
     }
 }

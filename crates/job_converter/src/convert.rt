@@ -1,5 +1,6 @@
 // A job file to a job file in the layout asked for.
 ghost use Rattle.std.specs.Prelude.{◌≤◌, length};
+ghost use Rattle.refusals.specs.Told.{told};
 ghost use Rattle.listing.specs.Written.{Wrote};
 ghost use Rattle.job_writer.specs.JobBits.{job_bits_of};
 ghost use Rattle.job_writer.specs.Written.{written};
@@ -9,9 +10,10 @@ ghost use Rattle.job_converter.specs.Converted.{in_layout, converted_length, con
 
 use crate::judge::{judge_last, output_fits};
 use crate::read::{read_bits, read_head};
+use job_file::Trailer;
 use job_file::judge::judge_trailer;
-use job_file::{FileJudged, Trailer};
 use job_writer::fill_job;
+use refusals::Refusal;
 
 // The job through memory as long as its counts call for.
 fn fill_lent(
@@ -62,23 +64,15 @@ pub fn fill_converted(file: &[u8], trailer: Trailer, layout: u32, out: &mut [u8]
     )
 }
 
-// Writes the file's job into `out` in this layout and answers 0, or answers the number of the refusal and writes nothing.
-pub fn convert_job(file: &[u8], layout: u32, out: &mut [u8]) -> u32
-    ensures { Answers (converted_of file.now layout (length out.old)) out.old result out.new }
+// Writes the file's job into `out` in this layout, or answers the refusal and writes nothing.
+pub fn convert_job(file: &[u8], layout: u32, out: &mut [u8]) -> Result<(), Refusal>
+    ensures { Answers (converted_of file.now layout (length out.old)) out.old (told result) out.new }
 {
-    let opened = judge_trailer(file);
-    match opened {
-        FileJudged::Refused(number) => number,
-        FileJudged::Passed(trailer) => {
-            if !output_fits(trailer, layout, out.len()) {
-                return 3;
-            }
-            let refusal = judge_last(file, trailer, layout);
-            if refusal != 0 {
-                return refusal;
-            }
-            fill_converted(file, trailer, layout, out);
-            0
-        }
+    let trailer = judge_trailer(file)?;
+    if !output_fits(trailer, layout, out.len()) {
+        return Err(Refusal::Length);
     }
+    judge_last(file, trailer, layout)?;
+    fill_converted(file, trailer, layout, out);
+    Ok(())
 }

@@ -3,12 +3,14 @@ ghost use Rattle.std.specs.Prelude.{◌≡◌, ◌≤◌};
 ghost use Rattle.job_writer.specs.JobBits.{file_centre_bits};
 ghost use Rattle.job_writer.specs.Refusals.{centres_fit};
 ghost use Rattle.job_converter.specs.Opened.{Opened};
-ghost use Rattle.job_converter.specs.Converted.{output_fits, last_tests, number_of};
+ghost use Rattle.job_converter.specs.Converted.{output_fits, last_tests};
 ghost use Rattle.loops.specs.Judge.{judge};
+ghost use Rattle.refusals.specs.Told.{told};
 
 use crate::bits::read_centre_bits;
 use job_file::{Trailer, keys_fit};
 use job_writer::{centres_fit, file_length};
+use refusals::Refusal;
 
 // Is the layout known, and has the output the length that it calls for?
 pub fn output_fits(trailer: Trailer, layout: u32, out: usize) -> bool
@@ -35,16 +37,16 @@ fn file_centres_fit(file: &[u8], trailer: Trailer, layout: u32) -> bool
     centres_fit(lent, layout)
 }
 
-// 4, then 24: the number of the refusal, or 0.
-pub fn judge_last(file: &[u8], trailer: Trailer, layout: u32) -> u32
+// 4, then 24.
+pub fn judge_last(file: &[u8], trailer: Trailer, layout: u32) -> Result<(), Refusal>
     requires { Opened file.now trailer }
-    ensures { result ≡ number_of (judge (last_tests file.now layout)) }
+    ensures { told result ≡ judge (last_tests file.now layout) }
 {
     if !keys_fit(file, trailer.row_offset as usize, trailer.rows as usize) {
-        return 4;
+        return Err(Refusal::Word);
     }
     if !file_centres_fit(file, trailer, layout) {
-        return 24;
+        return Err(Refusal::Layout);
     }
-    0
+    Ok(())
 }

@@ -1,22 +1,20 @@
 -- The ways through the tests 1 to 4, as the code takes them, and what a file that has passed holds. Assumes nothing.
 use Prim.Native.Nat.{ℕ, ◌+◌, ◌*◌, ◌-◌, ◌<◌, ◌≤◌}
 use mathlib.Core.Path.{◌≡◌, refl, sym, ap, ◌∙◌}
-use mathlib.Core.Bool.{Bool, true, false, not, ◌&&◌}
+use mathlib.Core.Bool.{Bool, true, false, ◌&&◌}
 use mathlib.Core.List.{List, [], ◌∷◌}
 use native.Mathlib.Omega.{arith}
 use lib.Dec.{leb, eqb}
 use lib.ListN.{length}
-use borrow.Author.Tests.{not-true, not-false, le-leb, lt-leb, leb-true}
+use borrow.Author.Tests.{le-leb, lt-leb, leb-true}
 use Rattle.loops.proofs.Both.{both}
-use Rattle.loops.specs.Run.{on, check}
+use Rattle.loops.specs.Run.{Run, going, ended, on, check}
 use Rattle.loops.specs.Judge.{judge, test}
 use Rattle.job_file.specs.Layout.{rows_end, masses_end}
 use Rattle.job_file.specs.File.{trailer_of}
 use Rattle.job_file.specs.Refusals.{size_fits, limits_fit, apart, ends_fit, sections_fit, trailer_counts_fit, keys_fit, passes1, passes2, passes3, passes4}
 use Rattle.job_file.specs.Job.{answer_of, opened_of, judged_of}
 use Rattle.job_file.specs.declared.trailer.Trailer.{Trailer}
-use Rattle.job_file.specs.declared.judge.FileJudged.{FileJudged}
-use Rattle.job_file.specs.declared.judge.FileJudged.TheVariants.{Passed, Refused}
 
 -- ---- 1 to 3
 
@@ -25,11 +23,11 @@ spare_fits : (t : Trailer) (n : ℕ) → size_fits t n ≡ true → t.spare ≤ 
 unfolding size_fits
 spare_fits t n h = let (_, s) = both (leb n 65536 && eqb t.file_length n) (leb t.spare 1) h in leb-true _ _ s
 
-pub spare_known : (t : Trailer) (n : ℕ) {p : Bool} → p ≡ size_fits t n → not p ≡ false → t.spare ≤ 1
-spare_known t n {p} one h = spare_fits t n (sym one ∙ not-false p h)
+pub spare_known : (t : Trailer) (n : ℕ) {p : Bool} → p ≡ size_fits t n → p ≡ true → t.spare ≤ 1
+spare_known t n {p} one h = spare_fits t n (sym one ∙ h)
 
 module _ (file : List ℕ) where
-  pub opened_short : length file < 48 → Refused 1 ≡ opened_of file
+  pub opened_short : length file < 48 → ended 1 ≡ opened_of file
   unfolding opened_of answer_of judge test check on passes1
   opened_short h = rw (lt-leb 48 (length file) h)
 
@@ -38,41 +36,41 @@ module _ (file : List ℕ) where
     unfolding passes1
     is1 = rw (le-leb 48 (length file) h) (one ∙ ap (λ t. size_fits t (length file)) e)
 
-    pub opened_1 : not p ≡ true → Refused 1 ≡ opened_of file
+    pub opened_1 : p ≡ false → ended 1 ≡ opened_of file
     unfolding opened_of answer_of judge test check on
-    opened_1 n = rw (← is1, not-true p n)
+    opened_1 n = rw (← is1, n)
 
-    module _ (p1 : not p ≡ false) {q : Bool} (two : q ≡ sections_fit t (length file - 48)) where
+    module _ (p1 : p ≡ true) {q : Bool} (two : q ≡ sections_fit t (length file - 48)) where
       is2 : q ≡ passes2 file
       unfolding passes2
       is2 = two ∙ ap (λ t. sections_fit t (length file - 48)) e
 
-      pub opened_2 : not q ≡ true → Refused 2 ≡ opened_of file
+      pub opened_2 : q ≡ false → ended 2 ≡ opened_of file
       unfolding opened_of answer_of judge test check on
-      opened_2 n = rw (← is1, not-false p p1, ← is2, not-true q n)
+      opened_2 n = rw (← is1, p1, ← is2, n)
 
-      module _ (p2 : not q ≡ false) {r : Bool} (three : r ≡ trailer_counts_fit t) where
+      module _ (p2 : q ≡ true) {r : Bool} (three : r ≡ trailer_counts_fit t) where
         is3 : r ≡ passes3 file
         unfolding passes3
         is3 = three ∙ ap trailer_counts_fit e
 
-        pub opened_3 : not r ≡ true → Refused 3 ≡ opened_of file
+        pub opened_3 : r ≡ false → ended 3 ≡ opened_of file
         unfolding opened_of answer_of judge test check on
-        opened_3 n = rw (← is1, not-false p p1, ← is2, not-false q p2, ← is3, not-true r n)
+        opened_3 n = rw (← is1, p1, ← is2, p2, ← is3, n)
 
-        pub opened_passed : not r ≡ false → Passed t ≡ opened_of file
+        pub opened_passed : r ≡ true → going t ≡ opened_of file
         unfolding opened_of answer_of judge test check on
-        opened_passed n = rw (← is1, not-false p p1, ← is2, not-false q p2, ← is3, not-false r n, e)
+        opened_passed n = rw (← is1, p1, ← is2, p2, ← is3, n, e)
 
 -- ---- where 1 to 3 are judged before more tests
 
 -- what the first three refuse, the longer lists refuse with the same number
-refused_longer : (t : Trailer) (a b c d : Bool) (n : ℕ) → answer_of t ((1, a) ∷ (2, b) ∷ (3, c) ∷ []) ≡ Refused n → answer_of t ((1, a) ∷ (2, b) ∷ (3, c) ∷ (4, d) ∷ []) ≡ Refused n
+refused_longer : (t : Trailer) (a b c d : Bool) (n : ℕ) → answer_of t ((1, a) ∷ (2, b) ∷ (3, c) ∷ []) ≡ ended n → answer_of t ((1, a) ∷ (2, b) ∷ (3, c) ∷ (4, d) ∷ []) ≡ ended n
 unfolding answer_of judge test check on
 refused_longer t false b c d n h = h
 refused_longer t true false c d n h = h
 refused_longer t true true false d n h = h
-refused_longer t true true true d n h = absurd (let z : ◌≡◌ {A = ℕ} 0 1 = cc in omega arith)
+refused_longer t true true true d n h = cc
 
 -- the three have passed, and the answer is the trailer
 pub record Three (a b c : Bool) (t u : Trailer) : Type 0 where
@@ -81,19 +79,19 @@ pub record Three (a b c : Bool) (t u : Trailer) : Type 0 where
   pub three : c ≡ true
   pub same : u ≡ t
 
-three_passed : (t u : Trailer) (a b c : Bool) → answer_of t ((1, a) ∷ (2, b) ∷ (3, c) ∷ []) ≡ Passed u → Three a b c t u
+three_passed : (t u : Trailer) (a b c : Bool) → answer_of t ((1, a) ∷ (2, b) ∷ (3, c) ∷ []) ≡ going u → Three a b c t u
 unfolding answer_of judge test check on
 three_passed t u true true true h = record { one = refl; two = refl; three = refl; same = cc }
-three_passed t u false b c h = absurd (let z : ◌≡◌ {A = ℕ} 0 1 = cc in omega arith)
-three_passed t u true false c h = absurd (let z : ◌≡◌ {A = ℕ} 0 1 = cc in omega arith)
-three_passed t u true true false h = absurd (let z : ◌≡◌ {A = ℕ} 0 1 = cc in omega arith)
+three_passed t u false b c h = cc
+three_passed t u true false c h = cc
+three_passed t u true true false h = cc
 
-module _ (file : List ℕ) {r : FileJudged} (o : r ≡ opened_of file) where
-  pub judged_early : {n : ℕ} → r ≡ Refused n → Refused n ≡ judged_of file
+module _ (file : List ℕ) {r : Run Trailer ℕ} (o : r ≡ opened_of file) where
+  pub judged_early : {n : ℕ} → r ≡ ended n → ended n ≡ judged_of file
   unfolding judged_of opened_of
   judged_early {n} e = sym (refused_longer _ _ _ _ _ n (sym o ∙ e))
 
-  module _ {t : Trailer} (e : r ≡ Passed t) where
+  module _ {t : Trailer} (e : r ≡ going t) where
     pub passed : Three (passes1 file) (passes2 file) (passes3 file) (trailer_of file) t
     unfolding opened_of
     passed = three_passed _ _ _ _ _ (sym o ∙ e)
@@ -122,10 +120,10 @@ module _ (file : List ℕ) {r : FileJudged} (o : r ≡ opened_of file) where
       unfolding passes4
       is4 = four ∙ ap (λ t. keys_fit file t.row_offset t.rows) passed.same
 
-      pub judged_4 : not p ≡ true → Refused 4 ≡ judged_of file
+      pub judged_4 : p ≡ false → ended 4 ≡ judged_of file
       unfolding judged_of answer_of judge test check on
-      judged_4 n = rw (passed.one, passed.two, passed.three, ← is4, not-true p n)
+      judged_4 n = rw (passed.one, passed.two, passed.three, ← is4, n)
 
-      pub judged_passed : not p ≡ false → Passed t ≡ judged_of file
+      pub judged_passed : p ≡ true → going t ≡ judged_of file
       unfolding judged_of answer_of judge test check on
-      judged_passed n = rw (passed.one, passed.two, passed.three, ← is4, not-false p n, passed.same)
+      judged_passed n = rw (passed.one, passed.two, passed.three, ← is4, n, passed.same)

@@ -14,24 +14,23 @@ use Rattle.loops.proofs.Judge.{judge_least}
 use Rattle.job_file.specs.File.{trailer_of}
 use Rattle.job_file.specs.Job.{Job, job_with, file_numbers, file_words, file_masses, file_centres, tests, job_of, answer_of, judged_of, read_of, lent_after, Reads}
 use Rattle.job_file.specs.declared.trailer.Trailer.{Trailer}
-use Rattle.job_file.specs.declared.judge.FileJudged.TheVariants.{Passed, Refused}
 
 -- ---- the answer and the judgement
 
-answer_passed : (t u : Trailer) (l : List (ℕ × Bool)) → answer_of t l ≡ Passed u → (judge l ≡ going tt) × (u ≡ t)
+answer_passed : (t u : Trailer) (l : List (ℕ × Bool)) → answer_of t l ≡ going u → (judge l ≡ going tt) × (u ≡ t)
 unfolding answer_of on
 answer_passed t u l h = go (judge l) h
   where
-    go : (r : Run Unit ℕ) → on r (λ _. Passed t) Refused ≡ Passed u → (r ≡ going tt) × (u ≡ t)
+    go : (r : Run Unit ℕ) → on r (λ _. going t) ended ≡ going u → (r ≡ going tt) × (u ≡ t)
     go (going s) h = (refl, cc)
-    go (ended n) h = absurd (let z : ◌≡◌ {A = ℕ} 0 1 = cc in omega arith)
+    go (ended n) h = cc
 
-answer_refused : (t : Trailer) (l : List (ℕ × Bool)) (n : ℕ) → (answer_of t l ≡ Refused n) ↔ (judge l ≡ ended n)
+answer_refused : (t : Trailer) (l : List (ℕ × Bool)) (n : ℕ) → (answer_of t l ≡ ended n) ↔ (judge l ≡ ended n)
 unfolding answer_of on
 answer_refused t l n = (there (judge l), λ h. on_ended _ _ _ h)
   where
-    there : (r : Run Unit ℕ) → on r (λ _. Passed t) Refused ≡ Refused n → r ≡ ended n
-    there (going s) h = absurd (let z : ◌≡◌ {A = ℕ} 0 1 = cc in omega arith)
+    there : (r : Run Unit ℕ) → on r (λ _. going t) ended ≡ ended n → r ≡ ended n
+    there (going s) h = cc
     there (ended k) h = ap ended (cc)
 
 -- ---- a file that passes holds the job that the definition gives
@@ -40,12 +39,12 @@ job_going : (file : List ℕ) → judge (tests file) ≡ going tt → job_of fil
 unfolding job_of
 job_going file h = on_going _ _ _ h
 
-pub passed_job : (file : List ℕ) {t : Trailer} → judged_of file ≡ Passed t → job_of file ≡ going (job_with t (file_numbers file) (file_words file) (file_masses file) (file_centres file))
+pub passed_job : (file : List ℕ) {t : Trailer} → judged_of file ≡ going t → job_of file ≡ going (job_with t (file_numbers file) (file_words file) (file_masses file) (file_centres file))
 unfolding judged_of
 passed_job file {t} h = let (j, e) = answer_passed (trailer_of file) t (tests file) h in job_going file j ∙ ap (λ t. going (job_with t (file_numbers file) (file_words file) (file_masses file) (file_centres file))) (sym e)
 
 -- one that is refused holds none, and the numbers are the same
-pub refused_job : (file : List ℕ) (n : ℕ) → (judged_of file ≡ Refused n) ↔ (job_of file ≡ ended n)
+pub refused_job : (file : List ℕ) (n : ℕ) → (judged_of file ≡ ended n) ↔ (job_of file ≡ ended n)
 unfolding judged_of job_of on
 refused_job file n = (λ h. on_ended _ _ _ ((answer_refused _ _ n).0 h), λ h. (answer_refused _ _ n).1 (back _ (judge (tests file)) h))
   where
@@ -54,7 +53,7 @@ refused_job file n = (λ h. on_ended _ _ _ ((answer_refused _ _ n).0 h), λ h. (
     back J (ended k) h = ap ended (ended_inj h)
 
 -- refused with n exactly where n's own test fails and none before it does
-pub refused_first : (file : List ℕ) (n : ℕ) → (judged_of file ≡ Refused n) ↔ (Fails (tests file) n × ((i : ℕ) → Fails (tests file) i → n ≤ i))
+pub refused_first : (file : List ℕ) (n : ℕ) → (judged_of file ≡ ended n) ↔ (Fails (tests file) n × ((i : ℕ) → Fails (tests file) i → n ≤ i))
 unfolding judged_of Rising
 refused_first file n =
     let least = judge_least (tests file) n (omega arith, (omega arith, (omega arith, (omega arith, tt)))) in
@@ -71,7 +70,7 @@ lent_passed t true true false e d h = h
 lent_passed t true true true true d h = h
 lent_passed t true true true false d h = absurd (apart _ h refl)
 
-pub read_job : (file : List ℕ) (numbers : List Float) (words : List ℕ) (masses centres : List Float) (t : Trailer) (numbers' : List Float) (words' : List ℕ) (masses' centres' : List Float) → Reads file numbers words masses centres (Passed t) numbers' words' masses' centres' → job_of file ≡ going (job_with t numbers' words' masses' centres')
+pub read_job : (file : List ℕ) (numbers : List Float) (words : List ℕ) (masses centres : List Float) (t : Trailer) (numbers' : List Float) (words' : List ℕ) (masses' centres' : List Float) → Reads file numbers words masses centres (going t) numbers' words' masses' centres' → job_of file ≡ going (job_with t numbers' words' masses' centres')
 unfolding read_of lent_after
 read_job file numbers words masses centres t numbers' words' masses' centres' h =
     let (j, e) = answer_passed (trailer_of file) t _ (sym h.answer) in

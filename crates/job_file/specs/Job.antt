@@ -1,13 +1,11 @@
 -- The job that a file holds, or the number that turns it back, and what the functions of src/judge.rt and src/read.rt answer.
 use Rattle.std.specs.Prelude.{ℕ, ◌≡◌, Bool, ◌&&◌, List, [], ◌∷◌, length, Float}
-use Rattle.loops.specs.Run.{Run, going, on, next}
+use Rattle.loops.specs.Run.{Run, going, ended, next}
 use Rattle.loops.specs.Judge.{judge}
 use Rattle.kapitsa_joint.specs.declared.tolerance.JointTolerance.{JointTolerance}
 use Rattle.job_file.specs.File.{trailer_of, section_numbers, section_words, section_masses, section_centres}
 use Rattle.job_file.specs.Refusals.{passes1, passes2, passes3, passes4, lengths_fit}
 use Rattle.job_file.specs.declared.trailer.Trailer.{Trailer}
-use Rattle.job_file.specs.declared.judge.FileJudged.{FileJudged}
-use Rattle.job_file.specs.declared.judge.FileJudged.TheVariants.{Passed, Refused}
 
 -- the lists that the sections decode to
 abbrev pub file_numbers : List ℕ → List Float
@@ -49,27 +47,27 @@ job_of file = next (judge (tests file)) (λ _. going (job_with (trailer_of file)
 -- ---- what the functions answer
 
 -- the trailer, or the number of the first test that fails
-unfoldable pub answer_of : Trailer → List (ℕ × Bool) → FileJudged
-answer_of t l = on (judge l) (λ _. Passed t) Refused
+unfoldable pub answer_of : Trailer → List (ℕ × Bool) → Run Trailer ℕ
+answer_of t l = next (judge l) (λ _. going t)
 
 -- by 1 to 3 alone
-unfoldable pub opened_of : List ℕ → FileJudged
+unfoldable pub opened_of : List ℕ → Run Trailer ℕ
 opened_of file = answer_of (trailer_of file) ((1, passes1 file) ∷ (2, passes2 file) ∷ (3, passes3 file) ∷ [])
 
-unfoldable pub judged_of : List ℕ → FileJudged
+unfoldable pub judged_of : List ℕ → Run Trailer ℕ
 judged_of file = answer_of (trailer_of file) (tests file)
 
 -- where so many numbers, words, masses and centres are lent
-unfoldable pub read_of : List ℕ → ℕ → ℕ → ℕ → ℕ → FileJudged
+unfoldable pub read_of : List ℕ → ℕ → ℕ → ℕ → ℕ → Run Trailer ℕ
 read_of file numbers words masses centres = answer_of (trailer_of file) ((1, passes1 file) ∷ (2, passes2 file) ∷ (3, passes3 file && lengths_fit (trailer_of file) numbers words masses centres) ∷ (4, passes4 file) ∷ [])
 
 -- a lent list after the call: read, or as it was where the call was refused
-unfoldable pub lent_after : {X : Type 0} → FileJudged → List X → List X → List X
-lent_after (Passed t) read before = read
-lent_after (Refused n) read before = before
+unfoldable pub lent_after : {X : Type 0} → Run Trailer ℕ → List X → List X → List X
+lent_after (going t) read before = read
+lent_after (ended n) read before = before
 
--- a call of `read_job` with four lent lists, its answer r, and the lists at its exit
-pub record Reads (file : List ℕ) (numbers : List Float) (words : List ℕ) (masses centres : List Float) (r : FileJudged) (numbers' : List Float) (words' : List ℕ) (masses' centres' : List Float) : Type 0 where
+-- a call of `read_job` with four lent lists, what its answer tells, and the lists at its exit
+pub record Reads (file : List ℕ) (numbers : List Float) (words : List ℕ) (masses centres : List Float) (r : Run Trailer ℕ) (numbers' : List Float) (words' : List ℕ) (masses' centres' : List Float) : Type 0 where
   pub answer : r ≡ read_of file (length numbers) (length words) (length masses) (length centres)
   pub of_numbers : numbers' ≡ lent_after r (file_numbers file) numbers
   pub of_words : words' ≡ lent_after r (file_words file) words

@@ -11,6 +11,7 @@ use crate::trailer::Trailer;
 use joint_refusals::judge::row_words_fit;
 
 // Refusal 1, of a file that has a trailer and as many bytes as `length`.
+#[tactic(auto, unfolding(crate::specs::Refusals::size_fits))]
 pub fn size_fits(t: Trailer, length: usize) -> bool
     ensures { result ≡ size_fits t length }
 {
@@ -18,6 +19,7 @@ pub fn size_fits(t: Trailer, length: usize) -> bool
 }
 
 // Refusal 2, of a file that passes 1. The sums are of 32-bit numbers and are made in 64 bits.
+#[tactic(auto, using(crate::proofs::Masses::masses_most), unfolding(crate::specs::Refusals::sections_fit, crate::specs::Refusals::limits_fit, crate::specs::Refusals::apart, crate::specs::Refusals::ends_fit))]
 pub fn sections_fit(t: Trailer, trailer_at: usize) -> bool
     requires { t.spare ≤ 1 }
     ensures { result ≡ sections_fit t trailer_at }
@@ -35,6 +37,7 @@ pub fn sections_fit(t: Trailer, trailer_at: usize) -> bool
 }
 
 // Refusal 3, of what is lent for the job.
+#[tactic(auto, unfolding(crate::specs::Refusals::lengths_fit))]
 pub fn lengths_fit(t: Trailer, numbers: usize, words: usize, masses: usize, centres: usize) -> bool
     ensures { result ≡ lengths_fit t numbers words masses centres }
 {

@@ -10,7 +10,7 @@ pub mod reader; // reader.rt: the rows, judged by 4 and read through a reader th
 pub mod sections; // sections.rt: one number of a row or mass, and all of them
 pub mod trailer; // trailer.rt: the 48 bytes at the end
 
-pub use judge::{FileJudged, judge_file};
+pub use judge::judge_file;
 pub use read::read_job;
 pub use reader::{Reader, keys_fit, keys_here, next_row, read_rows, reader_at, row_here};
 pub use sections::{

@@ -8,6 +8,7 @@ use kapitsa_joint::RowWords;
 use little_endian::{double, half};
 
 // Number j of 27 of row i, where the row section begins at `offset`.
+#[tactic(auto, unfolding(crate::specs::File::row_number, crate::specs::File::row_bits, little_endian::specs::Words::double_at))]
 pub fn row_number(file: &[u8], offset: usize, i: usize, j: usize) -> f64
     requires { number_place offset i j + 8 ≤ length file.now }
     ensures { result ≡ row_number file.now offset i j }
@@ -16,6 +17,7 @@ pub fn row_number(file: &[u8], offset: usize, i: usize, j: usize) -> f64
 }
 
 // Word j of 8 of row i.
+#[tactic(auto, unfolding(crate::specs::File::row_word))]
 pub fn row_word(file: &[u8], offset: usize, i: usize, j: usize) -> u32
     requires { word_place offset i j + 4 ≤ length file.now }
     ensures { result ≡ row_word file.now offset i j }
@@ -24,6 +26,7 @@ pub fn row_word(file: &[u8], offset: usize, i: usize, j: usize) -> u32
 }
 
 // The words of row i.
+#[tactic(auto, unfolding(crate::specs::File::row_words))]
 pub fn row_words(file: &[u8], offset: usize, i: usize) -> RowWords
     requires { rows_end offset (i + 1) ≤ length file.now }
     ensures { result ≡ row_words file.now offset i }
@@ -41,6 +44,7 @@ pub fn row_words(file: &[u8], offset: usize, i: usize) -> RowWords
 }
 
 // Number j of 10 of body b, where the mass section begins at `offset` and the trailer has this spare.
+#[tactic(auto, unfolding(crate::specs::File::mass_number, crate::specs::File::mass_bits, little_endian::specs::Words::double_at))]
 pub fn mass_number(file: &[u8], offset: usize, spare: u32, b: usize, j: usize) -> f64
     requires { mass_place offset spare b j + 8 ≤ length file.now }
     ensures { result ≡ mass_number file.now offset spare b j }
@@ -65,10 +69,8 @@ fn put_numbers(file: &[u8], offset: usize, i: usize, numbers: &mut [f64])
     requires { (rows_end offset (i + 1) ≤ length file.now) × (27 * (i + 1) ≤ length numbers.old) }
     ensures { numbers.new ≡ row_numbers_over file.now offset i numbers.old }
 {
-    let mut j = 0;
-    while j < 27 {
+    for j in 0..27 {
         numbers[27 * i + j] = row_number(file, offset, i, j);
-        j += 1;
     }
 }
 
@@ -77,10 +79,8 @@ fn put_words(file: &[u8], offset: usize, i: usize, words: &mut [u32])
     requires { (rows_end offset (i + 1) ≤ length file.now) × (8 * (i + 1) ≤ length words.old) }
     ensures { words.new ≡ row_words_over file.now offset i words.old }
 {
-    let mut j = 0;
-    while j < 8 {
+    for j in 0..8 {
         words[8 * i + j] = row_word(file, offset, i, j);
-        j += 1;
     }
 }
 
@@ -98,10 +98,8 @@ pub fn read_masses(file: &[u8], offset: usize, spare: u32, bodies: usize, masses
     requires { (masses_end offset spare bodies ≤ length file.now) × (length masses.old ≡ 10 * bodies) }
     ensures { masses.new ≡ section_masses file.now offset spare bodies }
 {
-    let mut k = 0;
-    while k < masses.len() {
+    for k in 0..masses.len() {
         masses[k] = mass_number(file, offset, spare, k / 10, k % 10);
-        k += 1;
     }
 }
 
@@ -110,9 +108,7 @@ pub fn read_centres(file: &[u8], offset: usize, spare: u32, bodies: usize, centr
     requires { (masses_end offset spare bodies ≤ length file.now) × (length centres.old ≡ 3 * bodies) }
     ensures { centres.new ≡ section_centres file.now offset spare bodies }
 {
-    let mut k = 0;
-    while k < centres.len() {
+    for k in 0..centres.len() {
         centres[k] = centre_number(file, offset, spare, k / 3, k % 3);
-        k += 1;
     }
 }

@@ -19,6 +19,7 @@ pub struct Trailer {
     pub spare: u32,
 }
 
+#[tactic(auto, unfolding(crate::specs::File::trailer_of))]
 pub fn read_trailer(file: &[u8]) -> Trailer
     requires { 48 ≤ length file.now }
     ensures { result ≡ trailer_of file.now }

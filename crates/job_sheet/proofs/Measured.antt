@@ -1,11 +1,11 @@
 -- What the gaps program prints of an accepted job, from what the check tells of each row. Assumes nothing.
-use Prim.Native.Nat.{ℕ, ◌<◌, ◌≤◌}
-use mathlib.Core.Path.{◌≡◌, refl, sym, ap, ◌∙◌}
+use Prim.Native.Nat.{ℕ, ◌≤◌}
+use mathlib.Core.Path.{◌≡◌, refl, ap, ◌∙◌}
 use mathlib.Core.Bool.{Bool, true, false, cond, ◌&&◌}
 use mathlib.Core.List.{List, [], ◌++◌}
 use native.Mathlib.Omega.{arith}
 use lib.Dec.{leb}
-use lib.ListN.{length, get_or}
+use lib.ListN.{length}
 use lib.Ieee.{Float}
 use borrow.Author.Tests.{leb-true, eq-eqb}
 use Rattle.loops.specs.Tabulate.{tabulate}
@@ -17,9 +17,7 @@ use Rattle.rules.proofs.Ruled.{rules_above}
 use Rattle.position_delivery.specs.declared.answer.PositionPcgResult.{PositionPcgResult}
 use Rattle.check_range.specs.Closing.{Closing}
 use Rattle.check_measure.specs.Verdict.{reach}
-use Rattle.check_answer.specs.Answer.{number_of, gap_of, named_by, check_of}
-use Rattle.check_answer.specs.declared.CheckAnswer.{CheckAnswer}
-use Rattle.check_answer.specs.declared.CheckAnswer.TheVariants as checks
+use Rattle.check_answer.specs.Answer.{number_of, gap_of, named_by, check_of, CheckAnswer}
 use Rattle.check_answer.proofs.Meaning.{refusal_above}
 use Rattle.closing_check.proofs.Held.{lent_above}
 use Rattle.closing_gaps.specs.Gaps.{gaps_lent, gaps_by, GapsAlone}
@@ -29,6 +27,8 @@ use Rattle.listing.specs.Listing.{head_lines, gap_lines, gap_listing, RulesBelow
 use Rattle.job_sheet.specs.Sheet.{carried_by, gaps_printed}
 use Rattle.job_sheet.specs.Room.{CheckRoom}
 use Rattle.job_sheet.proofs.Ways.{closing_at, fits_at, closing_is}
+use Rattle.check_answer.specs.declared.Verdict.TheVariants.{Closed, Open}
+use Rattle.loops.specs.Run.{going, ended}
 
 -- a place a row
 pub gaps_fit : {n gaps : ℕ} → gaps ≡ n → gaps_lent n gaps ≡ true
@@ -37,15 +37,15 @@ gaps_fit e = eq-eqb _ _ e
 
 -- ---- the lists of a verdict
 module _ (c : Closing) (gaps : List Float) (numbers : List ℕ) where
-  gaps_made : (a : CheckAnswer) → ((n : ℕ) → a ≡ checks.Refused n → ⊥) → gaps_by a c gaps ≡ tabulate (reach c) c.table.rows
-  gaps_made (checks.Closed g) v = refl
-  gaps_made (checks.Open g) v = refl
-  gaps_made (checks.Refused n) v = absurd (v n refl)
+  gaps_made : (a : CheckAnswer) → ((n : ℕ) → a ≡ ended n → ⊥) → gaps_by a c gaps ≡ tabulate (reach c) c.table.rows
+  gaps_made (going (Closed g)) v = refl
+  gaps_made (going (Open g)) v = refl
+  gaps_made (ended n) v = absurd (v n refl)
 
-  named_made : (a : CheckAnswer) → ((n : ℕ) → a ≡ checks.Refused n → ⊥) → named_by a c numbers ≡ tabulate c.rule c.table.rows
-  named_made (checks.Closed g) v = refl
-  named_made (checks.Open g) v = refl
-  named_made (checks.Refused n) v = absurd (v n refl)
+  named_made : (a : CheckAnswer) → ((n : ℕ) → a ≡ ended n → ⊥) → named_by a c numbers ≡ tabulate c.rule c.table.rows
+  named_made (going (Closed g)) v = refl
+  named_made (going (Open g)) v = refl
+  named_made (ended n) v = absurd (v n refl)
 
 -- they matter where there is a verdict
 listing_same : (count : ℕ) (flag : Bool) (gap carried : Maxima) (number rows : ℕ) (words : List ℕ) (tolerances : List Float) {x y : List Float} {a b : List ℕ} → (number ≤ 1 → (x ≡ y) × (a ≡ b))
@@ -68,7 +68,7 @@ module _ (t : Trailer) (numbers : List Float) (words : List ℕ) (masses centres
   answered_is = rw f at h.checked.answered
 
   -- no refusal has the number of a verdict
-  verdict_is : number_of answer ≤ 1 → (n : ℕ) → answer ≡ checks.Refused n → ⊥
+  verdict_is : number_of answer ≤ 1 → (n : ℕ) → answer ≡ ended n → ⊥
   verdict_is few n e =
       let above = refusal_above (fits && fits_at t numbers words masses centres solution rule_numbers) c (rules_above _ _) (lent_above Position true) n ((h.checked.means.refused n).0 e) in
       let same : number_of answer ≡ n = ap number_of e in

@@ -9,13 +9,11 @@ use lib.ListN.{length, get_or}
 use lib.Ieee.{Float}
 use borrow.Author.Tests.{leb-true, le-leb, eq-eqb, ne_eqb, eqb-true, not-true, not-false}
 use Rattle.loops.proofs.Both.{both}
-use Rattle.loops.specs.Run.{going, ended, on, check, next}
+use Rattle.loops.specs.Run.{going, ended, on, check, next, Run}
 use Rattle.loops.specs.Judge.{judge, test}
 use Rattle.loops.proofs.Loop.{on_going, on_ended}
 use Rattle.position_delivery.specs.Outcome.{Lent, Outcome, Answer, proposal_of, committed_of, outcome_of}
 use Rattle.position_delivery.specs.declared.answer.PositionPcgResult.{PositionPcgResult}
-use Rattle.position_delivery.specs.declared.answer.PositionPcg.{PositionPcg}
-use Rattle.position_delivery.specs.declared.answer.PositionPcg.TheVariants as answers
 use Rattle.loops.specs.Cleared.{plus_zero}
 use Rattle.solve_method.specs.Position.{position_of}
 use Rattle.preconditioner.specs.Mode.{mode_of}
@@ -34,9 +32,7 @@ use Rattle.rules.proofs.Ruled.{rules_above}
 use Rattle.check_range.specs.Closing.{Closing, closing_of}
 use Rattle.check_refusals.specs.Refusals.{table_fits, given_fits, table_lengths}
 use Rattle.kapitsa_joint.specs.declared.maxima.Maxima.{Maxima}
-use Rattle.check_answer.specs.Answer.{number_of, gap_of, check_of}
-use Rattle.check_answer.specs.declared.CheckAnswer.{CheckAnswer}
-use Rattle.check_answer.specs.declared.CheckAnswer.TheVariants as checks
+use Rattle.check_answer.specs.Answer.{number_of, gap_of, check_of, CheckAnswer}
 use Rattle.check_answer.proofs.Meaning.{refusal_above}
 use Rattle.closing_check.proofs.Held.{lent_above}
 use Rattle.margins_list.specs.Ranked.{margin_rows, margin_numbers}
@@ -46,8 +42,6 @@ use Rattle.job_file.specs.Layout.{masses_end}
 use Rattle.job_file.specs.File.{trailer_of, section_numbers, section_words, section_masses, section_centres}
 use Rattle.job_file.specs.Job.{Job, job_with, file_numbers, file_words, file_masses, file_centres, answer_of, opened_of}
 use Rattle.job_file.specs.declared.trailer.Trailer.{Trailer}
-use Rattle.job_file.specs.declared.judge.FileJudged.{FileJudged}
-use Rattle.job_file.specs.declared.judge.FileJudged.TheVariants.{Passed, Refused}
 use Rattle.job_file.proofs.Judgement.{passed, rows_inside, masses_inside, judged_early, judged_4, judged_passed}
 use Rattle.job_file.proofs.Meaning.{passed_job, refused_job}
 use Rattle.listing.specs.Listing.{head_lines, listing_of, margin_lines, margin_listing, refused_listing}
@@ -55,27 +49,28 @@ use Rattle.job_sheet.specs.Sheet.{answer_to, check_in, carried_by, printed_of, m
 use Rattle.job_sheet.specs.Room.{JobRoom, CheckRoom}
 use Rattle.job_sheet.specs.declared.which.Sheet.{Sheet}
 use Rattle.job_sheet.specs.declared.which.Sheet.TheVariants as sheets
+use Rattle.check_answer.specs.declared.Verdict.TheVariants.{Closed, Open}
 
 -- ---- the file
 
 -- refused by 1 to 3, none of which is 4
-refused_3 : (t : Trailer) (a b c : Bool) {n : ℕ} → answer_of t ((1, a) ∷ (2, b) ∷ (3, c) ∷ []) ≡ Refused n → n ≤ 3
+refused_3 : (t : Trailer) (a b c : Bool) {n : ℕ} → answer_of t ((1, a) ∷ (2, b) ∷ (3, c) ∷ []) ≡ ended n → n ≤ 3
 unfolding answer_of judge test check on
-refused_3 t false b c {n} h = let z : ◌≡◌ {A = ℕ} 1 n = cc in omega arith
-refused_3 t true false c {n} h = let z : ◌≡◌ {A = ℕ} 2 n = cc in omega arith
-refused_3 t true true false {n} h = let z : ◌≡◌ {A = ℕ} 3 n = cc in omega arith
-refused_3 t true true true h = absurd (let z : ◌≡◌ {A = ℕ} 0 1 = cc in omega arith)
+refused_3 t false b c {n} h = let z : 1 ≡ n = cc in omega arith
+refused_3 t true false c {n} h = let z : 2 ≡ n = cc in omega arith
+refused_3 t true true false {n} h = let z : 3 ≡ n = cc in omega arith
+refused_3 t true true true h = cc
 
-module _ (sheet : Sheet) (file : List ℕ) {opened : FileJudged} (e : opened ≡ opened_of file) where
-  few : {n : ℕ} → opened ≡ Refused n → n ≤ 3
+module _ (sheet : Sheet) (file : List ℕ) {n : ℕ} (e : ended n ≡ opened_of file) where
+  few : n ≤ 3
   unfolding opened_of
-  few r = refused_3 _ _ _ _ (sym e ∙ r)
+  few = refused_3 _ _ _ _ (sym e)
 
-  pub sheet_refused : {n : ℕ} → opened ≡ Refused n → refused_listing n ≡ sheet_of sheet file
+  pub sheet_refused : refused_listing n ≡ sheet_of sheet file
   unfolding sheet_of file_turned
-  sheet_refused {n} r = let l = few r in sym (on_ended _ _ _ ((refused_job file n).0 (sym (judged_early file e r))) ∙ rw (ne_eqb n 4 (λ q. omega arith)))
+  sheet_refused = let l = few in sym (on_ended _ _ _ ((refused_job file n).0 (sym (judged_early file e refl))) ∙ rw (ne_eqb n 4 (λ q. omega arith)))
 
-module _ (file : List ℕ) (t : Trailer) (opened : opened_of file ≡ Passed t) where
+module _ (file : List ℕ) (t : Trailer) (opened : opened_of file ≡ going t) where
   same : t ≡ trailer_of file
   same = (passed file refl opened).same
 
@@ -112,12 +107,12 @@ module _ (file : List ℕ) (t : Trailer) (opened : opened_of file ≡ Passed t) 
         (ap (λ (t : Trailer). job_with t (file_numbers file) (file_words file) (file_masses file) (file_centres file)) same)
 
     -- what is read is the job, where 4 passes it
-    pub sheet_read : not fit ≡ false → job_sheet sheet (job_with t numbers words masses centres) ≡ sheet_of sheet file
+    pub sheet_read : fit ≡ true → job_sheet sheet (job_with t numbers words masses centres) ≡ sheet_of sheet file
     unfolding sheet_of
     sheet_read n = ap (job_sheet sheet) (read_is ∙ ap (λ (t : Trailer). job_with t (file_numbers file) (file_words file) (file_masses file) (file_centres file)) (sym same)) ∙ sym (on_going _ _ _ (passed_job file (sym (judged_passed file refl opened four n))))
 
     -- and where it does not, the row is one of those read
-    pub sheet_turned : not fit ≡ true → turned_of sheet (job_with t numbers words masses centres) 4 ≡ sheet_of sheet file
+    pub sheet_turned : fit ≡ false → turned_of sheet (job_with t numbers words masses centres) 4 ≡ sheet_of sheet file
     unfolding sheet_of file_turned
     sheet_turned n = ap (λ (j : Job). turned_of sheet j 4) read_is ∙ sym (on_ended _ _ _ ((refused_job file 4).0 (sym (judged_4 file refl opened four n))))
 
@@ -200,10 +195,10 @@ module _ (t : Trailer) (numbers : List Float) (words : List ℕ) (masses centres
     answered_is = rw f at h.checked.answered
 
     -- no refusal has the number of a verdict
-    closed_is : (a : CheckAnswer) → answer ≡ a → number_of a ≡ 1 → (g : Maxima) × (answer ≡ checks.Closed g)
-    closed_is (checks.Closed g) e n = (g, e)
-    closed_is (checks.Open g) e n = absurd (let z : ◌≡◌ {A = ℕ} 0 1 = n in omega arith)
-    closed_is (checks.Refused k) e n = absurd (let above = refusal_above (fits && fits_at t numbers words masses centres solution rule_numbers) (closing_at t numbers words masses centres solution) (rules_above _ _) (lent_above Position true) k ((h.checked.means.refused k).0 e) in omega arith)
+    closed_is : (a : CheckAnswer) → answer ≡ a → number_of a ≡ 1 → (g : Maxima) × (answer ≡ going (Closed g))
+    closed_is (going (Closed g)) e n = (g, e)
+    closed_is (going (Open g)) e n = absurd (let z : ◌≡◌ {A = ℕ} 0 1 = n in omega arith)
+    closed_is (ended k) e n = absurd (let above = refusal_above (fits && fits_at t numbers words masses centres solution rule_numbers) (closing_at t numbers words masses centres solution) (rules_above _ _) (lent_above Position true) k ((h.checked.means.refused k).0 e) in omega arith)
 
     -- so that each row which is printed is one of the table
     pub rows_small : {number : ℕ} → number ≡ number_of answer → number ≡ 1 → (k : ℕ) → k < t.rows → get_or listRowsAfter k 0 < 4294967296
@@ -220,32 +215,32 @@ module _ (t : Trailer) (numbers : List Float) (words : List ℕ) (masses centres
 
 -- ---- the solve
 
-accepted_same : {r s : PositionPcgResult} → answers.Accepted r ≡ answers.Accepted s → s ≡ r
+accepted_same : {r s : PositionPcgResult} → going r ≡ going s → s ≡ r
 accepted_same e = cc
 
-refused_same : {n m : ℕ} → answers.Refused n ≡ answers.Refused m → m ≡ n
+refused_same : {n m : ℕ} → ended n ≡ ended m → m ≡ n
 refused_same e = cc
 
 -- the answer's case is that of the solve
-never : {X : Type 0} {r : PositionPcgResult} {n : ℕ} → answers.Accepted r ≡ answers.Refused n → X
+never : {X : Type 0} {r : PositionPcgResult} {n : ℕ} → going r ≡ ended n → X
 never e = absurd (let z : ◌≡◌ {A = ℕ} 0 1 = cc in omega arith)
 
 module _ (sheet : Sheet) (j : Job) (solution impulses newCentres : List Float) where
   abbrev before : Lent
   before = record { numbers = j.numbers; solution = solution; impulses = impulses; centres = newCentres }
 
-  accepted_in : (a : Answer) {r : PositionPcgResult} {after : Lent} → outcome_of j.rows before a ≡ record { answer = answers.Accepted r; lent = after } → shown_of sheet j r after.numbers after.solution after.impulses after.centres ≡ answer_sheet sheet j a
+  accepted_in : (a : Answer) {r : PositionPcgResult} {after : Lent} → outcome_of j.rows before a ≡ record { answer = going r; lent = after } → shown_of sheet j r after.numbers after.solution after.impulses after.centres ≡ answer_sheet sheet j a
   unfolding proposal_of committed_of answer_sheet
   accepted_in (going ((flag, count, v), f)) e = let p = accepted_same (ap (λ (o : Outcome). o.answer) e) in let q = ap (λ (o : Outcome). o.lent) e in rw (p, ← q)
   accepted_in (ended n) e = never (sym (ap (λ (o : Outcome). o.answer) e))
 
-  refused_in : (a : Answer) {n : ℕ} {after : Lent} → outcome_of j.rows before a ≡ record { answer = answers.Refused n; lent = after } → turned_of sheet j n ≡ answer_sheet sheet j a
+  refused_in : (a : Answer) {n : ℕ} {after : Lent} → outcome_of j.rows before a ≡ record { answer = ended n; lent = after } → turned_of sheet j n ≡ answer_sheet sheet j a
   unfolding proposal_of committed_of answer_sheet
   refused_in (going ((flag, count, v), f)) e = never (ap (λ (o : Outcome). o.answer) e)
   refused_in (ended n) e = ap (turned_of sheet j) (refused_same (ap (λ (o : Outcome). o.answer) e))
 
   -- whose rows are as they were
-  rows_kept : (a : Answer) {n : ℕ} {after : Lent} → outcome_of j.rows before a ≡ record { answer = answers.Refused n; lent = after } → after.numbers ≡ j.numbers
+  rows_kept : (a : Answer) {n : ℕ} {after : Lent} → outcome_of j.rows before a ≡ record { answer = ended n; lent = after } → after.numbers ≡ j.numbers
   unfolding proposal_of committed_of
   rows_kept (going ((flag, count, v), f)) e = never (ap (λ (o : Outcome). o.answer) e)
   rows_kept (ended n) e = sym (ap (λ (o : Outcome). o.lent.numbers) e)
@@ -264,20 +259,20 @@ module _ (sheet : Sheet) (t : Trailer) (numbers : List Float) (words : List ℕ)
   unfolding job_sheet answer_to answer_sheet test check on
   job_odd n = rw (← p, not-true fit n)
 
-  module _ (n : not fit ≡ false) (solution impulses newCentres : List Float) {fits : Bool} (f : fits ≡ true) {answer : PositionPcg} {after : Lent} {rule_numbers ruleNumbers' : List ℕ}
+  module _ (n : not fit ≡ false) (solution impulses newCentres : List Float) {fits : Bool} (f : fits ≡ true) {answer : Run PositionPcgResult ℕ} {after : Lent} {rule_numbers ruleNumbers' : List ℕ}
       (s : JobSolved fits (two_rules t.tolerance) (position_of t.rows t.bodies numbers words masses centres (two_rules t.tolerance) plus_zero) (mode_of t.mode plus_zero) t.limit 24 t.rows (record { numbers = numbers; solution = solution; impulses = impulses; centres = newCentres }) after rule_numbers ruleNumbers' answer) where
     solved : outcome_of t.rows (record { numbers = numbers; solution = solution; impulses = impulses; centres = newCentres }) (answer_to (job_with t numbers words masses centres)) ≡ record { answer = answer; lent = after }
     unfolding answer_to test check on
     solved = rw (← p, not-false fit n, ← f) s.answered
 
-    pub job_refused : {n : ℕ} → answer ≡ answers.Refused n → turned_of sheet (job_with t after.numbers words masses centres) n ≡ job_sheet sheet (job_with t numbers words masses centres)
+    pub job_refused : {n : ℕ} → answer ≡ ended n → turned_of sheet (job_with t after.numbers words masses centres) n ≡ job_sheet sheet (job_with t numbers words masses centres)
     unfolding job_sheet
     job_refused {n} e =
         let o = solved ∙ ap (λ a. record { answer = a; lent = after }) e in
         let j = job_with t numbers words masses centres in
         ap (λ (l : List Float). turned_of sheet (job_with t l words masses centres) n) (rows_kept sheet j solution impulses newCentres (answer_to j) o) ∙ refused_in sheet j solution impulses newCentres (answer_to j) o
 
-    pub job_accepted : {r : PositionPcgResult} (rows : List Float) → answer ≡ answers.Accepted r → shown_of sheet (job_with t rows words masses centres) r after.numbers after.solution after.impulses after.centres ≡ job_sheet sheet (job_with t numbers words masses centres)
+    pub job_accepted : {r : PositionPcgResult} (rows : List Float) → answer ≡ going r → shown_of sheet (job_with t rows words masses centres) r after.numbers after.solution after.impulses after.centres ≡ job_sheet sheet (job_with t numbers words masses centres)
     unfolding job_sheet
     job_accepted {r} rows e = numbers_aside sheet t rows numbers words masses centres r after.numbers after.solution after.impulses after.centres
         ∙ accepted_in sheet (job_with t numbers words masses centres) solution impulses newCentres (answer_to (job_with t numbers words masses centres)) (solved ∙ ap (λ a. record { answer = a; lent = after }) e)

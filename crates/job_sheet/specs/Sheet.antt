@@ -20,8 +20,7 @@ use Rattle.position_delivery.specs.Outcome.{Answer, result_of, with_multipliers}
 use Rattle.position_delivery.specs.declared.answer.PositionPcgResult.{PositionPcgResult}
 use Rattle.check_range.specs.Closing.{Closing, closing_of}
 use Rattle.check_measure.specs.Verdict.{reach}
-use Rattle.check_answer.specs.Answer.{number_of, gap_of, check_of}
-use Rattle.check_answer.specs.declared.CheckAnswer.{CheckAnswer}
+use Rattle.check_answer.specs.Answer.{number_of, gap_of, check_of, CheckAnswer}
 use Rattle.margins_list.specs.Ranked.{margin_rows, margin_numbers}
 use Rattle.first_refusal.specs.Room.{place_in}
 use Rattle.first_refusal.specs.declared.place.Place.{Place}

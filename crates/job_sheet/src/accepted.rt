@@ -45,12 +45,12 @@ pub fn write_accepted(
     write_listing(
         res.iterations,
         res.converged,
-        answer.gap(),
+        check_answer::gap(answer),
         Maxima {
             linear: res.linear_residual_m,
             angular: res.angular_residual_rad,
         },
-        answer.number(),
+        check_answer::number(answer),
         trailer.rows,
         trailer.bodies,
         numbers,

@@ -44,12 +44,12 @@ fn write_measured(
     write_gaps(
         res.iterations,
         res.converged,
-        answer.gap(),
+        check_answer::gap(answer),
         Maxima {
             linear: res.linear_residual_m,
             angular: res.angular_residual_rad,
         },
-        answer.number(),
+        check_answer::number(answer),
         trailer.rows,
         words,
         gaps,

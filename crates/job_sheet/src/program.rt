@@ -1,13 +1,12 @@
 // The programs: each reads a job file from standard input and prints its sheet. No contract can say what is read.
 use crate::sheet::write_sheet;
 use crate::which::Sheet;
-use program_io::{Input, read_input, write_output};
+use program_io::{read_input, write_output};
 
 // A file has at most 65,536 bytes. One byte more is read, so that a longer one is refused whatever it begins with. Of a file that can't be read nothing is printed.
 fn print_sheet(rt: &HostRuntime, program: &[u8], sheet: Sheet) {
     let mut file: [u8; 65537] = [0; 65537];
-    let read = read_input(rt, program, &mut file);
-    let Input::Read(length) = read else {
+    let Some(length) = read_input(rt, program, &mut file) else {
         return;
     };
     let mut text: [u8; 16384] = [0; 16384];

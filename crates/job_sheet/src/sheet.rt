@@ -1,7 +1,7 @@
 // The file judged and read, its job solved, and the answer written.
 ghost use Rattle.std.specs.Prelude.{◌≡◌, ◌≤◌, length};
 ghost use Rattle.job_file.specs.Job.{job_with, opened_of};
-ghost use Rattle.job_file.specs.declared.judge.FileJudged.TheVariants.{Passed};
+ghost use Rattle.loops.specs.Run.{going};
 ghost use Rattle.listing.specs.Written.{Wrote};
 ghost use Rattle.job_sheet.specs.Sheet.{job_sheet, sheet_of};
 ghost use Rattle.job_sheet.specs.Room.{JobRoom};
@@ -10,10 +10,9 @@ use crate::solved::write_solved;
 use crate::turned::write_turned;
 use crate::which::Sheet;
 use job_file::judge::judge_trailer;
-use job_file::{FileJudged, Trailer, keys_fit, read_centres, read_masses, read_rows};
+use job_file::{Trailer, keys_fit, read_centres, read_masses, read_rows};
 use joint_refusals::tolerances_fit;
 use listing::write_refusal;
-use position_delivery::PositionPcg;
 use small_solve::solve_small_position;
 
 // A job that has been read.
@@ -56,10 +55,19 @@ pub fn write_job(
         &mut rule_numbers[..rows],
     );
     match answer {
-        PositionPcg::Refused(number) => {
-            write_turned(sheet, number, trailer, numbers, words, masses, centres, out)
+        Err(refusal) => {
+            write_turned(
+                sheet,
+                refusal.number(),
+                trailer,
+                numbers,
+                words,
+                masses,
+                centres,
+                out,
+            )
         }
-        PositionPcg::Accepted(result) => write_solved(
+        Ok(result) => write_solved(
             sheet,
             trailer,
             result,
@@ -89,7 +97,7 @@ fn write_file(
     new_centres: &mut [f64],
     out: &mut [u8],
 ) -> usize
-    requires file_value { opened_of file.now ≡ Passed trailer }
+    requires file_value { opened_of file.now ≡ going trailer }
     requires job_room { JobRoom trailer (length numbers.old) (length words.old) (length masses.old) (length centres.old) (length solution.old) (length impulses.old) (length new_centres.old) }
     requires in_bounds { 16384 ≤ length out.old }
     ensures { Wrote out.old 0 (sheet_of sheet file.now) out.new result }
@@ -120,7 +128,7 @@ fn write_file(
 
 // Memory for what the program takes: 128 rows and 64 bodies.
 fn write_passed(sheet: Sheet, file: &[u8], trailer: Trailer, out: &mut [u8]) -> usize
-    requires file_value { opened_of file.now ≡ Passed trailer }
+    requires file_value { opened_of file.now ≡ going trailer }
     requires in_bounds { 16384 ≤ length out.old }
     ensures { Wrote out.old 0 (sheet_of sheet file.now) out.new result }
 {
@@ -158,9 +166,8 @@ pub fn write_sheet(sheet: Sheet, file: &[u8], out: &mut [u8]) -> usize
     requires { 16384 ≤ length out.old }
     ensures { Wrote out.old 0 (sheet_of sheet file.now) out.new result }
 {
-    let opened = judge_trailer(file);
-    match opened {
-        FileJudged::Refused(number) => write_refusal(number, out),
-        FileJudged::Passed(trailer) => write_passed(sheet, file, trailer, out),
+    match judge_trailer(file) {
+        Ok(trailer) => write_passed(sheet, file, trailer, out),
+        Err(refusal) => write_refusal(refusal.number(), out),
     }
 }

@@ -34,14 +34,12 @@ pub fn print_sheets(rt: &HostRuntime, sheet: Sheet, space: &mut [u8], text: &mut
     requires in_bounds { 4 ≤ length space.old }
     requires in_bounds_2 { 16384 ≤ length text.old }
 {
-    let mut left: u32 = 1000;
-    while 0 < left {
+    for _ in 0..1000 {
         let end = next_file(rt, space);
         if end < 4 {
             return;
         }
         print_sheet(rt, sheet, &space[4..end], text);
-        left -= 1;
     }
 }
 
@@ -50,13 +48,11 @@ pub fn print_lent_sheets(rt: &HostRuntime, space: &mut [u8], text: &mut [u8])
     requires in_bounds { 4 ≤ length space.old }
     requires in_bounds_2 { 16384 ≤ length text.old }
 {
-    let mut left: u32 = 1000;
-    while 0 < left {
+    for _ in 0..1000 {
         let end = next_file(rt, space);
         if end < 4 {
             return;
         }
         print_lent(rt, &space[4..end], text);
-        left -= 1;
     }
 }

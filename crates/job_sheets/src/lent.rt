@@ -1,7 +1,7 @@
 // A job through the functions for C, in memory as a caller in C lends it: that of 8 rows and 4 bodies in mode 1, and of no other job.
 ghost use Rattle.std.specs.Prelude.{◌≤◌, length};
 
-use job_file::{FileJudged, Trailer, read_job};
+use job_file::{Trailer, read_job};
 use kapitsa_c::{kapitsa_closing_check, kapitsa_solve_position};
 use kapitsa_joint::Maxima;
 use listing::{write_listing, write_refusal};
@@ -199,8 +199,7 @@ pub fn print_lent(rt: &HostRuntime, file: &[u8], text: &mut [u8])
     let mut words: [u32; 64] = [0; 64];
     let mut masses: [f64; 40] = [0.0; 40];
     let mut centres: [f64; 12] = [0.0; 12];
-    let opened = read_job(file, &mut numbers, &mut words, &mut masses, &mut centres);
-    let FileJudged::Passed(trailer) = opened else {
+    let Ok(trailer) = read_job(file, &mut numbers, &mut words, &mut masses, &mut centres) else {
         return;
     };
     let end = write_told(trailer, &mut numbers, &words, &masses, &centres, text);

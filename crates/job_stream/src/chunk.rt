@@ -53,7 +53,7 @@ pub fn write_jobs(number: u32, bytes: &[u8], out: &mut [u8]) -> Jobs
         next += 1;
     }
     Jobs {
-        next: next,
+        next,
         read: at,
         wrote: end,
     }

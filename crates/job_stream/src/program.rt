@@ -6,7 +6,7 @@ ghost use Rattle.job_stream.specs.Left.{Leaves, Moves};
 
 use crate::chunk::write_jobs;
 use crate::front::write_front;
-use program_io::{Input, read_some, write_output};
+use program_io::{read_some, write_output};
 
 // The number of the job that is next, how many bytes are kept for it, and how many bytes that are still to come belong to a refused file and are passed over.
 #[derive(Clone, Copy)]
@@ -16,19 +16,12 @@ pub struct Unread {
     pub passed: usize,
 }
 
-// What is left once the jobs that were whole are printed; `Stopped` where nothing more can be printed, which has been told.
-#[derive(Clone, Copy)]
-pub enum Printed {
-    To(Unread),
-    Stopped,
-}
-
 fn no_number(rt: &HostRuntime) {
     let _ = eprintln!(rt; "jobs: no number is left for the next job");
 }
 
-// Prints the jobs that these bytes have whole. The last of the bytes are kept.
-fn print_ready(rt: &HostRuntime, number: u32, bytes: &[u8], text: &mut [u8]) -> Printed
+// Prints the jobs that these bytes have whole, and answers what is left. The last of the bytes are kept. Where nothing more can be printed, which has been told, nothing is left.
+fn print_ready(rt: &HostRuntime, number: u32, bytes: &[u8], text: &mut [u8]) -> Option<Unread>
     requires { 16399 ≤ length text.old }
     ensures { Leaves result number bytes.now }
 {
@@ -37,24 +30,24 @@ fn print_ready(rt: &HostRuntime, number: u32, bytes: &[u8], text: &mut [u8]) -> 
     while at < bytes.len() {
         if 4294967295 <= next {
             no_number(rt);
-            return Printed::Stopped;
+            return None;
         }
         let left = bytes.len() - at;
         let jobs = write_jobs(next, &bytes[at..], text);
         let wrote = jobs.wrote;
         if jobs.next <= next {
-            return Printed::To(Unread {
+            return Some(Unread {
                 number: next,
                 kept: left,
                 passed: 0,
             });
         }
         if !write_output(rt, b"jobs", &text[..wrote]) {
-            return Printed::Stopped;
+            return None;
         }
         next = jobs.next;
         if left <= jobs.read {
-            return Printed::To(Unread {
+            return Some(Unread {
                 number: next,
                 kept: 0,
                 passed: jobs.read - left,
@@ -62,7 +55,7 @@ fn print_ready(rt: &HostRuntime, number: u32, bytes: &[u8], text: &mut [u8]) -> 
         }
         at += jobs.read;
     }
-    Printed::To(Unread {
+    Some(Unread {
         number: next,
         kept: 0,
         passed: 0,
@@ -74,12 +67,7 @@ fn move_down(space: &mut [u8], from: usize, to: usize)
     requires { (from ≤ to) × (to ≤ length space.old) }
     ensures { space.new ≡ paste space.old 0 (drop from space.old) (to - from) }
 {
-    let count = to - from;
-    let mut j = 0;
-    while j < count {
-        space[j] = space[from + j];
-        j += 1;
-    }
+    space.copy_within(from..to, 0);
 }
 
 // So many bytes more stand behind those that were kept at the front of the space. What is kept then stands there again.
@@ -89,25 +77,22 @@ fn print_more(
     more: usize,
     space: &mut [u8],
     text: &mut [u8],
-) -> Printed
+) -> Option<Unread>
     requires { (unread.kept + more ≤ length space.old) × (16399 ≤ length text.old) }
     ensures { Moves unread more space.old space.new result }
 {
     let to = unread.kept + more;
     let passed = unread.passed;
     if to <= passed {
-        return Printed::To(Unread {
+        return Some(Unread {
             number: unread.number,
             kept: 0,
             passed: passed - to,
         });
     }
-    let printed = print_ready(rt, unread.number, &space[passed..to], text);
-    let Printed::To(left) = printed else {
-        return Printed::Stopped;
-    };
+    let left = print_ready(rt, unread.number, &space[passed..to], text)?;
     move_down(space, to - left.kept, to);
-    Printed::To(left)
+    Some(left)
 }
 
 // The stream has ended; where it ends inside a job, that is the last one.
@@ -128,34 +113,31 @@ fn print_stream(rt: &HostRuntime, space: &mut [u8], text: &mut [u8])
     let mut number = 0;
     let mut kept = 0;
     let mut passed = 0;
-    let mut left: u64 = 18446744073709551615;
-    while 0 < left {
-        let read = read_some(rt, b"jobs", &mut space[kept..]);
-        let Input::Read(more) = read else {
+    'stream: for _ in 0..u64::MAX {
+        let Some(more) = read_some(rt, b"jobs", &mut space[kept..]) else {
             return;
         };
         if more == 0 {
             print_last(rt, number, &space[..kept], text);
             return;
         }
-        let printed = print_more(
+        let left = print_more(
             rt,
             Unread {
-                number: number,
-                kept: kept,
-                passed: passed,
+                number,
+                kept,
+                passed,
             },
             more,
             space,
             text,
         );
-        let Printed::To(unread) = printed else {
+        let Some(unread) = left else {
             return;
         };
         number = unread.number;
         kept = unread.kept;
         passed = unread.passed;
-        left -= 1;
     }
 }
 

@@ -18,7 +18,6 @@ use Rattle.job_file.specs.Layout.{rows_end, masses_end, trailer_at}
 use Rattle.job_file.specs.File.{trailer_of}
 use Rattle.job_file.specs.Refusals.{size_fits, limits_fit, apart, ends_fit, sections_fit, keys_fit, passes1, passes2, passes3, passes4}
 use Rattle.job_file.specs.Job.{job_with, file_numbers, file_words, file_masses, file_centres, job_of, answer_of, judged_of, tests}
-use Rattle.job_file.specs.declared.judge.FileJudged.TheVariants.{Passed}
 use Rattle.job_file.proofs.Meaning.{passed_job}
 use Rattle.job_file.proofs.Rows.{words_at}
 use Rattle.job_writer.specs.JobBits.{JobBits}
@@ -69,7 +68,7 @@ module _ (job : JobBits) (f : Fits job) where
   written_4 =
       rw (trailer_back job f) (every_same _ _ job.head.rows (λ i h. ap words_fit_of (sym (words_at (written job) 0 job.head.rows i h) ∙ ap (λ w. words_of w (8 * i)) (words_back job f))) ∙ f.words_fit_lem)
 
-  pub written_judged : judged_of (written job) ≡ Passed (trailer_of (written job))
+  pub written_judged : judged_of (written job) ≡ going (trailer_of (written job))
   unfolding judged_of answer_of AllPass
   written_judged = on_going _ _ _ ((judge_going (tests (written job))).1 (written_1, (written_2, (written_3, (written_4, tt)))))
 

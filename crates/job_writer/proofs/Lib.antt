@@ -5,5 +5,7 @@ pub mod Back
 pub mod Judged
 pub mod Doubles
 pub mod Ways
+pub mod Little
+pub mod Zero
 pub mod Sizes
 pub mod Passed

@@ -1,11 +1,11 @@
 -- The ways through the writer's tests, as the code takes them, and what a job that has passed is. Assumes nothing.
 use Prim.Native.Nat.{ℕ, ◌*◌, ◌≤◌}
 use mathlib.Core.Path.{◌≡◌, sym, ◌∙◌}
-use mathlib.Core.Bool.{Bool, true, false, not, ◌&&◌}
+use mathlib.Core.Bool.{Bool, true, false, ◌&&◌}
 use mathlib.Core.List.{List, [], ◌∷◌}
 use lib.Dec.{leb, eqb}
 use lib.ListN.{length}
-use borrow.Author.Tests.{not-true, not-false, leb-true, eqb-true}
+use borrow.Author.Tests.{leb-true, eqb-true}
 use Rattle.loops.specs.Run.{Run, going, ended, on, next, check}
 use Rattle.loops.specs.Judge.{judge, test}
 use Rattle.loops.proofs.Both.{both}
@@ -16,20 +16,13 @@ use Rattle.job_writer.specs.Written.{file_length}
 use Rattle.job_writer.specs.Fits.{Lent}
 use Rattle.job_writer.specs.Refusals.{limits_fit, head_fits, lengths_fit, sizes_fit, Answers}
 
--- what an answered test says
-pub held : {p a : Bool} → p ≡ a → not p ≡ false → a ≡ true
-held {p} e n = sym e ∙ not-false p n
-
-pub failed : {p a : Bool} → p ≡ a → not p ≡ true → a ≡ false
-failed {p} e n = sym e ∙ not-true p n
-
 -- what an ended run answers
 module _ {run : Run (List ℕ) ℕ} {out : List ℕ} where
-  pub answers_refused : {n : ℕ} → run ≡ ended n → Answers run out n out
-  answers_refused e = record { number = sym (on_ended run _ _ e); bytes = sym (on_ended run _ _ e) }
+  pub answers_refused : {n : ℕ} → run ≡ ended n → Answers run out (ended n) out
+  answers_refused e = record { told = sym (on_ended run _ _ e); bytes = sym (on_ended run _ _ e) }
 
-  pub answers_written : {file out' : List ℕ} → run ≡ going file → out' ≡ file → Answers run out 0 out'
-  answers_written e w = record { number = sym (on_going run _ _ e); bytes = w ∙ sym (on_going run _ _ e) }
+  pub answers_written : {file out' : List ℕ} → run ≡ going file → out' ≡ file → Answers run out (going tt) out'
+  answers_written e w = record { told = sym (on_going run _ _ e); bytes = w ∙ sym (on_going run _ _ e) }
 
 -- ---- 2, 3, 4, 24
 

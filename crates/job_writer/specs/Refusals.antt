@@ -46,7 +46,7 @@ tests job out =
 unfoldable pub written_of : JobBits → ℕ → Run (List ℕ) ℕ
 written_of job out = next (judge (tests job out)) (λ _. going (written job))
 
--- the answer is 0 and the output has the file, or it is the refusal's number and the output is as it was
-pub record Answers (run : Run (List ℕ) ℕ) (out : List ℕ) (r : ℕ) (out' : List ℕ) : Type 0 where
-  pub number : r ≡ on run (λ _. 0) (λ n. n)
+-- the call goes through and the output has the file, or it tells the refusal's number and the output is as it was
+pub record Answers (run : Run (List ℕ) ℕ) (out : List ℕ) (r : Run Unit ℕ) (out' : List ℕ) : Type 0 where
+  pub told : r ≡ next run (λ _. going tt)
   pub bytes : out' ≡ on run (λ file. file) (λ _. out)

@@ -1,6 +1,6 @@
 // Refusals 2, 3 and 24 of the writer, each by itself: true where it does not apply. 4 is joint_refusals' `words_fit`.
-ghost use Rattle.std.specs.Prelude.{◌≡◌, ◌≤◌, eqb, length, get_or};
-ghost use Rattle.loops.specs.Every.{every};
+ghost use Rattle.std.specs.Prelude.{◌≡◌, ◌==◌, ◌≤◌};
+ghost use Rattle.std.specs.List.{list_all};
 ghost use Rattle.job_writer.specs.Refusals.{limits_fit, head_fits, lengths_fit, sizes_fit, centres_fit};
 
 use crate::head::JobHead;
@@ -57,16 +57,9 @@ pub fn sizes_fit(
 
 // Has each number the bits of +0.0?
 fn all_zero(centres: &[u64]) -> bool
-    ensures { result ≡ every (λ k. eqb (get_or centres.now k 0) 0) (length centres.now) }
+    ensures { result ≡ list_all (λ centre. centre == 0) centres.now }
 {
-    let mut k = 0;
-    while k < centres.len() {
-        if !(centres[k] == 0) {
-            return false;
-        }
-        k += 1;
-    }
-    true
+    centres.iter().all(|&centre| centre == 0)
 }
 
 pub fn centres_fit(centres: &[u64], layout: u32) -> bool

@@ -20,10 +20,8 @@ pub fn put_rows(out: &mut [u8], at: usize, numbers: &[u64], words: &[u32], rows:
     ensures { Wrote out.old at (pieces (written_row numbers.now words.now) rows) out.new result }
 {
     let mut next = at;
-    let mut i = 0;
-    while i < rows {
+    for i in 0..rows {
         next = put_row(out, next, numbers, words, i);
-        i += 1;
     }
     next
 }
@@ -56,10 +54,8 @@ pub fn put_masses(
     ensures { Wrote out.old at (pieces (written_mass masses.now centres.now layout) bodies) out.new result }
 {
     let mut next = at;
-    let mut b = 0;
-    while b < bodies {
+    for b in 0..bodies {
         next = put_mass(out, next, masses, centres, layout, b);
-        b += 1;
     }
     next
 }

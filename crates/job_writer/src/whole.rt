@@ -1,5 +1,6 @@
 // The whole file.
 ghost use Rattle.std.specs.Prelude.{length};
+ghost use Rattle.refusals.specs.Told.{told};
 ghost use Rattle.listing.specs.Written.{Room, Wrote};
 ghost use Rattle.job_writer.specs.Written.{written};
 ghost use Rattle.job_writer.specs.Fits.{Lent};
@@ -9,6 +10,7 @@ use crate::fit::{centres_fit, limits_fit, sizes_fit};
 use crate::head::JobHead;
 use crate::parts::{put_masses, put_rows, put_trailer};
 use joint_refusals::judge::words_fit;
+use refusals::Refusal;
 
 // Writes the file from the first byte on, and returns its length.
 pub fn fill_job(
@@ -34,7 +36,7 @@ pub fn fill_job(
     put_trailer(out, masses_end, head)
 }
 
-// Writes the job into `out` and answers 0, or answers the number of its refusal and writes nothing.
+// Writes the job into `out`, or answers its refusal and writes nothing.
 pub fn write_job(
     head: JobHead,
     numbers: &[u64],
@@ -42,11 +44,11 @@ pub fn write_job(
     masses: &[u64],
     centres: &[u64],
     out: &mut [u8],
-) -> u32
-    ensures { Answers (written_of (record { head = head; numbers = numbers.now; words = words.now; masses = masses.now; centres = centres.now }) (length out.old)) out.old result out.new }
+) -> Result<(), Refusal>
+    ensures { Answers (written_of (record { head = head; numbers = numbers.now; words = words.now; masses = masses.now; centres = centres.now }) (length out.old)) out.old (told result) out.new }
 {
     if !limits_fit(head) {
-        return 2;
+        return Err(Refusal::Sections);
     }
     if !sizes_fit(
         head,
@@ -56,14 +58,14 @@ pub fn write_job(
         centres.len(),
         out.len(),
     ) {
-        return 3;
+        return Err(Refusal::Length);
     }
     if !words_fit(words, head.rows as usize) {
-        return 4;
+        return Err(Refusal::Word);
     }
     if !centres_fit(centres, head.layout) {
-        return 24;
+        return Err(Refusal::Layout);
     }
     fill_job(head, numbers, words, masses, centres, out);
-    0
+    Ok(())
 }

@@ -34,14 +34,7 @@ pub fn words_fit(words: &[u32], rows: usize) -> bool
     requires { 8 * rows ≤ length words.now }
     ensures { result ≡ every (λ i. words_fit_of (words_of words.now (8 * i))) rows }
 {
-    let mut i = 0;
-    while i < rows {
-        if !words_fit_at(words, i) {
-            return false;
-        }
-        i += 1;
-    }
-    true
+    (0..rows).all(|i| words_fit_at(words, i))
 }
 
 // Refusal 5, the Rust's opening test: position on, rigid, not driven, unbounded.
@@ -68,14 +61,7 @@ pub fn rows_open(numbers: &[f64], words: &[u32], rows: usize) -> bool
     requires { (27 * rows ≤ length numbers.now) × (8 * rows ≤ length words.now) }
     ensures { result ≡ every (λ i. opens_of (scalars_of numbers.now (27 * i + 15)) (words_of words.now (8 * i))) rows }
 {
-    let mut i = 0;
-    while i < rows {
-        if !row_opens_at(numbers, words, i) {
-            return false;
-        }
-        i += 1;
-    }
-    true
+    (0..rows).all(|i| row_opens_at(numbers, words, i))
 }
 
 // The same of velocities: the bounds of the impulse, and position on or off.
@@ -101,14 +87,7 @@ pub fn velocity_rows_open(numbers: &[f64], words: &[u32], rows: usize) -> bool
     requires { (27 * rows ≤ length numbers.now) × (8 * rows ≤ length words.now) }
     ensures { result ≡ every (λ i. velocity_opens_of (scalars_of numbers.now (27 * i + 15)) (words_of words.now (8 * i))) rows }
 {
-    let mut i = 0;
-    while i < rows {
-        if !velocity_row_opens_at(numbers, words, i) {
-            return false;
-        }
-        i += 1;
-    }
-    true
+    (0..rows).all(|i| velocity_row_opens_at(numbers, words, i))
 }
 
 // Refusal 6: every mass number is finite,
@@ -130,14 +109,7 @@ pub fn masses_finite(masses: &[f64], bodies: usize) -> bool
     requires { 10 * bodies ≤ length masses.now }
     ensures { result ≡ every (λ b. mass_finite_of (mass_of masses.now b)) bodies }
 {
-    let mut b = 0;
-    while b < bodies {
-        if !mass_finite_at(masses, b) {
-            return false;
-        }
-        b += 1;
-    }
-    true
+    (0..bodies).all(|b| mass_finite_at(masses, b))
 }
 
 fn vec_finite_at(numbers: &[f64], at: usize) -> bool
@@ -153,14 +125,7 @@ pub fn centres_finite(centres: &[f64], bodies: usize) -> bool
     requires { 3 * bodies ≤ length centres.now }
     ensures { result ≡ centres_finite (centres_in bodies centres.now) }
 {
-    let mut b = 0;
-    while b < bodies {
-        if !vec_finite_at(centres, 3 * b) {
-            return false;
-        }
-        b += 1;
-    }
-    true
+    (0..bodies).all(|b| vec_finite_at(centres, 3 * b))
 }
 
 // Refusal 20: every lent residual is finite.
@@ -168,14 +133,7 @@ pub fn residuals_finite(residuals: &[f64], rows: usize) -> bool
     requires { rows ≤ length residuals.now }
     ensures { result ≡ passes20 (λ i. get_or residuals.now i nan) rows }
 {
-    let mut i = 0;
-    while i < rows {
-        if !binary64::is_finite(residuals[i]) {
-            return false;
-        }
-        i += 1;
-    }
-    true
+    (0..rows).all(|i| binary64::is_finite(residuals[i]))
 }
 
 // Refusal 7: ConstraintRow::is_valid of row.rs, in four groups.
@@ -237,12 +195,5 @@ pub fn rows_valid(numbers: &[f64], words: &[u32], rows: usize, bodies: u32) -> b
     requires { (27 * rows ≤ length numbers.now) × (8 * rows ≤ length words.now) }
     ensures { result ≡ every (λ i. is_valid_of bodies (row_of numbers.now words.now i)) rows }
 {
-    let mut i = 0;
-    while i < rows {
-        if !is_valid_at(numbers, words, i, bodies) {
-            return false;
-        }
-        i += 1;
-    }
-    true
+    (0..rows).all(|i| is_valid_at(numbers, words, i, bodies))
 }

@@ -17,19 +17,17 @@ use Rattle.solve_method.specs.Method.{method_of}
 use Rattle.solve_method.specs.Places.{Apart}
 use Rattle.solve_method.proofs.InPlace.{problem_in_place, problem_not_zero}
 use Rattle.position_delivery.specs.Outcome.{Answer, Lent, Outcome, result_of, proposal_of, outcome_at, MeaningAt}
-use Rattle.position_delivery.specs.declared.answer.PositionPcg.{PositionPcg}
-use Rattle.position_delivery.specs.declared.answer.PositionPcg.TheVariants as answers
 use Rattle.position_delivery.specs.declared.answer.PositionPcgResult.{PositionPcgResult}
 use Rattle.work_memory.specs.Work.{WorkMemory, After}
 use Rattle.rules.specs.Rules.{Rules, Ruled}
 use Rattle.solve_by_rules.specs.Ruled.{named_by, SolveRuled}
 use Rattle.position_delivery.proofs.Answered.{entry_means, entry_refused}
-use Rattle.loops.specs.Run.{Goes, going, ended}
+use Rattle.loops.specs.Run.{Goes, going, ended, Run}
 use Rattle.loops.proofs.Inverse.{apart as apart-runs}
 use Rattle.loops.proofs.Both.{both}
 use Rattle.kapitsa_c.specs.Solving.{Told, told_of, told_fits, SolveTold}
 
-abbrev outcome : PositionPcg → Lent → Outcome
+abbrev outcome : Run PositionPcgResult ℕ → Lent → Outcome
 outcome r l = record { answer = r; lent = l }
 
 module _ (s : Rules) (p : Problem) (mode : Mode) (limit place n : ℕ) (before : Lent) (named : List ℕ) (counts : List ℕ) (maxima : List Float) (work : WorkMemory) (apart : Apart p) where
@@ -43,12 +41,12 @@ module _ (s : Rules) (p : Problem) (mode : Mode) (limit place n : ℕ) (before :
       go (ended k) h = (λ e. let z = h k refl in absurd (omega arith), λ g. absurd (apart-runs _ g.1 refl))
 
   -- an accepted answer is told of a solve that goes through
-  goes_accepted : (fits : Bool) (after : Lent) (a : PositionPcg) → outcome_at place n before (solve (method_of fits p mode) limit) ≡ outcome a after → Goes (solve (method_of fits p mode) limit) → (r : PositionPcgResult) × (a ≡ answers.Accepted r)
+  goes_accepted : (fits : Bool) (after : Lent) (a : Run PositionPcgResult ℕ) → outcome_at place n before (solve (method_of fits p mode) limit) ≡ outcome a after → Goes (solve (method_of fits p mode) limit) → (r : PositionPcgResult) × (a ≡ going r)
   unfolding proposal_of
   goes_accepted fits after a e (((flag, count, v), f), g) = let told = ap (λ (o : Outcome). o.answer) e in (result_of flag count f, sym (rw g at told))
 
-  told_so : (fits : Bool) (after : Lent) (after-named : List ℕ) (told : Told) (a : PositionPcg) (workAfter : WorkMemory) → outcome_at place n before (solve (method_of fits p mode) limit) ≡ outcome a after → told ≡ told_of a counts maxima → After fits work workAfter
-      → after-named ≡ named_by a p.rule n named → ((r : PositionPcgResult) → a ≡ answers.Accepted r → Ruled s p.table) → SolveTold fits s p mode limit place n before after named after-named counts maxima told work workAfter
+  told_so : (fits : Bool) (after : Lent) (after-named : List ℕ) (told : Told) (a : Run PositionPcgResult ℕ) (workAfter : WorkMemory) → outcome_at place n before (solve (method_of fits p mode) limit) ≡ outcome a after → told ≡ told_of a counts maxima → After fits work workAfter
+      → after-named ≡ named_by a p.rule n named → ((r : PositionPcgResult) → a ≡ going r → Ruled s p.table) → SolveTold fits s p mode limit place n before after named after-named counts maxima told work workAfter
   told_so fits after after-named told a workAfter e h w l ruled =
       record {
         answered = h ∙ ap (λ (o : Outcome). told_of o.answer counts maxima) (sym e);
@@ -74,9 +72,9 @@ module _ (s : Rules) (p : Problem) (mode : Mode) (limit place n : ℕ) (before :
 
     pub untold : not b ≡ true → SolveTold (told && rest) s p mode limit place n before before named named counts maxima (record { number = 3; counts = counts; maxima = maxima }) work work
     unfolding told_of
-    untold h = told_so (told && rest) before named (record { number = 3; counts = counts; maxima = maxima }) (answers.Refused 3) work (entry_refused p mode place n limit before false (told && rest) (sym (unfit h)) refl) refl (untouched h) refl (λ r a. absurd (let z : ◌≡◌ {A = ℕ} 0 1 = cc in omega arith))
+    untold h = told_so (told && rest) before named (record { number = 3; counts = counts; maxima = maxima }) (ended 3) work (entry_refused p mode place n limit before false (told && rest) (sym (unfit h)) refl) refl (untouched h) refl (λ r a. absurd (let z : ◌≡◌ {A = ℕ} 0 1 = cc in omega arith))
 
-    pub told_on : (after : Lent) (after-named : List ℕ) (r : Told) (a : PositionPcg) (workAfter : WorkMemory) → not b ≡ false → SolveRuled rest s p mode limit place n before after named after-named a work workAfter → r ≡ told_of a counts maxima
+    pub told_on : (after : Lent) (after-named : List ℕ) (r : Told) (a : Run PositionPcgResult ℕ) (workAfter : WorkMemory) → not b ≡ false → SolveRuled rest s p mode limit place n before after named after-named a work workAfter → r ≡ told_of a counts maxima
         → SolveTold (told && rest) s p mode limit place n before after named after-named counts maxima r work workAfter
     told_on after after-named r a workAfter h q w = rw (← fit h) (told_so rest after after-named r a workAfter q.held.answered w q.held.memory q.named q.ruled)
 
@@ -98,12 +96,12 @@ flag_byte : (b : Bool) → bool_byte b ≡ cond b 1 0
 flag_byte true = refl
 flag_byte false = refl
 
-module _ (a : PositionPcg) (counts : List ℕ) (maxima : List Float) where
-  pub told_accepted : (r : PositionPcgResult) → a ≡ answers.Accepted r → (length counts ≡ 2) × (length maxima ≡ 2)
+module _ (a : Run PositionPcgResult ℕ) (counts : List ℕ) (maxima : List Float) where
+  pub told_accepted : (r : PositionPcgResult) → a ≡ going r → (length counts ≡ 2) × (length maxima ≡ 2)
       → record { number = 0; counts = set (set counts 0 r.iterations) 1 (bool_byte r.converged); maxima = set (set maxima 0 r.linear_residual_m) 1 r.angular_residual_rad } ≡ told_of a counts maxima
   unfolding told_of
   told_accepted r e (hc, hm) = rw (e, flag_byte r.converged, both_set counts r.iterations (cond r.converged 1 0) hc, both_set maxima r.linear_residual_m r.angular_residual_rad hm)
 
-  pub told_refused : (number : ℕ) → a ≡ answers.Refused number → record { number = number; counts = counts; maxima = maxima } ≡ told_of a counts maxima
+  pub told_refused : (number : ℕ) → a ≡ ended number → record { number = number; counts = counts; maxima = maxima } ≡ told_of a counts maxima
   unfolding told_of
   told_refused number e = rw e

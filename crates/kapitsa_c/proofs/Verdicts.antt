@@ -16,23 +16,23 @@ use Rattle.kapitsa_joint.specs.declared.maxima.Maxima.{Maxima}
 use Rattle.rules.specs.Rules.{Rules}
 use Rattle.rules.proofs.Ruled.{rules_above}
 use Rattle.check_range.specs.Closing.{Closing, closing_for}
-use Rattle.check_answer.specs.Answer.{check_of}
-use Rattle.check_answer.specs.declared.CheckAnswer.{CheckAnswer}
-use Rattle.check_answer.specs.declared.CheckAnswer.TheVariants.{Closed, Open, Refused}
+use Rattle.check_answer.specs.Answer.{check_of, CheckAnswer}
 use Rattle.check_answer.proofs.Meaning.{refusal_above}
 use Rattle.check_work.specs.Work.{CheckMemory}
 use Rattle.closing_check.specs.Checked.{Checked}
 use Rattle.closing_check.proofs.Held.{lent_above}
 use Rattle.closing_check.proofs.Entry.{checked_3}
 use Rattle.kapitsa_c.specs.Closing.{VerdictTold, both, verdict_told, verdict_fits, CheckTold}
+use Rattle.check_answer.specs.declared.Verdict.TheVariants.{Closed, Open}
+use Rattle.loops.specs.Run.{going, ended}
 
 -- ---- the promise
 -- 0 is told for a verdict alone
-zero_is : (verdict : List ℕ) (gap : List Float) (a : CheckAnswer) → ((n : ℕ) → a ≡ Refused n → 1 < n) → ((verdict_told a verdict gap).number ≡ 0) ↔ ((n : ℕ) → a ≡ Refused n → ⊥)
+zero_is : (verdict : List ℕ) (gap : List Float) (a : CheckAnswer) → ((n : ℕ) → a ≡ ended n → 1 < n) → ((verdict_told a verdict gap).number ≡ 0) ↔ ((n : ℕ) → a ≡ ended n → ⊥)
 unfolding verdict_told
-zero_is verdict gap (Closed m) above = (λ _ n h. let z : ◌≡◌ {A = ℕ} 0 1 = cc in omega arith, λ _. refl)
-zero_is verdict gap (Open m) above = (λ _ n h. let z : ◌≡◌ {A = ℕ} 0 1 = cc in omega arith, λ _. refl)
-zero_is verdict gap (Refused k) above = (λ e n h. let l = above k refl in omega arith, λ h. absurd (h k refl))
+zero_is verdict gap (going (Closed m)) above = (λ _ n h. let z : ◌≡◌ {A = ℕ} 0 1 = cc in omega arith, λ _. refl)
+zero_is verdict gap (going (Open m)) above = (λ _ n h. let z : ◌≡◌ {A = ℕ} 0 1 = cc in omega arith, λ _. refl)
+zero_is verdict gap (ended k) above = (λ e n h. let l = above k refl in omega arith, λ h. absurd (h k refl))
 
 module _ (kind : Kind) (s : Rules) (t : Table) (listed residual : ℕ → Float) (placed : Bool) (verdict : List ℕ) (gap : List Float) (numbers : List ℕ) (before : CheckMemory) where
   abbrev c : Closing
@@ -70,20 +70,20 @@ told_lengths verdict gap {r} e h =
     let (p, q) = both_true (eqb (length verdict) 1) (eqb (length gap) 2) (sym e ∙ not-false r h) in
     (eqb-true (length verdict) 1 p, eqb-true (length gap) 2 q)
 
-set_only : (l : List ℕ) (w : ℕ) → length l ≡ 1 → set l 0 w ≡ w ∷ []
+pub set_only : (l : List ℕ) (w : ℕ) → length l ≡ 1 → set l 0 w ≡ w ∷ []
 set_only [] w e = absurd (omega arith)
 set_only (x ∷ []) w e = refl
 set_only (x ∷ y ∷ l) w e = absurd (omega arith)
 
 module _ {a : CheckAnswer} {m : Maxima} (verdict : List ℕ) (gap : List Float) {gap' : List Float} where
-  pub told_closed : a ≡ Closed m → length verdict ≡ 1 → gap' ≡ both m → record { number = 0; verdict = set verdict 0 1; gap = gap' } ≡ verdict_told a verdict gap
+  pub told_closed : a ≡ going (Closed m) → length verdict ≡ 1 → gap' ≡ both m → record { number = 0; verdict = set verdict 0 1; gap = gap' } ≡ verdict_told a verdict gap
   unfolding verdict_told
   told_closed e h g = rw (e, set_only verdict 1 h, g)
 
-  pub told_open : a ≡ Open m → length verdict ≡ 1 → gap' ≡ both m → record { number = 0; verdict = set verdict 0 0; gap = gap' } ≡ verdict_told a verdict gap
+  pub told_open : a ≡ going (Open m) → length verdict ≡ 1 → gap' ≡ both m → record { number = 0; verdict = set verdict 0 0; gap = gap' } ≡ verdict_told a verdict gap
   unfolding verdict_told
   told_open e h g = rw (e, set_only verdict 0 h, g)
 
-pub told_refused : {a : CheckAnswer} (verdict : List ℕ) (gap : List Float) {number : ℕ} → a ≡ Refused number → record { number = number; verdict = verdict; gap = gap } ≡ verdict_told a verdict gap
+pub told_refused : {a : CheckAnswer} (verdict : List ℕ) (gap : List Float) {number : ℕ} → a ≡ ended number → record { number = number; verdict = verdict; gap = gap } ≡ verdict_told a verdict gap
 unfolding verdict_told
 told_refused verdict gap e = rw e

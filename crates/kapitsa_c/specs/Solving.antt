@@ -3,15 +3,14 @@ use Rattle.std.specs.Prelude.{ℕ, ◌≡◌, Bool, cond, ◌&&◌, List, [], �
 use Rattle.preconditioner.specs.declared.mode.Mode.{Mode}
 use Rattle.steps.specs.Solve.{solve}
 use Rattle.steps.specs.InPlace.{InPlace}
-use Rattle.loops.specs.Run.{Goes}
+use Rattle.loops.specs.Run.{Goes, Run, going, ended}
 use Rattle.position.specs.Problem.{Problem}
 use Rattle.solve_method.specs.Method.{method_of}
 use Rattle.solve_method.specs.Places.{places_of}
 use Rattle.position_delivery.specs.Outcome.{Lent, outcome_at, MeaningAt}
-use Rattle.position_delivery.specs.declared.answer.PositionPcg.{PositionPcg}
-use Rattle.position_delivery.specs.declared.answer.PositionPcg.TheVariants as answers
 use Rattle.rules.specs.Rules.{Rules, Ruled}
 use Rattle.solve_by_rules.specs.Ruled.{named_by}
+use Rattle.position_delivery.specs.declared.answer.PositionPcgResult.{PositionPcgResult}
 use Rattle.work_memory.specs.Work.{WorkMemory, After}
 
 pub record Told : Type 0 where
@@ -19,9 +18,9 @@ pub record Told : Type 0 where
   pub counts : List ℕ  -- count and flag
   pub maxima : List Float  -- linear and angular
 
-unfoldable pub told_of : PositionPcg → List ℕ → List Float → Told
-told_of (answers.Accepted r) counts maxima = record { number = 0; counts = r.iterations ∷ cond r.converged 1 0 ∷ []; maxima = r.linear_residual_m ∷ r.angular_residual_rad ∷ [] }
-told_of (answers.Refused number) counts maxima = record { number = number; counts = counts; maxima = maxima }
+unfoldable pub told_of : Run PositionPcgResult ℕ → List ℕ → List Float → Told
+told_of (going r) counts maxima = record { number = 0; counts = r.iterations ∷ cond r.converged 1 0 ∷ []; maxima = r.linear_residual_m ∷ r.angular_residual_rad ∷ [] }
+told_of (ended number) counts maxima = record { number = number; counts = counts; maxima = maxima }
 
 -- "3. … a lent slice has not the length the counts call for", of the two slices that take the answer
 unfoldable pub told_fits : List ℕ → List Float → Bool

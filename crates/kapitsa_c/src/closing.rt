@@ -1,5 +1,6 @@
 // The closing check for C: 0 with the verdict and the measured gap, or the refusal's number (3, 4, 27, 28, 6, 7 or 18).
 ghost use Rattle.std.specs.Prelude.{◌≡◌, ◌&&◌, length};
+ghost use Rattle.refusals.specs.Told.{told};
 ghost use Rattle.kapitsa_joint.specs.Table.{table_of};
 ghost use Rattle.kapitsa_joint.specs.declared.kind.Kind.TheVariants.{Position};
 ghost use Rattle.kapitsa_joint.specs.Centre.{centres_in};
@@ -11,9 +12,10 @@ ghost use Rattle.check_refusals.specs.Refusals.{passes3, table_lengths};
 ghost use Rattle.check_work.specs.Work.{memory_of, work_lengths};
 ghost use Rattle.kapitsa_c.specs.Closing.{both, verdict_fits, verdict_told, CheckTold};
 
-use check_answer::CheckAnswer;
+use check_answer::Verdict;
 use closing_check::closing_check;
 use kapitsa_joint::Maxima;
+use refusals::Refusal;
 
 // Refusal 3, of the slices that take the verdict and the gap: true where it does not apply.
 pub fn verdict_fits(verdict: &[u32], gap: &[f64]) -> bool
@@ -31,22 +33,23 @@ fn put_gap(measured: Maxima, gap: &mut [f64])
 }
 
 // The verdict and the gap; nothing where the answer is a refusal.
-pub fn tell_verdict(answer: CheckAnswer, verdict: &mut [u32], gap: &mut [f64]) -> u32
+#[tactic(auto, using(crate::proofs::Verdicts::set_only), unfolding(crate::specs::Closing::verdict_told))]
+pub fn tell_verdict(answer: Result<Verdict, Refusal>, verdict: &mut [u32], gap: &mut [f64]) -> u32
     requires { (length verdict.old ≡ 1) × (length gap.old ≡ 2) }
-    ensures { record { number = result; verdict = verdict.new; gap = gap.new } ≡ verdict_told answer verdict.old gap.old }
+    ensures { record { number = result; verdict = verdict.new; gap = gap.new } ≡ verdict_told (told answer) verdict.old gap.old }
 {
     match answer {
-        CheckAnswer::Closed(measured) => {
+        Ok(Verdict::Closed(measured)) => {
             verdict[0] = 1;
             put_gap(measured, gap);
             0
         }
-        CheckAnswer::Open(measured) => {
+        Ok(Verdict::Open(measured)) => {
             verdict[0] = 0;
             put_gap(measured, gap);
             0
         }
-        CheckAnswer::Refused(number) => number,
+        Err(refusal) => refusal.number(),
     }
 }
 

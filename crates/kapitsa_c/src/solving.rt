@@ -1,5 +1,6 @@
 // The position solve for C: 0, or the refusal's number (3, 25, 4, 27, 28, 5 to 17).
 ghost use Rattle.std.specs.Prelude.{◌≡◌, ◌&&◌, length};
+ghost use Rattle.refusals.specs.Told.{told};
 ghost use Rattle.rules.specs.Rows.{rules_in};
 ghost use Rattle.preconditioner.specs.Mode.{mode_of};
 ghost use Rattle.solve_method.specs.Position.{position_of};
@@ -9,7 +10,8 @@ ghost use Rattle.solve_by_rules.specs.Ruled.{rules_lent, centres_lent};
 ghost use Rattle.kapitsa_c.specs.Solving.{told_of, told_fits, SolveTold};
 
 use pcg::solve_position_pcg_prepared;
-use position_delivery::PositionPcg;
+use position_delivery::PositionPcgResult;
+use refusals::Refusal;
 
 // Refusal 3, of the slices that take the answer: true where it does not apply.
 pub fn told_fits(counts: &[u32], maxima: &[f64]) -> bool
@@ -19,19 +21,23 @@ pub fn told_fits(counts: &[u32], maxima: &[f64]) -> bool
 }
 
 // Count and flag, and the two maxima; nothing where the answer is a refusal.
-pub fn tell(answer: PositionPcg, counts: &mut [u32], maxima: &mut [f64]) -> u32
+pub fn tell(
+    answer: Result<PositionPcgResult, Refusal>,
+    counts: &mut [u32],
+    maxima: &mut [f64],
+) -> u32
     requires { (length counts.old ≡ 2) × (length maxima.old ≡ 2) }
-    ensures { record { number = result; counts = counts.new; maxima = maxima.new } ≡ told_of answer counts.old maxima.old }
+    ensures { record { number = result; counts = counts.new; maxima = maxima.new } ≡ told_of (told answer) counts.old maxima.old }
 {
     match answer {
-        PositionPcg::Accepted(result) => {
+        Ok(result) => {
             counts[0] = result.iterations;
             counts[1] = result.converged as u32;
             maxima[0] = result.linear_residual_m;
             maxima[1] = result.angular_residual_rad;
             0
         }
-        PositionPcg::Refused(number) => number,
+        Err(refusal) => refusal.number(),
     }
 }
 

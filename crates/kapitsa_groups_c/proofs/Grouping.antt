@@ -8,7 +8,7 @@ use native.Mathlib.Omega.{arith}
 use lib.ListN.{length, set}
 use lib.Ieee.{Float}
 use borrow.Author.Tests.{not-true, not-false, eqb-true}
-use Rattle.loops.specs.Run.{Goes}
+use Rattle.loops.specs.Run.{Run, going, ended, Goes}
 use Rattle.loops.specs.Judge.{judge, FirstToFail}
 use Rattle.loops.proofs.Inverse.{apart}
 use Rattle.loops.proofs.Judge.{judge_ended}
@@ -20,8 +20,6 @@ use Rattle.solve_method.specs.Position.{solve_for}
 use Rattle.group_step.specs.Bench.{Bench, Lending, bench_problem}
 use Rattle.groups_solve.specs.Judged.{whole_tests, grouping_out}
 use Rattle.groups_solve.specs.Solved.{GroupsSolved}
-use Rattle.groups_solve.specs.declared.grouping.Grouping.{Grouping}
-use Rattle.groups_solve.specs.declared.grouping.Grouping.TheVariants.{Groups, Refused}
 use Rattle.kapitsa_groups_c.specs.Benches.{BenchTold, bench_told, count_fits, GroupsTold}
 
 abbrev Above : ℕ → Type 0
@@ -41,12 +39,12 @@ module _ (b : Bench) (before : Lending) (count : List ℕ) where
   not_zero fits = among_judge Above (tests fits) (numbers_above b.kind fits b.rows b.bodies before.table.numbers b.words b.masses b.centres b.given b.rules b.shift)
 
   -- 0 is told exactly where the whole table's tests pass
-  told_zero : (fits : Bool) (a : Grouping) → judge (tests fits) ≡ grouping_out a → ((bench_told a count).number ≡ 0) ↔ Goes (judge (tests fits))
+  told_zero : (fits : Bool) (a : Run ℕ ℕ) → judge (tests fits) ≡ grouping_out a → ((bench_told a count).number ≡ 0) ↔ Goes (judge (tests fits))
   unfolding bench_told
-  told_zero fits (Groups groups) e = (λ _. (tt, e), λ _. refl)
-  told_zero fits (Refused number) e = (λ z. let h = not_zero fits number e in absurd (omega arith), λ g. absurd (apart _ g.1 e))
+  told_zero fits (going groups) e = (λ _. (tt, e), λ _. refl)
+  told_zero fits (ended number) e = (λ z. let h = not_zero fits number e in absurd (omega arith), λ g. absurd (apart _ g.1 e))
 
-  groups_told : (fits : Bool) {after : Lending} {a : Grouping} {told : BenchTold} → GroupsSolved fits b before after a → told ≡ bench_told a count → GroupsTold fits b before after count told
+  groups_told : (fits : Bool) {after : Lending} {a : Run ℕ ℕ} {told : BenchTold} → GroupsSolved fits b before after a → told ≡ bench_told a count → GroupsTold fits b before after count told
   groups_told fits {after} {a} {told} h w =
       record {
         answer = a;
@@ -56,7 +54,7 @@ module _ (b : Bench) (before : Lending) (count : List ℕ) where
       }
 
   -- refusal 3 touches nothing
-  refused_3 : (fits : Bool) → fits ≡ false → GroupsSolved fits b before before (Refused 3)
+  refused_3 : (fits : Bool) → fits ≡ false → GroupsSolved fits b before before (ended 3)
   unfolding FirstToFail
   refused_3 fits e = record {
     answered = (judge_ended (tests fits) 3).1 (inl (e, refl));
@@ -70,7 +68,7 @@ module _ (b : Bench) (before : Lending) (count : List ℕ) where
     unfolding bench_told
     bench_untold h = groups_told (count_fits count && rest) (refused_3 (count_fits count && rest) (ap (λ (x : Bool). x && rest) (sym e ∙ not-true r h))) refl
 
-    pub bench_on : {after : Lending} {a : Grouping} {told : BenchTold} → not r ≡ false → GroupsSolved rest b before after a → told ≡ bench_told a count → GroupsTold (count_fits count && rest) b before after count told
+    pub bench_on : {after : Lending} {a : Run ℕ ℕ} {told : BenchTold} → not r ≡ false → GroupsSolved rest b before after a → told ≡ bench_told a count → GroupsTold (count_fits count && rest) b before after count told
     bench_on {after} {a} h k w = groups_told (count_fits count && rest) (subst (λ (x : Bool). GroupsSolved x b before after a) (sym (ap (λ (x : Bool). x && rest) (sym e ∙ not-false r h))) k) w
 
 -- where it fits, it is one word
@@ -84,11 +82,11 @@ one_set [] x e = absurd (omega arith)
 one_set (y ∷ []) x e = refl
 one_set (y ∷ z ∷ zs) x e = absurd (omega arith)
 
-module _ (a : Grouping) (count : List ℕ) where
-  pub told_groups : (groups : ℕ) → a ≡ Groups groups → length count ≡ 1 → record { number = 0; count = set count 0 groups } ≡ bench_told a count
+module _ (a : Run ℕ ℕ) (count : List ℕ) where
+  pub told_groups : (groups : ℕ) → a ≡ going groups → length count ≡ 1 → record { number = 0; count = set count 0 groups } ≡ bench_told a count
   unfolding bench_told
   told_groups groups e h = rw (e, one_set count groups h)
 
-  pub told_whole : (number : ℕ) → a ≡ Refused number → record { number = number; count = count } ≡ bench_told a count
+  pub told_whole : (number : ℕ) → a ≡ ended number → record { number = number; count = count } ≡ bench_told a count
   unfolding bench_told
   told_whole number e = rw e

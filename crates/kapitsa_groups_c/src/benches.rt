@@ -5,9 +5,11 @@ ghost use Rattle.rules.specs.Rows.{rules_in};
 ghost use Rattle.own_memory.specs.Job.{job_fits};
 ghost use Rattle.group_step.specs.Bench.{bench_of, lending_of};
 ghost use Rattle.groups_solve.specs.Judged.{groups_lent};
+ghost use Rattle.refusals.specs.Told.{told};
 ghost use Rattle.kapitsa_groups_c.specs.Benches.{count_fits, bench_told, GroupsTold};
 
-use groups_solve::{Grouping, solve_position_groups, solve_velocity_groups};
+use groups_solve::{solve_position_groups, solve_velocity_groups};
+use refusals::Refusal;
 
 // Refusal 3, of the word that takes how many groups there are: true where it does not apply.
 fn count_fits(group_count: &[u32]) -> bool
@@ -17,16 +19,16 @@ fn count_fits(group_count: &[u32]) -> bool
 }
 
 // How many groups there are; nothing where the answer is a refusal.
-fn tell_groups(answer: Grouping, group_count: &mut [u32]) -> u32
+fn tell_groups(answer: Result<u32, Refusal>, group_count: &mut [u32]) -> u32
     requires { length group_count.old ≡ 1 }
-    ensures { record { number = result; count = group_count.new } ≡ bench_told answer group_count.old }
+    ensures { record { number = result; count = group_count.new } ≡ bench_told (told answer) group_count.old }
 {
     match answer {
-        Grouping::Groups(count) => {
+        Ok(count) => {
             group_count[0] = count;
             0
         }
-        Grouping::Refused(number) => number,
+        Err(refusal) => refusal.number(),
     }
 }
 

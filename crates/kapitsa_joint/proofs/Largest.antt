@@ -4,21 +4,9 @@ use mathlib.Core.Path.{◌≡◌, refl, ap, ◌∙◌}
 use native.Mathlib.Numerals.{add-one}
 use native.Mathlib.Omega.{arith}
 use lib.Ieee.{Float}
-use Rattle.binary64.specs.Order.{larger}
 use Rattle.kapitsa_joint.specs.Maxima.{no_maxima, raised_by, maxima_by}
 use Rattle.kapitsa_joint.specs.declared.tolerance.RowDimension.{RowDimension}
-use Rattle.kapitsa_joint.specs.declared.tolerance.RowDimension.TheVariants.{Linear, Angular}
 use Rattle.kapitsa_joint.specs.declared.maxima.Maxima.{Maxima}
-
--- ---- `raised`
-module _ (m : Maxima) (d : RowDimension) (size x : Float) where
-  pub raised_linear : d ≡ Linear → x ≡ larger m.linear size → record { linear = x; angular = m.angular } ≡ raised_by d size m
-  unfolding raised_by
-  raised_linear e ex = rw (e, ex)
-
-  pub raised_angular : d ≡ Angular → x ≡ larger m.angular size → record { linear = m.linear; angular = x } ≡ raised_by d size m
-  unfolding raised_by
-  raised_angular e ex = rw (e, ex)
 
 -- ---- a loop over n rows, of which the first i are looked at
 pub record Largest (dimension : ℕ → RowDimension) (size : ℕ → Float) (n i : ℕ) (m : Maxima) : Type 0 where

@@ -1,5 +1,4 @@
 -- Laws of rows, masses, impulses, tolerances and centres in the lent tables.
-pub mod Dimensions
 pub mod Cross
 pub mod Stored
 pub mod Largest

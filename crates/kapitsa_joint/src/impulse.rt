@@ -10,6 +10,7 @@ pub struct GeneralizedImpulse {
     pub angular: Vec3,
 }
 
+#[tactic(auto, using(kapitsa_math::proofs::Stored::put_vec_long), unfolding(crate::specs::Impulse::put_impulse_of))]
 pub fn put_impulse(impulses: &mut [f64], body: usize, impulse: GeneralizedImpulse)
     requires { 6 * body + 6 ≤ length impulses.old }
     ensures { impulses.new ≡ put_impulse_of impulses.old body impulse }

@@ -3,7 +3,7 @@ ghost use Rattle.std.specs.Prelude.{◌≡◌, ◌+◌, ◌*◌, ◌≤◌, leng
 ghost use Rattle.kapitsa_math.specs.Checked.{checked_value_of};
 ghost use Rattle.kapitsa_joint.specs.Mass.{mass_of, cross_of, diagonal_of};
 
-use kapitsa_math::{Checked, Mat3, Vec3, checked_value, vec_at};
+use kapitsa_math::{Mat3, Vec3, checked_value, vec_at};
 
 #[derive(Clone, Copy)]
 pub struct SolverMass {
@@ -13,7 +13,14 @@ pub struct SolverMass {
 
 impl SolverMass {
     // For generalized Jacobians J = (linear, angular): Ja M^-1 Jb^T. Of the Rust's tests the last one suffices (proofs/Cross.antt).
-    pub fn cross(self, linear_a: Vec3, angular_a: Vec3, linear_b: Vec3, angular_b: Vec3) -> Checked
+    #[tactic(auto, unfolding(crate::specs::Mass::cross_of))]
+    pub fn cross(
+        self,
+        linear_a: Vec3,
+        angular_a: Vec3,
+        linear_b: Vec3,
+        angular_b: Vec3,
+    ) -> Option<f64>
         ensures { result ≡ checked_value_of (cross_of self linear_a angular_a linear_b angular_b) }
     {
         let inertia = self.inverse_inertia;
@@ -24,13 +31,15 @@ impl SolverMass {
     }
 
     // J M^-1 J^T.
-    pub fn diagonal(self, linear: Vec3, angular: Vec3) -> Checked
+    #[tactic(auto, unfolding(crate::specs::Mass::diagonal_of))]
+    pub fn diagonal(self, linear: Vec3, angular: Vec3) -> Option<f64>
         ensures { result ≡ checked_value_of (diagonal_of self linear angular) }
     {
         self.cross(linear, angular, linear, angular)
     }
 }
 
+#[tactic(auto, unfolding(crate::specs::Mass::mass_of))]
 pub fn mass_at(masses: &[f64], body: usize) -> SolverMass
     requires { 10 * body + 10 ≤ length masses.now }
     ensures { result ≡ mass_of masses.now body }

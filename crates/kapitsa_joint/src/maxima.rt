@@ -11,6 +11,7 @@ pub struct Maxima {
 }
 
 impl Maxima {
+    #[tactic(auto, unfolding(crate::specs::Maxima::raised_by))]
     pub fn raised(self, dimension: RowDimension, size: f64) -> Maxima
         ensures { result ≡ raised_by dimension size self }
     {

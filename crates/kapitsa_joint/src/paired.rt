@@ -5,6 +5,7 @@ ghost use Rattle.kapitsa_joint.specs.Impulse.{paired_of, put_paired_of};
 use crate::impulse::GeneralizedImpulse;
 use kapitsa_math::{put_spread, spread_at};
 
+#[tactic(auto, unfolding(crate::specs::Impulse::paired_of))]
 pub fn paired_at(impulses: &[f64], body: usize) -> GeneralizedImpulse
     requires { 6 * body + 6 ≤ length impulses.now }
     ensures { result ≡ paired_of impulses.now body }
@@ -16,6 +17,7 @@ pub fn paired_at(impulses: &[f64], body: usize) -> GeneralizedImpulse
     }
 }
 
+#[tactic(auto, using(kapitsa_math::proofs::Stored::put_spread_long), unfolding(crate::specs::Impulse::put_paired_of))]
 pub fn put_paired(impulses: &mut [f64], body: usize, impulse: GeneralizedImpulse)
     requires { 6 * body + 6 ≤ length impulses.old }
     ensures { impulses.new ≡ put_paired_of impulses.old body impulse }

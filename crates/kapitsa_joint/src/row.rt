@@ -22,7 +22,7 @@ pub struct RowScalars {
 }
 
 // The words as they come: that a dimension is 0 or 1 and a flag 0 or 1 is refusal 4's to say.
-#[derive(Clone, Copy)]
+#[derive(Clone, Copy, Debug, PartialEq, Eq)]
 pub struct RowWords {
     pub key: u32,
     pub dimension: u32,
@@ -56,6 +56,7 @@ pub struct RowJacobian {
     pub body_b: u32,
 }
 
+#[tactic(auto, unfolding(crate::specs::Row::scalars_of))]
 pub fn scalars_at(numbers: &[f64], at: usize) -> RowScalars
     requires { at + 12 ≤ length numbers.now }
     ensures { result ≡ scalars_of numbers.now at }
@@ -76,6 +77,7 @@ pub fn scalars_at(numbers: &[f64], at: usize) -> RowScalars
     }
 }
 
+#[tactic(auto, unfolding(crate::specs::Row::words_of))]
 pub fn words_at(words: &[u32], at: usize) -> RowWords
     requires { at + 8 ≤ length words.now }
     ensures { result ≡ words_of words.now at }
@@ -93,6 +95,7 @@ pub fn words_at(words: &[u32], at: usize) -> RowWords
 }
 
 // Row i, whole.
+#[tactic(auto, unfolding(crate::specs::Row::row_of))]
 pub fn row_at(numbers: &[f64], words: &[u32], i: usize) -> ConstraintRow
     requires { (27 * i + 27 ≤ length numbers.now) × (8 * i + 8 ≤ length words.now) }
     ensures { result ≡ row_of numbers.now words.now i }
@@ -110,6 +113,7 @@ pub fn row_at(numbers: &[f64], words: &[u32], i: usize) -> ConstraintRow
 }
 
 // Of row i only the twelve Jacobian numbers and the two bodies.
+#[tactic(auto, unfolding(crate::specs::Row::row_of, crate::specs::Row::jacobian_of, crate::specs::Row::words_of))]
 pub fn jacobian_at(numbers: &[f64], words: &[u32], i: usize) -> RowJacobian
     requires { (27 * i + 27 ≤ length numbers.now) × (8 * i + 8 ≤ length words.now) }
     ensures { result ≡ jacobian_of (row_of numbers.now words.now i) }

@@ -2,7 +2,7 @@
 ghost use Rattle.std.specs.Prelude.{◌≡◌};
 ghost use Rattle.kapitsa_joint.specs.Tolerance.{dimension_of, tolerance_of};
 
-#[derive(Clone, Copy)]
+#[derive(Clone, Copy, Debug, PartialEq, Eq)]
 pub enum RowDimension {
     Linear,
     Angular,
@@ -14,6 +14,7 @@ pub struct JointTolerance {
     pub angular_rad: f64,
 }
 
+#[tactic(auto, unfolding(crate::specs::Tolerance::dimension_of))]
 pub fn dimension(word: u32) -> RowDimension
     ensures { result ≡ dimension_of word }
 {
@@ -24,6 +25,7 @@ pub fn dimension(word: u32) -> RowDimension
 }
 
 impl JointTolerance {
+    #[tactic(auto, unfolding(crate::specs::Tolerance::tolerance_of))]
     pub fn of(self, dimension: RowDimension) -> f64
         ensures { result ≡ tolerance_of self dimension }
     {

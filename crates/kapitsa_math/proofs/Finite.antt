@@ -12,8 +12,7 @@ use Rattle.kapitsa_math.specs.Matrix.{mul_vector_of, finite_columns_of}
 use Rattle.kapitsa_math.specs.Checked.{checked_value_of, checked_dot_of, checked_mul_vector_of}
 use Rattle.kapitsa_math.specs.declared.vector.Vec3.{Vec3}
 use Rattle.kapitsa_math.specs.declared.matrix.Mat3.{Mat3}
-use Rattle.kapitsa_math.specs.declared.matrix.CheckedVector.TheVariants as vectors
-use Rattle.kapitsa_math.specs.declared.scalar.Checked.TheVariants.{Value, Overflow}
+use Rattle.std.specs.Prelude.{Some, None}
 
 -- the three numbers of a finite vector
 pub record FiniteVector (v : Vec3) : Type 0 where
@@ -75,18 +74,18 @@ pub checked_dot_final : (v w : Vec3) → checked_dot_of v w ≡ checked_value_of
 unfolding checked_dot_of checked_value_of check
 checked_dot_final v w = go (finite (dot_of v w)) refl (is_finite_of v && is_finite_of w) refl
   where
-    go : (b : Bool) → finite (dot_of v w) ≡ b → (c : Bool) → (is_finite_of v && is_finite_of w) ≡ c → check c (check b (Value (dot_of v w)) Overflow) Overflow ≡ check b (Value (dot_of v w)) Overflow
+    go : (b : Bool) → finite (dot_of v w) ≡ b → (c : Bool) → (is_finite_of v && is_finite_of w) ≡ c → check c (check b (Some (dot_of v w)) None) None ≡ check b (Some (dot_of v w)) None
     go b e true h = refl
     go false e false h = refl
     go true e false h =
         let f = dot_finite v w (held e) in
         absurd (subst T h (and_i (is_finite_of v) (is_finite_of w) (finite_vector v f.0) (finite_vector w f.1)))
 
-pub checked_product_final : (m : Mat3) (v : Vec3) → checked_mul_vector_of m v ≡ check (is_finite_of (mul_vector_of m v)) (vectors.Value (mul_vector_of m v)) vectors.Overflow
+pub checked_product_final : (m : Mat3) (v : Vec3) → checked_mul_vector_of m v ≡ check (is_finite_of (mul_vector_of m v)) (Some (mul_vector_of m v)) None
 unfolding checked_mul_vector_of check
 checked_product_final m v = go (is_finite_of (mul_vector_of m v)) refl (finite_columns_of m && is_finite_of v) refl
   where
-    go : (b : Bool) → is_finite_of (mul_vector_of m v) ≡ b → (c : Bool) → (finite_columns_of m && is_finite_of v) ≡ c → check c (check b (vectors.Value (mul_vector_of m v)) vectors.Overflow) vectors.Overflow ≡ check b (vectors.Value (mul_vector_of m v)) vectors.Overflow
+    go : (b : Bool) → is_finite_of (mul_vector_of m v) ≡ b → (c : Bool) → (finite_columns_of m && is_finite_of v) ≡ c → check c (check b (Some (mul_vector_of m v)) None) None ≡ check b (Some (mul_vector_of m v)) None
     go b e true h = refl
     go false e false h = refl
     go true e false h =

@@ -4,6 +4,7 @@ ghost use Rattle.kapitsa_math.specs.Lent.{vec_of, put_vec_of, spread_of, put_spr
 
 use crate::vector::Vec3;
 
+#[tactic(auto, unfolding(crate::specs::Lent::vec_of))]
 pub fn vec_at(numbers: &[f64], at: usize) -> Vec3
     requires { at + 3 ≤ length numbers.now }
     ensures { result ≡ vec_of numbers.now at }
@@ -15,6 +16,7 @@ pub fn vec_at(numbers: &[f64], at: usize) -> Vec3
     }
 }
 
+#[tactic(auto, unfolding(crate::specs::Lent::put_vec_of))]
 pub fn put_vec(out: &mut [f64], at: usize, v: Vec3)
     requires { at + 3 ≤ length out.old }
     ensures { out.new ≡ put_vec_of out.old at v }
@@ -24,6 +26,7 @@ pub fn put_vec(out: &mut [f64], at: usize, v: Vec3)
     out[at + 2] = v.z;
 }
 
+#[tactic(auto, unfolding(crate::specs::Lent::spread_of))]
 pub fn spread_at(numbers: &[f64], at: usize) -> Vec3
     requires { at + 5 ≤ length numbers.now }
     ensures { result ≡ spread_of numbers.now at }
@@ -35,6 +38,7 @@ pub fn spread_at(numbers: &[f64], at: usize) -> Vec3
     }
 }
 
+#[tactic(auto, unfolding(crate::specs::Lent::put_spread_of))]
 pub fn put_spread(out: &mut [f64], at: usize, v: Vec3)
     requires { at + 5 ≤ length out.old }
     ensures { out.new ≡ put_spread_of out.old at v }

@@ -2,17 +2,8 @@
 ghost use Rattle.std.specs.Prelude.{◌≡◌};
 ghost use Rattle.kapitsa_math.specs.Checked.{checked_value_of};
 
-#[derive(Clone, Copy)]
-pub enum Checked {
-    Value(f64),
-    Overflow,
-}
-
-pub fn checked_value(x: f64) -> Checked
+pub fn checked_value(x: f64) -> Option<f64>
     ensures { result ≡ checked_value_of x }
 {
-    if !binary64::is_finite(x) {
-        return Checked::Overflow;
-    }
-    Checked::Value(x)
+    binary64::is_finite(x).then_some(x)
 }

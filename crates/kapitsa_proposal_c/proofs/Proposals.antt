@@ -8,7 +8,7 @@ use native.Mathlib.Omega.{arith}
 use lib.ListN.{length, set}
 use lib.Ieee.{Float}
 use borrow.Author.Tests.{eq-eqb, ne_eqb}
-use Rattle.loops.specs.Run.{Goes, going, ended}
+use Rattle.loops.specs.Run.{Goes, going, ended, Run}
 use Rattle.loops.proofs.Inverse.{apart as apart-runs}
 use Rattle.rules.specs.Rules.{Rules}
 use Rattle.preconditioner.specs.declared.mode.Mode.{Mode}
@@ -18,8 +18,6 @@ use Rattle.solve_method.specs.Method.{method_of}
 use Rattle.solve_method.specs.Places.{Apart}
 use Rattle.solve_method.proofs.InPlace.{problem_not_zero}
 use Rattle.position_delivery.specs.Outcome.{Answer, proposal_of}
-use Rattle.position_delivery.specs.declared.answer.PositionPcg.{PositionPcg}
-use Rattle.position_delivery.specs.declared.answer.PositionPcg.TheVariants as answers
 use Rattle.position_delivery.specs.declared.answer.PositionPcgResult.{PositionPcgResult}
 use Rattle.work_memory.specs.Work.{WorkMemory}
 use Rattle.proposals.specs.Proposal.{ProposalMemory, Proposing, proposing}
@@ -36,14 +34,14 @@ told_zero fits p mode limit n numbers before maxima apart = go (solve (method_of
     go (going a) h = (λ _. (a, refl), λ _. refl)
     go (ended k) h = (λ e. let z = h k refl in absurd (omega arith), λ g. absurd (apart-runs _ g.1 refl))
 
-pub proposal_told : {fits : Bool} {s : Rules} {p : Problem} {mode : Mode} {limit n : ℕ} {numbers : List Float} {before after : ProposalMemory} {rules rulesAfter : List ℕ} {maxima : List Float} {a : PositionPcg} {work workAfter : WorkMemory} {told : MaximaTold} → Apart p
+pub proposal_told : {fits : Bool} {s : Rules} {p : Problem} {mode : Mode} {limit n : ℕ} {numbers : List Float} {before after : ProposalMemory} {rules rulesAfter : List ℕ} {maxima : List Float} {a : Run PositionPcgResult ℕ} {work workAfter : WorkMemory} {told : MaximaTold} → Apart p
     → Proposed fits s p mode limit n numbers before after rules rulesAfter a work workAfter → told ≡ maxima_told a maxima → ProposalTold fits s p mode limit n numbers before after rules rulesAfter maxima told work workAfter
 proposal_told {fits} {s} {p} {mode} {limit} {n} {numbers} {before} {after} {rules} {rulesAfter} {maxima} {a} {work} {workAfter} {told} apart h w =
     let e : a ≡ (proposing n numbers before (solve (method_of fits p mode) limit)).answer = sym (ap (λ (x : Proposing). x.answer) h.answered) in
-    let answered = w ∙ ap (λ (x : PositionPcg). maxima_told x maxima) e in
+    let answered = w ∙ ap (λ (x : Run PositionPcgResult ℕ). maxima_told x maxima) e in
     record {
       answered = answered;
-      proposed = subst (λ (x : PositionPcg). Proposed fits s p mode limit n numbers before after rules rulesAfter x work workAfter) e h;
+      proposed = subst (λ (x : Run PositionPcgResult ℕ). Proposed fits s p mode limit n numbers before after rules rulesAfter x work workAfter) e h;
       zero = subst (λ (x : ℕ). (x ≡ 0) ↔ Goes (solve (method_of fits p mode) limit)) (sym (ap (λ (x : MaximaTold). x.number) answered)) (told_zero fits p mode limit n numbers before maxima apart);
     }
 
@@ -57,21 +55,21 @@ module _ (maxima : List Float) where
   unfolding maxima_fit
   maxima_fit_lem rest h = rw (eq-eqb (length maxima) 2 h)
 
-  pub told_three : record { number = 3; maxima = maxima } ≡ maxima_told (answers.Refused 3) maxima
+  pub told_three : record { number = 3; maxima = maxima } ≡ maxima_told (ended 3) maxima
   unfolding maxima_told
   told_three = refl
 
 -- a proposal of a job whose slices fit
-pub proposal_on : {rest fits : Bool} {s : Rules} {p : Problem} {mode : Mode} {limit n : ℕ} {numbers : List Float} {before after : ProposalMemory} {rules rulesAfter : List ℕ} {maxima : List Float} {a : PositionPcg} {work workAfter : WorkMemory} {told : MaximaTold} → Apart p → rest ≡ fits
+pub proposal_on : {rest fits : Bool} {s : Rules} {p : Problem} {mode : Mode} {limit n : ℕ} {numbers : List Float} {before after : ProposalMemory} {rules rulesAfter : List ℕ} {maxima : List Float} {a : Run PositionPcgResult ℕ} {work workAfter : WorkMemory} {told : MaximaTold} → Apart p → rest ≡ fits
     → Proposed rest s p mode limit n numbers before after rules rulesAfter a work workAfter → told ≡ maxima_told a maxima → ProposalTold fits s p mode limit n numbers before after rules rulesAfter maxima told work workAfter
 proposal_on apart e h w = rw (← e) (proposal_told apart h w)
 
 -- ---- `tell_maxima`
-module _ (a : PositionPcg) (maxima : List Float) where
-  pub maxima_accepted : (r : PositionPcgResult) → a ≡ answers.Accepted r → length maxima ≡ 2 → record { number = 0; maxima = set (set maxima 0 r.linear_residual_m) 1 r.angular_residual_rad } ≡ maxima_told a maxima
+module _ (a : Run PositionPcgResult ℕ) (maxima : List Float) where
+  pub maxima_accepted : (r : PositionPcgResult) → a ≡ going r → length maxima ≡ 2 → record { number = 0; maxima = set (set maxima 0 r.linear_residual_m) 1 r.angular_residual_rad } ≡ maxima_told a maxima
   unfolding maxima_told
   maxima_accepted r e h = rw (e, both_set maxima r.linear_residual_m r.angular_residual_rad h)
 
-  pub maxima_refused : (number : ℕ) → a ≡ answers.Refused number → record { number = number; maxima = maxima } ≡ maxima_told a maxima
+  pub maxima_refused : (number : ℕ) → a ≡ ended number → record { number = number; maxima = maxima } ≡ maxima_told a maxima
   unfolding maxima_told
   maxima_refused number e = rw e

@@ -1,24 +1,23 @@
 -- What a proposal tells C: 0 with the proposal and the maxima, or the refusal's number, and then nothing else.
 use Rattle.std.specs.Prelude.{ℕ, ◌≡◌, Bool, List, [], ◌∷◌, ◌↔◌, eqb, length, Float}
-use Rattle.loops.specs.Run.{Goes}
+use Rattle.loops.specs.Run.{Goes, Run, going, ended}
 use Rattle.rules.specs.Rules.{Rules}
 use Rattle.preconditioner.specs.declared.mode.Mode.{Mode}
 use Rattle.position.specs.Problem.{Problem}
 use Rattle.steps.specs.Solve.{solve}
 use Rattle.solve_method.specs.Method.{method_of}
-use Rattle.position_delivery.specs.declared.answer.PositionPcg.{PositionPcg}
-use Rattle.position_delivery.specs.declared.answer.PositionPcg.TheVariants as answers
 use Rattle.work_memory.specs.Work.{WorkMemory}
 use Rattle.proposals.specs.Proposal.{ProposalMemory, proposing}
+use Rattle.position_delivery.specs.declared.answer.PositionPcgResult.{PositionPcgResult}
 use Rattle.position_proposal.specs.Proposed.{Proposed}
 
 pub record MaximaTold : Type 0 where
   pub number : ℕ
   pub maxima : List Float  -- linear and angular
 
-unfoldable pub maxima_told : PositionPcg → List Float → MaximaTold
-maxima_told (answers.Accepted r) maxima = record { number = 0; maxima = r.linear_residual_m ∷ r.angular_residual_rad ∷ [] }
-maxima_told (answers.Refused number) maxima = record { number = number; maxima = maxima }
+unfoldable pub maxima_told : Run PositionPcgResult ℕ → List Float → MaximaTold
+maxima_told (going r) maxima = record { number = 0; maxima = r.linear_residual_m ∷ r.angular_residual_rad ∷ [] }
+maxima_told (ended number) maxima = record { number = number; maxima = maxima }
 
 -- "3. … a lent slice has not the length the counts call for", of the slice that takes the maxima
 unfoldable pub maxima_fit : List Float → Bool

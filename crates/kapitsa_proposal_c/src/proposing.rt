@@ -1,5 +1,6 @@
 // Propose, look, then commit, for C (document 02, l): 0, or the refusal's number.
 ghost use Rattle.std.specs.Prelude.{◌≡◌, ◌&&◌, length};
+ghost use Rattle.refusals.specs.Told.{told};
 ghost use Rattle.rules.specs.Rows.{rules_in};
 ghost use Rattle.preconditioner.specs.Mode.{mode_of};
 ghost use Rattle.solve_method.specs.Position.{position_of};
@@ -10,22 +11,23 @@ ghost use Rattle.position_proposal.specs.Proposed.{proposal_lent};
 ghost use Rattle.proposals.specs.Commit.{Committed};
 ghost use Rattle.kapitsa_proposal_c.specs.Proposing.{maxima_fit, maxima_told, ProposalTold};
 
-use position_delivery::PositionPcg;
+use position_delivery::PositionPcgResult;
 use position_proposal::propose_position;
 use proposals::commit_proposal;
+use refusals::Refusal;
 
 // The two maxima; nothing where the answer is a refusal.
-fn tell_maxima(answer: PositionPcg, maxima: &mut [f64]) -> u32
+fn tell_maxima(answer: Result<PositionPcgResult, Refusal>, maxima: &mut [f64]) -> u32
     requires { length maxima.old ≡ 2 }
-    ensures { record { number = result; maxima = maxima.new } ≡ maxima_told answer maxima.old }
+    ensures { record { number = result; maxima = maxima.new } ≡ maxima_told (told answer) maxima.old }
 {
     match answer {
-        PositionPcg::Accepted(result) => {
+        Ok(result) => {
             maxima[0] = result.linear_residual_m;
             maxima[1] = result.angular_residual_rad;
             0
         }
-        PositionPcg::Refused(number) => number,
+        Err(refusal) => refusal.number(),
     }
 }
 
@@ -120,5 +122,8 @@ pub extern "C" fn kapitsa_commit_proposal(
 ) -> u32
     ensures { Committed numbers.old rows proposal.old solution.now started.now record { number = result; numbers = numbers.new; words = proposal.new } }
 {
-    commit_proposal(numbers, rows, proposal, solution, started)
+    match commit_proposal(numbers, rows, proposal, solution, started) {
+        Ok(()) => 0,
+        Err(refusal) => refusal.number(),
+    }
 }

@@ -9,8 +9,7 @@ use Rattle.kapitsa_joint.specs.Table.{Table}
 use Rattle.kapitsa_joint.specs.declared.kind.Kind.{Kind}
 use Rattle.rules.specs.Rules.{Rules}
 use Rattle.check_range.specs.Closing.{Closing, closing_for}
-use Rattle.check_answer.specs.Answer.{check_of}
-use Rattle.check_answer.specs.declared.CheckAnswer.{CheckAnswer}
+use Rattle.check_answer.specs.Answer.{check_of, CheckAnswer}
 use Rattle.check_work.specs.Work.{CheckMemory}
 use Rattle.closing_check.proofs.Entry.{checked_3}
 use Rattle.closing_gaps.specs.Gaps.{GapsTold, GapsHeld}

@@ -1,17 +1,17 @@
 -- What C is told of a place. Assumes nothing.
 use Prim.Native.Nat.{ℕ}
-use mathlib.Core.Path.{◌≡◌, refl, sym, ap, ◌∙◌}
-use mathlib.Core.Bool.{Bool, true, false, not, ◌&&◌}
+use mathlib.Core.Path.{◌≡◌, refl}
+use mathlib.Core.Bool.{true, false, not, ◌&&◌}
 use mathlib.Core.List.{List, [], ◌∷◌}
 use mathlib.Core.Logic.{◌≢◌}
 use native.Mathlib.Omega.{arith}
 use lib.Dec.{leb, eqb}
 use lib.ListN.{length, set}
-use borrow.Author.Tests.{eq-eqb, ne_eqb, eqb-true, not-true, not-false}
+use borrow.Author.Tests.{ne_eqb, eqb-true, not-true, not-false}
 use Rattle.loops.proofs.Both.{both}
 use Rattle.kapitsa_joint.specs.declared.kind.Kind.TheVariants as kinds
 use Rattle.first_refusal.specs.declared.place.Place.{Place}
-use Rattle.kapitsa_report_c.specs.Refusing.{PlaceTold, kind_for, place_words, place_fits, place_told}
+use Rattle.kapitsa_report_c.specs.Refusing.{kind_for, place_words, place_fits, place_told}
 
 pub kind_velocity : {velocities : ℕ} → velocities ≡ 1 → kinds.Velocity ≡ kind_for velocities
 unfolding kind_for

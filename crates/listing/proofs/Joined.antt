@@ -1,5 +1,5 @@
 -- Two texts written one after the other are one text: `wrote_join`, and what it needs and gives at each call of a function that writes. Assumes nothing.
-use Prim.Native.Nat.{ℕ, ◌+◌, ◌<◌, ◌≤◌}
+use Prim.Native.Nat.{ℕ, ◌+◌, ◌-◌, ◌<◌, ◌≤◌}
 use mathlib.Core.Path.{◌≡◌, refl, sym, ap, ◌∙◌}
 use mathlib.Core.List.{List, [], ◌∷◌, ◌++◌, append_assoc, append-nil}
 use native.Mathlib.Omega.{arith}
@@ -7,6 +7,7 @@ use native.Mathlib.Nat.{add-zero}
 use native.Mathlib.Numerals.{add-one}
 use lib.ListN.{length, take, drop, set, length-append, length-drop, take-append-drop}
 use lib.Seq.{length-take-le, take_at, drop_at, drop-drop, set_split}
+use borrow.Rule.Slice.PartMut.{put_mid}
 use Rattle.listing.specs.Written.{placed, Room, Wrote}
 
 -- ---- one text
@@ -42,6 +43,13 @@ module _ (out : List ℕ) (at : ℕ) where
   pub wrote_one : (b : ℕ) → at < length out → Wrote out at (b ∷ []) (set out at b) (at + 1)
   unfolding placed
   wrote_one b h = record { within = omega arith; bytes = set_split out at b h ∙ sym (append_assoc (take at out) (b ∷ []) (drop (at + 1) out) ∙ ap (λ k. take at out ++ (b ∷ drop k out)) (add-one at)); after = refl }
+
+  -- a text copied over a part of the bytes
+  pub wrote_part : {text part : List ℕ} → Room out at text → part ≡ text → Wrote out at text (put_mid at (at + length text - at) out part) (at + length text)
+  unfolding placed
+  wrote_part {text} r e =
+      let k : at + length text - at ≡ length text = omega arith in
+      record { within = r.fits; bytes = rw (e, k, drop-drop) (sym (append_assoc (take at out) text (drop (at + length text) out))); after = refl }
 
 -- a byte that a call has answered
 pub room_byte : {out : List ℕ} {at : ℕ} (a : ℕ) {b : ℕ} → Room out at (a ∷ []) → Room out at (b ∷ [])

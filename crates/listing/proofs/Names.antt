@@ -11,10 +11,10 @@ use lib.Ieee.{Float, nan, le}
 use borrow.Author.Tests.{le-leb, lt-leb, eq-eqb, ne_eqb}
 use mir.Val.{bool_byte}
 use Rattle.kapitsa_joint.specs.declared.maxima.Maxima.{Maxima}
-use Rattle.listing.specs.Lines.{solve_line, gap_line, no_gap_line, solve_name, gap_name, none_name, carried_name, close_name, row_name, body_name, margin_name, measured_name, refused_name, limit_name, row_gap_line, centre_count}
+use Rattle.listing.specs.Lines.{solve_line, gap_line, no_gap_line, solve_name, gap_name, none_name, carried_name, close_name, row_name, body_name, margin_name, measured_name, refused_name, limit_name, row_gap_line, centre_count, refused_limit_line}
 use Rattle.listing.specs.Digits.{doubles}
 use Rattle.listing.specs.Written.{Room}
-use Rattle.listing.specs.Listing.{flag_of, measured_line, head_lines, margin_lines, margin_listing, row_gap, gap_lines, gap_listing, RulesBelow}
+use Rattle.listing.specs.Listing.{flag_of, measured_line, head_lines, margin_lines, margin_listing, row_gap, gap_lines, gap_listing}
 use Rattle.listing.proofs.Joined.{room_first}
 
 pub solve_name_lem : 115 ∷ 111 ∷ 108 ∷ 118 ∷ 101 ∷ [] ≡ solve_name
@@ -25,9 +25,9 @@ pub gap_name_lem : 103 ∷ 97 ∷ 112 ∷ [] ≡ gap_name
 unfolding gap_name
 gap_name_lem = refl
 
-pub none_name_lem : 32 ∷ 110 ∷ 111 ∷ 110 ∷ 101 ∷ [] ≡ 32 ∷ none_name
-unfolding none_name
-none_name_lem = refl
+pub no_gap_text : 103 ∷ 97 ∷ 112 ∷ 32 ∷ 110 ∷ 111 ∷ 110 ∷ 101 ∷ 10 ∷ [] ≡ no_gap_line
+unfolding no_gap_line gap_name none_name
+no_gap_text = refl
 
 pub carried_name_lem : 99 ∷ 97 ∷ 114 ∷ 114 ∷ 105 ∷ 101 ∷ 100 ∷ [] ≡ carried_name
 unfolding carried_name
@@ -53,21 +53,17 @@ pub measured_name_lem : 109 ∷ 101 ∷ 97 ∷ 115 ∷ 117 ∷ 114 ∷ 101 ∷ 1
 unfolding measured_name
 measured_name_lem = refl
 
-pub refused_name_lem : 114 ∷ 101 ∷ 102 ∷ 117 ∷ 115 ∷ 101 ∷ 100 ∷ [] ≡ refused_name
-unfolding refused_name
-refused_name_lem = refl
+pub refused_row_text : 114 ∷ 101 ∷ 102 ∷ 117 ∷ 115 ∷ 101 ∷ 100 ∷ 32 ∷ 114 ∷ 111 ∷ 119 ∷ [] ≡ refused_name ++ (32 ∷ row_name)
+unfolding refused_name row_name
+refused_row_text = refl
 
-pub of_row_name : 32 ∷ 114 ∷ 111 ∷ 119 ∷ [] ≡ 32 ∷ row_name
-unfolding row_name
-of_row_name = refl
+pub refused_body_text : 114 ∷ 101 ∷ 102 ∷ 117 ∷ 115 ∷ 101 ∷ 100 ∷ 32 ∷ 98 ∷ 111 ∷ 100 ∷ 121 ∷ [] ≡ refused_name ++ (32 ∷ body_name)
+unfolding refused_name body_name
+refused_body_text = refl
 
-pub of_body_name : 32 ∷ 98 ∷ 111 ∷ 100 ∷ 121 ∷ [] ≡ 32 ∷ body_name
-unfolding body_name
-of_body_name = refl
-
-pub of_limit_name : 32 ∷ 108 ∷ 105 ∷ 109 ∷ 105 ∷ 116 ∷ [] ≡ 32 ∷ limit_name
-unfolding limit_name
-of_limit_name = refl
+pub refused_limit_text : 114 ∷ 101 ∷ 102 ∷ 117 ∷ 115 ∷ 101 ∷ 100 ∷ 32 ∷ 108 ∷ 105 ∷ 109 ∷ 105 ∷ 116 ∷ 10 ∷ [] ≡ refused_limit_line
+unfolding refused_limit_line refused_name limit_name
+refused_limit_text = refl
 
 -- `flag as u32`
 pub flag_line : (count : ℕ) (flag : Bool) → solve_line 0 count (bool_byte flag) ≡ solve_line 0 count (flag_of flag)
@@ -125,13 +121,12 @@ module _ (count : ℕ) (flag : Bool) (gap carried : Maxima) (verdict rows : ℕ)
   unfolding margin_listing
   margins_head h = room_first (cond (eqb verdict 1) (margin_lines margin_rows margins rows) []) h
 
--- a row's line, by the rule and the flag that the code reads
-pub rule_below : {rule_numbers : List ℕ} {rows rules i r : ℕ} → RulesBelow rule_numbers rows rules → i < rows → r ≡ get_or rule_numbers i 0 → r < rules
-rule_below {i = i} h l e = let b = h.below i l in omega arith
-
-pub row_gap_as : (words : List ℕ) (gaps : List Float) (rule_numbers : List ℕ) (tolerances : List Float) (i : ℕ) {r : ℕ} → r ≡ get_or rule_numbers i 0
-    → let x = get_or gaps i nan in let tolerance = get_or tolerances r nan in row_gap_line i (get_or words (8 * i + 6) 0) x tolerance (bool_byte (le x tolerance)) ≡ row_gap words gaps rule_numbers tolerances i
-row_gap_as words gaps rule_numbers tolerances i e = rw (e, flag_byte (le (get_or gaps i nan) (get_or tolerances (get_or rule_numbers i 0) nan)))
+-- a row's line, by the flag that the code reads
+pub row_gap_as : (words : List ℕ) (gaps : List Float) (rule_numbers : List ℕ) (tolerances : List Float) (i : ℕ)
+    → let x = get_or gaps i nan in
+    let tolerance = get_or tolerances (get_or rule_numbers i 0) nan in
+    row_gap_line i (get_or words (8 * i + 6) 0) x tolerance (bool_byte (le x tolerance)) ≡ row_gap words gaps rule_numbers tolerances i
+row_gap_as words gaps rule_numbers tolerances i = rw (flag_byte (le (get_or gaps i nan) (get_or tolerances (get_or rule_numbers i 0) nan)))
 
 -- `1 < verdict`
 module _ (count : ℕ) (flag : Bool) (gap carried : Maxima) (verdict rows : ℕ) (words : List ℕ) (gaps : List Float) (rule_numbers : List ℕ) (tolerances : List Float) where

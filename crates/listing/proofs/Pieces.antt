@@ -1,12 +1,11 @@
 -- A loop that writes a text a turn: its invariant `Writing`, and what that comes to at each of its needs. Assumes nothing.
-use Prim.Native.Nat.{ℕ, zero, suc, ◌+◌, ◌<◌, ◌≤◌}
-use mathlib.Core.Path.{◌≡◌, refl, sym, ap, ◌∙◌}
-use mathlib.Core.List.{List, [], ◌∷◌, ◌++◌}
+use Prim.Native.Nat.{ℕ, suc, ◌+◌, ◌<◌, ◌≤◌}
+use mathlib.Core.Path.{◌≡◌}
+use mathlib.Core.List.{List}
 use native.Mathlib.Omega.{arith}
 use native.Mathlib.Numerals.{add-one}
 use native.Mathlib.Decide.{le_ind}
-use lib.ListN.{length, get_or, take, length-append}
-use lib.Seq.{take-suc, take-length}
+use lib.ListN.{length, length-append}
 use Rattle.listing.specs.Written.{Room, Wrote, pieces}
 use Rattle.listing.proofs.Joined.{length_wrote, wrote_none, room_rest, wrote_join}
 
@@ -40,15 +39,3 @@ module _ {out : List ℕ} {at : ℕ} {g : ℕ → List ℕ} {n : ℕ} where
 
     pub writing_end : n ≤ i → Wrote out at (pieces g n) out₁ mid
     writing_end l = let e : i ≡ n = omega arith in rw e at w.wrote
-
--- ---- a text byte by byte
-abbrev pub byte_of : List ℕ → ℕ → List ℕ
-byte_of text j = get_or text j 0 ∷ []
-
-pub by_bytes : (text : List ℕ) → pieces (byte_of text) (length text) ≡ text
-unfolding pieces
-by_bytes text = go (length text) (omega arith) ∙ take-length text
-  where
-    go : (k : ℕ) → k ≤ length text → pieces (byte_of text) k ≡ take k text
-    go zero h = refl
-    go (suc k) h = ap (λ l. l ++ (get_or text k 0 ∷ [])) (go k (omega arith)) ∙ sym (take-suc text k 0 (omega arith))

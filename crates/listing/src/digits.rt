@@ -5,6 +5,7 @@ ghost use Rattle.listing.specs.Digits.{decimal_digit, decimal, hexadecimal_digit
 
 use crate::text::put_byte;
 
+#[tactic(auto, unfolding(crate::specs::Digits::decimal_digit))]
 fn decimal_digit(d: u32) -> u8
     requires { d < 10 }
     ensures { result ≡ decimal_digit d }
@@ -41,11 +42,9 @@ pub fn put_hexadecimal(out: &mut [u8], at: usize, bits: u64) -> usize
     ensures { Wrote out.old at (hexadecimal bits) out.new result }
 {
     let mut next = at;
-    let mut k: u32 = 0;
-    while k < 16 {
+    for k in 0..16_u32 {
         let digit = hexadecimal_digit((bits >> (60 - 4 * k)) % 16);
         next = put_byte(out, next, digit);
-        k += 1;
     }
     next
 }
@@ -74,10 +73,8 @@ pub fn put_doubles(out: &mut [u8], at: usize, list: &[f64], first: usize, n: usi
     ensures { Wrote out.old at (doubles list.now first n) out.new result }
 {
     let mut next = at;
-    let mut k = 0;
-    while k < n {
+    for k in 0..n {
         next = put_double(out, next, list[first + k]);
-        k += 1;
     }
     next
 }

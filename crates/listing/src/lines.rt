@@ -7,7 +7,6 @@ ghost use Rattle.listing.specs.Listing.{measured_line, row_lines, body_lines, ma
 use crate::digits::{put_double, put_doubles, put_number};
 use crate::text::{put_byte, put_text};
 use kapitsa_joint::Maxima;
-use loops::wide;
 
 pub fn solve_line(out: &mut [u8], at: usize, refusal: u32, count: u32, flag: u32) -> usize
     requires { Room out.old at (solve_line refusal count flag) }
@@ -41,9 +40,7 @@ pub fn no_gap_line(out: &mut [u8], at: usize) -> usize
     requires { Room out.old at no_gap_line }
     ensures { Wrote out.old at no_gap_line out.new result }
 {
-    let a = put_text(out, at, b"gap");
-    let b = put_text(out, a, b" none");
-    put_byte(out, b, b'\n')
+    put_text(out, at, b"gap none\n")
 }
 
 pub fn measured_line(out: &mut [u8], at: usize, verdict: u32, gap: Maxima) -> usize
@@ -119,10 +116,8 @@ pub fn row_lines(out: &mut [u8], at: usize, numbers: &[f64], rows: u32) -> usize
     ensures { Wrote out.old at (row_lines numbers.now rows) out.new result }
 {
     let mut next = at;
-    let mut i = 0;
-    while i < rows {
+    for i in 0..rows {
         next = row_line(out, next, i, numbers[27 * (i as usize) + 24]);
-        i += 1;
     }
     next
 }
@@ -139,10 +134,8 @@ pub fn body_lines(
     ensures { Wrote out.old at (body_lines impulses.now spare centres.now bodies) out.new result }
 {
     let mut next = at;
-    let mut b = 0;
-    while b < bodies {
+    for b in 0..bodies {
         next = body_line(out, next, b, impulses, spare, centres);
-        b += 1;
     }
     next
 }
@@ -168,10 +161,8 @@ pub fn margin_lines(
     ensures { Wrote out.old at (margin_lines margin_rows.now margins.now n) out.new result }
 {
     let mut next = at;
-    let mut k = 0;
-    while k < n {
+    for k in 0..n {
         next = margin_line(out, next, margin_rows[k], margins[k]);
-        k += 1;
     }
     next
 }
@@ -211,15 +202,13 @@ pub fn gap_lines(
     ensures { Wrote out.old at (gap_lines words.now gaps.now rule_numbers.now tolerances.now rows) out.new result }
 {
     let mut next = at;
-    let mut i = 0;
-    while i < rows {
+    for i in 0..rows {
         let place = i as usize;
         let x = gaps[place];
-        let rule = wide(rule_numbers[place]);
+        let rule = rule_numbers[place] as usize;
         let tolerance = tolerances[rule];
         let within = (x <= tolerance) as u32;
         next = row_gap_line(out, next, i, words[8 * place + 6], x, tolerance, within);
-        i += 1;
     }
     next
 }
@@ -228,20 +217,18 @@ pub fn refused_row_line(out: &mut [u8], at: usize, i: u32, owner: u32) -> usize
     requires { Room out.old at (refused_row_line i owner) }
     ensures { Wrote out.old at (refused_row_line i owner) out.new result }
 {
-    let a = put_text(out, at, b"refused");
-    let b = put_text(out, a, b" row");
-    let c = put_number(out, b, i);
-    let d = put_number(out, c, owner);
-    put_byte(out, d, b'\n')
+    let a = put_text(out, at, b"refused row");
+    let b = put_number(out, a, i);
+    let c = put_number(out, b, owner);
+    put_byte(out, c, b'\n')
 }
 
 pub fn refused_body_line(out: &mut [u8], at: usize, b: u32) -> usize
     requires { Room out.old at (refused_body_line b) }
     ensures { Wrote out.old at (refused_body_line b) out.new result }
 {
-    let name = put_text(out, at, b"refused");
-    let body = put_text(out, name, b" body");
-    let number = put_number(out, body, b);
+    let name = put_text(out, at, b"refused body");
+    let number = put_number(out, name, b);
     put_byte(out, number, b'\n')
 }
 
@@ -249,7 +236,5 @@ pub fn refused_limit_line(out: &mut [u8], at: usize) -> usize
     requires { Room out.old at refused_limit_line }
     ensures { Wrote out.old at refused_limit_line out.new result }
 {
-    let a = put_text(out, at, b"refused");
-    let b = put_text(out, a, b" limit");
-    put_byte(out, b, b'\n')
+    put_text(out, at, b"refused limit\n")
 }

@@ -14,11 +14,7 @@ pub fn put_text(out: &mut [u8], at: usize, text: &[u8]) -> usize
     requires { Room out.old at text.now }
     ensures { Wrote out.old at text.now out.new result }
 {
-    let mut next = at;
-    let mut j = 0;
-    while j < text.len() {
-        next = put_byte(out, next, text[j]);
-        j += 1;
-    }
-    next
+    let end = at + text.len();
+    out[at..end].copy_from_slice(text);
+    end
 }

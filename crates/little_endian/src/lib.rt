@@ -5,32 +5,29 @@
 ghost use Rattle.std.specs.Prelude.{◌≡◌, ◌+◌, ◌*◌, ◌<◌, ◌≤◌, length};
 ghost use Rattle.little_endian.specs.Words.{half_at, word_at, double_at, doubles_at, halves_at};
 
-fn wide(x: u8) -> u32
-    ensures { (result ≡ x) × (result < 256) }
-{
-    x as u32
-}
-
 // Four bytes.
+#[tactic(auto, unfolding(crate::specs::Words::half_at))]
 pub fn half(bytes: &[u8], at: usize) -> u32
     requires { at + 4 ≤ length bytes.now }
     ensures { result ≡ half_at bytes.now at }
 {
-    wide(bytes[at])
-        + 256 * wide(bytes[at + 1])
-        + 65536 * wide(bytes[at + 2])
-        + 16777216 * wide(bytes[at + 3])
+    u32::from(bytes[at])
+        + 256 * u32::from(bytes[at + 1])
+        + 65536 * u32::from(bytes[at + 2])
+        + 16777216 * u32::from(bytes[at + 3])
 }
 
 // Eight bytes.
+#[tactic(auto, unfolding(crate::specs::Words::word_at))]
 pub fn word(bytes: &[u8], at: usize) -> u64
     requires { at + 8 ≤ length bytes.now }
     ensures { result ≡ word_at bytes.now at }
 {
-    half(bytes, at) as u64 + 4294967296 * (half(bytes, at + 4) as u64)
+    u64::from(half(bytes, at)) + 4294967296 * u64::from(half(bytes, at + 4))
 }
 
 // The double that has these bits.
+#[tactic(auto, unfolding(crate::specs::Words::double_at))]
 pub fn double(bytes: &[u8], at: usize) -> f64
     requires { at + 8 ≤ length bytes.now }
     ensures { result ≡ double_at bytes.now at }
@@ -43,10 +40,8 @@ pub fn read_doubles(bytes: &[u8], at: usize, out: &mut [f64])
     requires { at + 8 * length out.old ≤ length bytes.now }
     ensures { out.new ≡ doubles_at bytes.now at (length out.old) }
 {
-    let mut i = 0;
-    while i < out.len() {
+    for i in 0..out.len() {
         out[i] = double(bytes, at + 8 * i);
-        i += 1;
     }
 }
 
@@ -55,9 +50,7 @@ pub fn read_halves(bytes: &[u8], at: usize, out: &mut [u32])
     requires { at + 8 * length out.old ≤ length bytes.now }
     ensures { out.new ≡ halves_at bytes.now at (length out.old) }
 {
-    let mut i = 0;
-    while i < out.len() {
+    for i in 0..out.len() {
         out[i] = half(bytes, at + 8 * i);
-        i += 1;
     }
 }

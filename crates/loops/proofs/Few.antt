@@ -24,9 +24,6 @@ module _ {X : Type 0} (z : X) (l : List X) where
   three : 3 ≤ length l → Part 3 (set (set (set l 0 z) 1 z) 2 z)
   three b = fills_more (two (omega arith)) (omega arith) refl
 
-  pub few_none : length l < 1 → l ≡ filled z l
-  few_none b = whole 0 l (fills_none l refl) (omega arith)
-
   pub few_one : 1 ≤ length l → length l < 2 → set l 0 z ≡ filled z l
   few_one a b = whole 1 _ (one a) (omega arith)
 
@@ -36,4 +33,4 @@ module _ {X : Type 0} (z : X) (l : List X) where
   pub few_three : 3 ≤ length l → length l < 4 → set (set (set l 0 z) 1 z) 2 z ≡ filled z l
   few_three a b = whole 3 _ (three a) (omega arith)
 
-pub ruleset few = (few_none, few_one, few_two, few_three, rules)
+pub ruleset few = (few_one, few_two, few_three, rules)

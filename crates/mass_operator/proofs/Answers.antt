@@ -1,11 +1,11 @@
 -- What the functions of the operator come to together. Assumes nothing.
 use Prim.Native.Nat.{ℕ, ◌<◌}
 use mathlib.Core.Path.{◌≡◌, refl, ap, ◌∙◌}
-use mathlib.Core.Bool.{Bool, true, false, not}
+use mathlib.Core.Bool.{Bool, true, false}
 use mathlib.Core.List.{List}
 use lib.ListN.{length}
 use lib.Ieee.{Float}
-use borrow.Author.Tests.{not-true, not-false}
+use Rattle.std.specs.Prelude.{Result, Ok, Err}
 use Rattle.loops.specs.Run.{check}
 use Rattle.loops.specs.Judge.{test}
 use Rattle.loops.specs.Tabulate.{tabulate}
@@ -15,8 +15,7 @@ use Rattle.kapitsa_joint.specs.Mass.{mass_of}
 use Rattle.kapitsa_joint.specs.declared.row.RowJacobian.{RowJacobian}
 use Rattle.kapitsa_joint.specs.declared.impulse.GeneralizedImpulse.{GeneralizedImpulse}
 use Rattle.mass_operator.specs.Applied.{all_finite_of, applied_of, applied_out}
-use Rattle.mass_operator.specs.declared.finite.Applied.{Applied}
-use Rattle.mass_operator.specs.declared.finite.Applied.TheVariants.{Done, Overflow}
+use Rattle.mass_operator.specs.declared.finite.NotFinite.{NotFinite}
 use Rattle.compact_table.specs.Compact.{compact_of, Linked}
 use Rattle.mass_operator.specs.Dot.{dot_product_of}
 use Rattle.mass_operator.specs.System.{compact_system}
@@ -26,29 +25,21 @@ use Rattle.mass_operator.specs.Lent.{Paired, Summing, value_in}
 use Rattle.mass_operator.proofs.Flat.{flat_holds}
 use Rattle.mass_operator.proofs.Orders.{finite_alike}
 
-pub test_done : (l : List Float) {r : Bool} → r ≡ all_finite_of l → not r ≡ false → Done ≡ applied_of l
-unfolding applied_of check
-test_done l {r} p h = rw (← p, not-false r h)
-
-pub test_overflow : (l : List Float) {r : Bool} → r ≡ all_finite_of l → not r ≡ true → Overflow ≡ applied_of l
-unfolding applied_of check
-test_overflow l {r} p h = rw (← p, not-true r h)
-
 -- the number of an answer, whatever the caller calls an overflow
 told_by : (l : List Float) (b : Bool) → all_finite_of l ≡ b → (number : ℕ) → test (all_finite_of l) number ≡ applied_out number (applied_of l)
 unfolding applied_of test check
 told_by l true h number = rw h
 told_by l false h number = rw h
 
-pub applied_told : (l : List Float) {r : Applied} → r ≡ applied_of l → (number : ℕ) → test (all_finite_of l) number ≡ applied_out number r
+pub applied_told : (l : List Float) {r : Result Unit NotFinite} → r ≡ applied_of l → (number : ℕ) → test (all_finite_of l) number ≡ applied_out number r
 applied_told l e number = rw e (told_by l (all_finite_of l) refl number)
 
-pub summed_is : (j : ℕ → RowJacobian) (x : ℕ → Float) (rows bodies : ℕ) (l : List Float) {r : Applied} → Summing j x bodies rows l → r ≡ applied_of l → Summed j x rows bodies r l
+pub summed_is : (j : ℕ → RowJacobian) (x : ℕ → Float) (rows bodies : ℕ) (l : List Float) {r : Result Unit NotFinite} → Summing j x bodies rows l → r ≡ applied_of l → Summed j x rows bodies r l
 unfolding impulses_of applied_of
 summed_is j x rows bodies l h e =
     let g : ℕ → GeneralizedImpulse = λ b. impulse_at j x b rows in
     let q : all_finite_of l ≡ all_finite_of (flat_impulses g bodies) = finite_alike g bodies l (flat_impulses g bodies) (record { long = h.long; at = h.at }) (flat_holds g bodies) in
-    let a = e ∙ ap (λ (b : Bool). check b Done Overflow) q in
+    let a = e ∙ ap (λ (b : Bool). check b (Ok tt) (Err record {})) q in
     record { summed = h; answered = a; told = applied_told _ a }
 
 -- impulses, responses in their place, values: the list of impulses stands between two calls

@@ -1,6 +1,6 @@
 -- The two bodies of the rows at hand are held apart from the slice; with what is held put back, the slice has the impulses of all rows so far. Assumes nothing.
 use Prim.Native.Nat.{ℕ, ◌+◌, ◌*◌, ◌<◌, ◌≤◌}
-use mathlib.Core.Path.{◌≡◌, refl, sym, ap, ◌∙◌}
+use mathlib.Core.Path.{◌≡◌, refl, sym, ap, ◌∙◌, subst}
 use mathlib.Core.Bool.{Bool, true, false, cond, not}
 use mathlib.Core.List.{List}
 use native.Mathlib.Numerals.{add-one}
@@ -120,6 +120,9 @@ module _ {jacobians : List Float} {links : List ℕ} {x : ℕ → Float} {rows f
     within = omega arith;
     held = λ bodies t g. row_added (h.held bodies t g) u v f;
   }
+
+  pub run_ended : {i : ℕ} {p : BodyPair} → RunAdded jacobians links x rows first l record { pair = p; end = i } → rows ≤ i → RunAdded jacobians links x rows first l record { pair = p; end = rows }
+  run_ended {i} {p} h b = let e : i ≡ rows = omega (arith, h.within) in subst (λ (k : ℕ). RunAdded jacobians links x rows first l record { pair = p; end = k }) e h
 
 -- ---- a row's value by what is held
 pub value_held : (jacobians : List Float) (links : List ℕ) (i : ℕ) (l : List Float) {p : BodyPair} {v : Float} → p ≡ body_pair_of links i l → v ≡ row_value_of (compact_of jacobians links i) p.of_a p.of_b → v ≡ value_in (compact_of jacobians links i) l

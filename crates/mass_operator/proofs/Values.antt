@@ -1,6 +1,6 @@
 -- The rows below i have their value and these are summed: no row, one more, and all. Assumes nothing.
 use Prim.Native.Nat.{ℕ, ◌+◌, ◌<◌, ◌≤◌}
-use mathlib.Core.Path.{◌≡◌, sym, ap, ◌∙◌}
+use mathlib.Core.Path.{◌≡◌, sym, ap, ◌∙◌, subst}
 use mathlib.Core.List.{List}
 use native.Mathlib.Omega.{arith}
 use borrow.Author.Count.{below_none}
@@ -28,6 +28,9 @@ module _ {g : ℕ → Float} {vector : List Float} where
   valued_more h b e p q =
       let more = fills_put (filling h) b e p in
       record { within = more.within; long = more.long; at = more.agree; summed = q ∙ (dots_made g (length vector) (summing h) b b e).led }
+
+  pub valued_end : {i : ℕ} {l : List Float} {sum : Float} (n : ℕ) → n ≡ length vector → Valued g vector i l sum → n ≤ i → Valued g vector n l sum
+  valued_end {i} {l} {sum} n e h b = let k : i ≡ n = omega (arith, h.within) in subst (λ (m : ℕ). Valued g vector m l sum) k h
 
   pub valued_all : {i : ℕ} {l : List Float} {sum : Float} (n : ℕ) → n ≡ length vector → Valued g vector i l sum → n ≤ i → (l ≡ tabulate g n) × (sum ≡ dot_product_of vector l)
   valued_all n e h b =

@@ -1,12 +1,12 @@
 -- The numbers of the operator as the lent slices hold them: six doubles a body, one a row.
-use Rattle.std.specs.Prelude.{ℕ, zero, suc, ◌≡◌, List, [], ◌∷◌, ◌++◌, get_or, Float}
+use Rattle.std.specs.Prelude.{ℕ, zero, suc, ◌≡◌, List, [], ◌∷◌, ◌++◌, get_or, Result, Float}
 use Rattle.std.specs.Float.{nan}
 use Rattle.loops.specs.Judge.{test}
 use Rattle.loops.specs.Tabulate.{tabulate}
 use Rattle.kapitsa_joint.specs.declared.row.RowJacobian.{RowJacobian}
 use Rattle.kapitsa_joint.specs.declared.impulse.GeneralizedImpulse.{GeneralizedImpulse}
 use Rattle.mass_operator.specs.Applied.{all_finite_of, applied_of, applied_out}
-use Rattle.mass_operator.specs.declared.finite.Applied.{Applied}
+use Rattle.mass_operator.specs.declared.finite.NotFinite.{NotFinite}
 use Rattle.mass_operator.specs.Dot.{dot_product_of}
 use Rattle.mass_operator.specs.System.{System}
 use Rattle.mass_operator.specs.Operator.{impulse_at, response_at, value_at}
@@ -28,7 +28,7 @@ unfoldable pub product_of : System → (ℕ → Float) → List Float
 product_of s x = tabulate (value_at s x) s.rows
 
 -- document 01, refusal 17, "A final impulse ... is not finite": the number is the caller's. The impulses stand in work memory, in its order.
-pub record Summed (j : ℕ → RowJacobian) (x : ℕ → Float) (rows bodies : ℕ) (answer : Applied) (impulses : List Float) : Type 0 where
+pub record Summed (j : ℕ → RowJacobian) (x : ℕ → Float) (rows bodies : ℕ) (answer : Result Unit NotFinite) (impulses : List Float) : Type 0 where
   pub summed : Summing j x bodies rows impulses
   pub answered : answer ≡ applied_of (impulses_of j x rows bodies)
   pub told : (number : ℕ) → test (all_finite_of (impulses_of j x rows bodies)) number ≡ applied_out number answer

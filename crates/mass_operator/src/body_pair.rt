@@ -13,6 +13,7 @@ pub struct BodyPair {
     pub of_b: GeneralizedImpulse,
 }
 
+#[tactic(auto, unfolding(crate::specs::BodyPair::body_pair_of))]
 pub fn body_pair_at(links: &[u32], i: usize, impulses: &[f64]) -> BodyPair
     requires i_in_bounds { 2 * i + 2 ≤ length links.now }
     requires i_in_bounds_2 { (6 * (get_or links.now (2 * i) 0) + 6 ≤ length impulses.now) × (6 * (get_or links.now (2 * i + 1) 0) + 6 ≤ length impulses.now) }
@@ -29,6 +30,7 @@ pub fn body_pair_at(links: &[u32], i: usize, impulses: &[f64]) -> BodyPair
     }
 }
 
+#[tactic(auto, unfolding(crate::specs::BodyPair::put_body_pair_of))]
 pub fn put_body_pair(impulses: &mut [f64], pair: BodyPair)
     requires { (6 * pair.body_a + 6 ≤ length impulses.old) × (6 * pair.body_b + 6 ≤ length impulses.old) }
     ensures { impulses.new ≡ put_body_pair_of impulses.old pair }
@@ -38,6 +40,7 @@ pub fn put_body_pair(impulses: &mut [f64], pair: BodyPair)
 }
 
 // Whether row `i` is on the two bodies.
+#[tactic(auto, unfolding(crate::specs::BodyPair::on_bodies))]
 pub fn on_bodies(links: &[u32], i: usize, pair: BodyPair) -> bool
     requires { 2 * i + 2 ≤ length links.now }
     ensures { result ≡ on_bodies links.now i pair }

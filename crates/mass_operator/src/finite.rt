@@ -2,30 +2,28 @@
 ghost use Rattle.std.specs.Prelude.{◌≡◌};
 ghost use Rattle.mass_operator.specs.Applied.{all_finite_of, applied_of};
 
-#[derive(Clone, Copy)]
-pub enum Applied {
-    Done,
-    Overflow,
-}
+// A number is not finite. Its refusal is the caller's: 16 in a step, 17 in what is delivered.
+#[derive(Clone, Copy, Debug, PartialEq, Eq)]
+pub struct NotFinite;
 
 // It goes on where one is not: nearly always all are, and a loop that is never left is the faster one.
 pub fn all_finite(numbers: &[f64]) -> bool
     ensures { result ≡ all_finite_of numbers.now }
 {
     let mut all = true;
-    let mut i = 0;
-    while i < numbers.len() {
-        all = all & binary64::is_finite(numbers[i]);
-        i += 1;
+    for &x in numbers {
+        all &= binary64::is_finite(x);
     }
     all
 }
 
-pub fn test_finite(numbers: &[f64]) -> Applied
+#[tactic(auto, unfolding(crate::specs::Applied::applied_of, loops::specs::Run::check))]
+pub fn test_finite(numbers: &[f64]) -> Result<(), NotFinite>
     ensures { result ≡ applied_of numbers.now }
 {
-    if !all_finite(numbers) {
-        return Applied::Overflow;
+    if all_finite(numbers) {
+        Ok(())
+    } else {
+        Err(NotFinite)
     }
-    Applied::Done
 }

@@ -7,11 +7,12 @@ ghost use Rattle.mass_operator.specs.Lent.{Summing};
 ghost use Rattle.mass_operator.specs.BodyPair.{added_row, RunAdded};
 
 use crate::body_pair::{BodyPair, body_pair_at, on_bodies, put_body_pair};
-use crate::finite::{Applied, test_finite};
+use crate::finite::{NotFinite, test_finite};
 use compact_table::compact_at;
 use kapitsa_joint::GeneralizedImpulse;
 use kapitsa_math::Vec3;
 
+#[tactic(auto, unfolding(crate::specs::Operator::add_impulse_of))]
 pub fn add_generalized_impulse(
     impulse: GeneralizedImpulse,
     linear: Vec3,
@@ -29,6 +30,7 @@ pub fn add_generalized_impulse(
 }
 
 // One more term for each body of row `i`.
+#[tactic(auto, unfolding(crate::specs::BodyPair::added_row))]
 fn add_row(jacobians: &[f64], links: &[u32], vector: &[f64], i: usize, pair: BodyPair) -> BodyPair
     requires { (12 * i + 12 ≤ length jacobians.now) × (2 * i + 2 ≤ length links.now) × (i < length vector.now) }
     ensures { result ≡ added_row pair (compact_of jacobians.now links.now i) (coefficients vector.now i) }
@@ -62,15 +64,16 @@ fn add_run(jacobians: &[f64], links: &[u32], vector: &[f64], first: usize, impul
 {
     let taken = body_pair_at(links, first, impulses);
     let mut pair = add_row(jacobians, links, vector, first, taken);
-    let mut i = first + 1;
-    while i < vector.len() {
+    for i in first + 1..vector.len() {
         if !on_bodies(links, i, pair) {
             return Run { pair: pair, end: i };
         }
         pair = add_row(jacobians, links, vector, i, pair);
-        i += 1;
     }
-    Run { pair: pair, end: i }
+    Run {
+        pair: pair,
+        end: vector.len(),
+    }
 }
 
 // The impulse of every body, rows ascending from +0.0.
@@ -101,7 +104,7 @@ pub fn global_velocity_impulse(
     vector: &[f64],
     bodies: usize,
     impulses: &mut [f64],
-) -> Applied
+) -> Result<(), NotFinite>
     requires vector_in_bounds { (12 * length vector.now ≤ length jacobians.now) × (2 * length vector.now ≤ length links.now) }
     requires impulses_len { (length impulses.old ≡ 6 * bodies) × Linked links.now (length vector.now) bodies }
     ensures { Summed (compact_of jacobians.now links.now) (coefficients vector.now) (length vector.now) bodies result impulses.new }

@@ -7,6 +7,6 @@ pub mod finite; // finite.rt: one test for a whole vector
 pub mod impulse; // impulse.rt: the impulses of a vector of coefficients
 pub mod product; // product.rt: responses, row values, and the operator
 
-pub use finite::{Applied, all_finite};
+pub use finite::{NotFinite, all_finite};
 pub use impulse::{add_generalized_impulse, global_velocity_impulse};
 pub use product::global_velocity_matrix_vector;

@@ -18,6 +18,7 @@ use crate::impulse::sum_impulses;
 use compact_table::compact_at;
 use kapitsa_joint::{GeneralizedImpulse, SolverMass, mass_at, paired_at, put_paired};
 
+#[tactic(auto, unfolding(crate::specs::Operator::response_of))]
 pub fn response(mass: SolverMass, impulse: GeneralizedImpulse) -> GeneralizedImpulse
     ensures { result ≡ response_of mass impulse }
 {
@@ -43,13 +44,12 @@ fn respond(masses: &[f64], bodies: usize, body_impulses: &mut [f64])
     requires { (10 * bodies ≤ length masses.now) × (length body_impulses.old ≡ 6 * bodies) }
     ensures { Paired (λ b. response_of (mass_of masses.now b) (paired_of body_impulses.old b)) bodies body_impulses.new }
 {
-    let mut b = 0;
-    while b < bodies {
+    for b in 0..bodies {
         respond_at(masses, b, body_impulses);
-        b += 1;
     }
 }
 
+#[tactic(auto, unfolding(crate::specs::Operator::row_value_of))]
 fn row_value(jacobians: &[f64], links: &[u32], i: usize, pair: BodyPair) -> f64
     requires { (12 * i + 12 ≤ length jacobians.now) × (2 * i + 2 ≤ length links.now) }
     ensures { result ≡ row_value_of (compact_of jacobians.now links.now i) pair.of_a pair.of_b }
@@ -110,15 +110,16 @@ fn value_run(
 {
     let pair = body_pair_at(links, first, responses);
     let mut sum = put_value(jacobians, links, first, pair, vector, before, product);
-    let mut i = first + 1;
-    while i < product.len() {
+    for i in first + 1..product.len() {
         if !on_bodies(links, i, pair) {
             return RunValues { sum: sum, end: i };
         }
         sum = put_value(jacobians, links, i, pair, vector, sum, product);
-        i += 1;
     }
-    RunValues { sum: sum, end: i }
+    RunValues {
+        sum: sum,
+        end: product.len(),
+    }
 }
 
 // The value of every row, and `vector` times them.

@@ -18,14 +18,14 @@ use Rattle.solve_method.specs.Method.{method_of}
 use Rattle.solve_method.specs.Places.{Apart}
 use Rattle.solve_method.proofs.InPlace.{problem_in_place}
 use Rattle.position_delivery.specs.Outcome.{Lent}
-use Rattle.position_delivery.specs.declared.answer.PositionPcg.{PositionPcg}
-use Rattle.position_delivery.specs.declared.answer.PositionPcg.TheVariants as answers
 use Rattle.position_delivery.proofs.Answered.{entry_refused, entry_means}
 use Rattle.work_memory.specs.Work.{WorkMemory, work_memory}
 use Rattle.joint_refusals.specs.Counts.{counts_fit}
 use Rattle.work_memory.specs.Lengths.{table_fits, vectors_fit, factor_fits, passes3, WorkRoom}
 use Rattle.rules.specs.Rules.{Rules}
 use Rattle.solve_by_rules.specs.Ruled.{rules_lent, beside_lent, SolveRuled}
+use Rattle.loops.specs.Run.{Run, ended}
+use Rattle.position_delivery.specs.declared.answer.PositionPcgResult.{PositionPcgResult}
 use Rattle.own_memory.specs.Job.{job_fits, JobSolved, FactorRoom}
 
 -- the counts of what has passed
@@ -58,7 +58,7 @@ module _ (kind : Kind) (n b mode : ℕ) (numbers : List Float) (words : List ℕ
       let (l, k) = both (rules_lent n rule_words rule_tolerances rule_numbers && beside_lent kind n b centres newCentres given) (counts_fit n b mode && table_fits n b (length numbers) (length words) (length masses) (length solution) (length impulses)) h in
       rw (l, k, eq-eqb _ _ r.table.jacobians_long, eq-eqb _ _ r.table.links_long, eq-eqb _ _ r.steps.tolerances_long, eq-eqb _ _ r.table.residual_long, eq-eqb _ _ r.table.pending_long, eq-eqb _ _ r.steps.direction_long, eq-eqb _ _ r.steps.product_long, eq-eqb _ _ r.table.body_impulses_long, eq-eqb _ _ r.steps.factor.diagonal_long, eq-eqb _ _ r.steps.factor.pattern_long, eq-eqb _ _ r.steps.factor.order_long, eq-eqb _ _ r.steps.factor.values_long)
 
-  pub job_solved : {s : Rules} {p : Problem} {m : Mode} {limit place rows : ℕ} {before after : Lent} {named namedAfter : List ℕ} {answer : PositionPcg} {work workAfter : WorkMemory}
+  pub job_solved : {s : Rules} {p : Problem} {m : Mode} {limit place rows : ℕ} {before after : Lent} {named namedAfter : List ℕ} {answer : Run PositionPcgResult ℕ} {work workAfter : WorkMemory}
       → SolveRuled ((rules_lent n rule_words rule_tolerances rule_numbers && beside_lent kind n b centres newCentres given) && passes3 n b mode numbers words masses solution impulses w) s p m limit place rows before after named namedAfter answer work workAfter
       → JobSolved true s p m limit place rows before after named namedAfter answer
   job_solved r =
@@ -66,14 +66,14 @@ module _ (kind : Kind) (n b mode : ℕ) (numbers : List Float) (words : List ℕ
       record { answered = q.held.answered; means = q.held.means; in_place = q.held.in_place; named = q.named; ruled = q.ruled }
 
 -- ---- refusal 3; b is what its test answered
-pub job_refused : (s : Rules) (p : Problem) (mode : Mode) (limit place n : ℕ) (before : Lent) (named : List ℕ) (b fits : Bool) → Apart p → b ≡ fits → not b ≡ true → JobSolved fits s p mode limit place n before before named named (answers.Refused 3)
+pub job_refused : (s : Rules) (p : Problem) (mode : Mode) (limit place n : ℕ) (before : Lent) (named : List ℕ) (b fits : Bool) → Apart p → b ≡ fits → not b ≡ true → JobSolved fits s p mode limit place n before before named named (ended 3)
 job_refused s p mode limit place n before named b fits apart e h =
     let q = entry_refused p mode place n limit before b fits e h in
-    record { answered = q; means = entry_means (method_of fits p mode) limit place n before before (answers.Refused 3) q; in_place = problem_in_place p mode fits limit apart; named = refl; ruled = λ r a. absurd (let z : ◌≡◌ {A = ℕ} 0 1 = cc in omega arith) }
+    record { answered = q; means = entry_means (method_of fits p mode) limit place n before before (ended 3) q; in_place = problem_in_place p mode fits limit apart; named = refl; ruled = λ r a. absurd (let z : ◌≡◌ {A = ℕ} 0 1 = cc in omega arith) }
 
 pub passed : {b fits : Bool} → b ≡ fits → not b ≡ false → fits ≡ true
 passed {b} e h = sym e ∙ not-false b h
 
-pub job_passed : {b fits : Bool} {s : Rules} {p : Problem} {mode : Mode} {limit place n : ℕ} {before after : Lent} {named namedAfter : List ℕ} {answer : PositionPcg} → b ≡ fits → not b ≡ false
+pub job_passed : {b fits : Bool} {s : Rules} {p : Problem} {mode : Mode} {limit place n : ℕ} {before after : Lent} {named namedAfter : List ℕ} {answer : Run PositionPcgResult ℕ} → b ≡ fits → not b ≡ false
     → JobSolved true s p mode limit place n before after named namedAfter answer → JobSolved fits s p mode limit place n before after named namedAfter answer
 job_passed e h j = rw (passed e h) j

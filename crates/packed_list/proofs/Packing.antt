@@ -1,77 +1,12 @@
--- The ways through the functions that unpack. Assumes nothing.
-use Prim.Native.Nat.{ℕ, ◌+◌, ◌*◌, ◌-◌, ◌/◌, ◌%◌, ◌<◌, ◌≤◌}
+-- What is read so far, of a record and of a group. Assumes nothing.
+use Prim.Native.Nat.{ℕ, ◌+◌, ◌*◌, ◌/◌, ◌<◌, ◌≤◌}
 use mathlib.Core.Path.{◌≡◌, refl, ap, subst, ◌∙◌}
 use mathlib.Core.List.{List}
 use native.Mathlib.Nat.{mul-le-mul}
 use native.Mathlib.Numerals.{add-one}
 use native.Mathlib.Omega.{arith}
-use lib.ListN.{get_or, length, set, length-set}
-use borrow.Author.Tests.{eq-eqb, ne_eqb, lt-ltb, le-ltb}
-use Rattle.little_endian.specs.Words.{half_at, word_at}
-use Rattle.packed_list.specs.Packed.{code_in, code_at, size_of, coded_of, before_of, word_read, record_of, record_read, group_of}
-
--- ---- the code of a word
-module _ (codes k : ℕ) where
-  pub code_first : k ≡ 0 → codes % 4 ≡ code_in codes k
-  unfolding code_in
-  code_first e = rw e (omega arith)
-
-  pub code_second : k ≡ 1 → codes / 4 % 4 ≡ code_in codes k
-  unfolding code_in
-  code_second e = rw e
-
-  pub code_third : k ≡ 2 → codes / 16 % 4 ≡ code_in codes k
-  unfolding code_in
-  code_third e = rw e
-
-  pub code_fourth : k ≡ 3 → codes / 64 % 4 ≡ code_in codes k
-  unfolding code_in
-  code_fourth e = rw e
-
-pub code_at_lem : (list : List ℕ) (at i half r : ℕ) → half ≡ half_at list (at + i / 4) → r ≡ code_in (half % 256) (i % 4) → r ≡ code_at list at i
-unfolding code_at
-code_at_lem list at i half r e h = h ∙ rw e
-
--- ---- what it calls for
-module _ (code : ℕ) where
-  pub size_none : code ≡ 0 → 0 ≡ size_of code
-  unfolding size_of
-  size_none e = rw (eq-eqb code 0 e)
-
-  pub size_word : (code ≡ 0 → ⊥) → code ≡ 2 → 8 ≡ size_of code
-  unfolding size_of
-  size_word n e = rw (ne_eqb code 0 n, eq-eqb code 2 e)
-
-  pub size_pair : (code ≡ 0 → ⊥) → (code ≡ 2 → ⊥) → 2 ≡ size_of code
-  unfolding size_of
-  size_pair n m = rw (ne_eqb code 0 n, ne_eqb code 2 m)
-
-  module _ (list : List ℕ) (at before : ℕ) where
-    pub coded_before : code ≡ 0 → before ≡ coded_of list at code before
-    unfolding coded_of
-    coded_before e = rw (eq-eqb code 0 e)
-
-    pub coded_word : (r : ℕ) → (code ≡ 0 → ⊥) → code ≡ 2 → r ≡ word_at list at → r ≡ coded_of list at code before
-    unfolding coded_of
-    coded_word r n e h = h ∙ rw (ne_eqb code 0 n, eq-eqb code 2 e)
-
-    pub coded_top : (half : ℕ) → (code ≡ 0 → ⊥) → (code ≡ 2 → ⊥) → code ≡ 1 → half ≡ half_at list at → 281474976710656 * (half % 65536) ≡ coded_of list at code before
-    unfolding coded_of
-    coded_top half n m e h = rw (ne_eqb code 0 n, ne_eqb code 2 m, eq-eqb code 1 e, ← h)
-
-    pub coded_low : (half : ℕ) → (code ≡ 0 → ⊥) → (code ≡ 2 → ⊥) → (code ≡ 1 → ⊥) → half ≡ half_at list at → half % 65536 ≡ coded_of list at code before
-    unfolding coded_of
-    coded_low half n m o h = rw (ne_eqb code 0 n, ne_eqb code 2 m, ne_eqb code 1 o, ← h)
-
--- ---- the record before
-module _ (words : List ℕ) (size i : ℕ) where
-  pub before_none : i < size → 0 ≡ before_of words size i
-  unfolding before_of
-  before_none h = rw (lt-ltb i size h)
-
-  pub before_word : size ≤ i → get_or words (i - size) 0 ≡ before_of words size i
-  unfolding before_of
-  before_word h = rw (le-ltb i size h)
+use lib.ListN.{length, set, length-set}
+use Rattle.packed_list.specs.Packed.{code_at, size_of, coded_of, before_of, word_read, record_of, record_read, group_of}
 
 -- ---- a record, word by word: k words of it are read
 module _ (list : List ℕ) (at size from : ℕ) (words₀ : List ℕ) where

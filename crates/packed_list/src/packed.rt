@@ -5,23 +5,21 @@ ghost use Rattle.packed_list.specs.Packed.{code_in, code_at, size_of, coded_of, 
 use crate::words::{half, word};
 
 // The code of the word k of four in a byte of codes.
+#[tactic(auto, unfolding(crate::specs::Packed::code_in))]
 fn code_in(codes: u64, k: usize) -> u64
     requires { k < 4 }
     ensures { result ≡ code_in codes k }
 {
-    if k == 0 {
-        return codes % 4;
+    match k {
+        0 => codes % 4,
+        1 => codes / 4 % 4,
+        2 => codes / 16 % 4,
+        _ => codes / 64 % 4,
     }
-    if k == 1 {
-        return codes / 4 % 4;
-    }
-    if k == 2 {
-        return codes / 16 % 4;
-    }
-    codes / 64 % 4
 }
 
 // The code of word i of the record at `at`.
+#[tactic(auto, unfolding(crate::specs::Packed::code_at))]
 fn code(list: &[u8], at: usize, i: usize) -> u64
     requires { at + i < 4294967296 }
     ensures { result ≡ code_at list.now at i }
@@ -30,38 +28,34 @@ fn code(list: &[u8], at: usize, i: usize) -> u64
 }
 
 // How many bytes a code calls for.
+#[tactic(auto, unfolding(crate::specs::Packed::size_of))]
 fn size_of(code: u64) -> usize
     ensures value { result ≡ size_of code }
     ensures upper_bound { result ≤ 8 }
 {
-    if code == 0 {
-        return 0;
+    match code {
+        0 => 0,
+        2 => 8,
+        _ => 2,
     }
-    if code == 2 {
-        return 8;
-    }
-    2
 }
 
 // The word of a code, by the bytes at `at` and the word of the record before.
+#[tactic(auto, unfolding(crate::specs::Packed::coded_of))]
 fn coded(list: &[u8], at: usize, code: u64, before: u64) -> u64
     requires { at + 4 < 4294967296 }
     ensures { result ≡ coded_of list.now at code before }
 {
-    if code == 0 {
-        return before;
+    match code {
+        0 => before,
+        1 => 281474976710656 * (half(list, at) % 65536),
+        2 => word(list, at),
+        _ => half(list, at) % 65536,
     }
-    if code == 2 {
-        return word(list, at);
-    }
-    let low = half(list, at) % 65536;
-    if code == 1 {
-        return 281474976710656 * low;
-    }
-    low
 }
 
 // The word that stands `size` words before word i; 0 in the first record.
+#[tactic(auto, unfolding(crate::specs::Packed::before_of))]
 fn before(words: &[u64], size: usize, i: usize) -> u64
     requires { i < length words.now }
     ensures { result ≡ before_of words.now size i }
@@ -79,13 +73,11 @@ fn unpack_record(list: &[u8], at: usize, size: usize, from: usize, words: &mut [
     ensures upper_bound { result ≤ at + 9 * size }
 {
     let mut place = at + (size + 3) / 4;
-    let mut i = 0;
-    while i < size {
+    for i in 0..size {
         let c = code(list, at, i);
         let w = coded(list, place, c, before(words, size, from + i));
         words[from + i] = w;
         place += size_of(c);
-        i += 1;
     }
     place
 }
@@ -98,11 +90,9 @@ pub fn unpack(list: &[u8], at: usize, size: usize, count: usize, words: &mut [u6
 {
     let mut place = at;
     let mut from = 0;
-    let mut i = 0;
-    while i < count {
+    for i in 0..count {
         place = unpack_record(list, place, size, from, words);
         from += size;
-        i += 1;
     }
     place
 }

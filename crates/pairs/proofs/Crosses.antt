@@ -6,9 +6,9 @@ use mathlib.Core.Option.{Option, none, some}
 use native.Mathlib.Decide.{ℕ_discrete}
 use native.Mathlib.Omega.{arith}
 use lib.ListN.{length}
-use lib.Ieee.{Float, binary64, add}
+use lib.Ieee.{Float, binary64}
 use borrow.Author.Tests.{eq-eqb, ne_eqb}
-use Rattle.loops.specs.Cleared.{plus_zero}
+use Rattle.std.specs.Prelude.{Option as Maybe}
 use Rattle.binary64.proofs.Commutes.{add_swap}
 use Rattle.kapitsa_math.specs.declared.vector.Vec3.{Vec3}
 use Rattle.kapitsa_joint.specs.Mass.{mass_of, cross_of}
@@ -18,8 +18,6 @@ use Rattle.compact_table.specs.Compact.{compact_of, Linked}
 use Rattle.pairs.specs.Pairs.{arm_of, cross_at, sum_of, pair_of}
 use Rattle.pairs.specs.Gather.{crossed_out, number_of, arm_at, arms_of, met_of, met_at, value_with, value_in}
 use Rattle.pairs.specs.declared.arms.Arms.{Arms}
-use Rattle.pairs.specs.declared.cross.Crossed.{Crossed}
-use Rattle.pairs.specs.declared.cross.Crossed.TheVariants.{Value, Apart}
 
 -- `met_at`
 module _ (h : Arms) (body : ℕ) (l a : Vec3) (v : Float) where
@@ -35,24 +33,6 @@ pub met_none : (h : Arms) (body : ℕ) (l a : Vec3) → (h.a.body ≡ body → �
 unfolding met_at
 met_none h body l a n k = rw (ne_eqb h.a.body body n, ne_eqb h.b.body body k)
 
--- `sum`
-module _ (p q : Crossed) where
-  pub sum_both : (x y : Float) → p ≡ Value x → q ≡ Value y → add binary64 x y ≡ number_of (sum_of (crossed_out p) (crossed_out q))
-  unfolding number_of sum_of
-  sum_both x y e f = rw (e, f)
-
-  pub sum_first : (x : Float) → p ≡ Value x → q ≡ Apart → x ≡ number_of (sum_of (crossed_out p) (crossed_out q))
-  unfolding number_of sum_of
-  sum_first x e f = rw (e, f)
-
-  pub sum_second : (y : Float) → p ≡ Apart → q ≡ Value y → y ≡ number_of (sum_of (crossed_out p) (crossed_out q))
-  unfolding number_of sum_of
-  sum_second y e f = rw (e, f)
-
-  pub sum_none : p ≡ Apart → q ≡ Apart → plus_zero ≡ number_of (sum_of (crossed_out p) (crossed_out q))
-  unfolding number_of sum_of
-  sum_none e f = rw (e, f)
-
 -- "the rounded sum of two" has no order
 pub sum_swap : (x y : Option Float) → sum_of x y ≡ sum_of y x
 unfolding sum_of
@@ -62,7 +42,7 @@ sum_swap none (some y) = refl
 sum_swap none none = refl
 
 -- `value_with`: the higher body's cross first, whichever of the two that is
-module _ (h : Arms) (p : RowJacobian) (a b : Crossed) (r : Float) (ea : met_at h p.body_a p.linear_a p.angular_a ≡ crossed_out a) (eb : met_at h p.body_b p.linear_b p.angular_b ≡ crossed_out b) where
+module _ (h : Arms) (p : RowJacobian) (a b : Maybe Float) (r : Float) (ea : met_at h p.body_a p.linear_a p.angular_a ≡ crossed_out a) (eb : met_at h p.body_b p.linear_b p.angular_b ≡ crossed_out b) where
   pub b_first : r ≡ number_of (sum_of (crossed_out b) (crossed_out a)) → r ≡ value_with h p
   unfolding value_with
   b_first e = rw (ea, eb) (e ∙ ap number_of (sum_swap (crossed_out b) (crossed_out a)))

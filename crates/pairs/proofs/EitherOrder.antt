@@ -7,12 +7,12 @@ use lib.Dec.{ltb}
 use lib.Ieee.{Float}
 use Rattle.kapitsa_joint.specs.declared.row.RowJacobian.{RowJacobian}
 use Rattle.kapitsa_joint.specs.declared.mass.SolverMass.{SolverMass}
+use Rattle.loops.specs.Run.{Run}
 use Rattle.mass_operator.specs.System.{System}
 use Rattle.sparse.specs.Triangle.{Sparse}
 use Rattle.pairs.specs.Pairs.{arm_of, cross_at, sum_of, pair_of, pairs_of}
 use Rattle.pairs.specs.Answers.{judged_pairs, pairs_run, paired_in, paired_of}
 use Rattle.pairs.proofs.Crosses.{sum_swap}
-use Rattle.pairs.specs.declared.gathering.Paired.{Paired}
 
 -- the crosses at the two bodies of the lower row p
 abbrev share_a : (ℕ → SolverMass) → RowJacobian → RowJacobian → Option Float
@@ -54,7 +54,7 @@ unfoldable pub pairs_by : ((ℕ → SolverMass) → RowJacobian → RowJacobian 
 pairs_by value s i j = cond (ltb i s.rows && ltb j i) (value s.mass (s.jacobian j) (s.jacobian i)) none
 
 -- refusals 10 and 12 with those values
-abbrev pub paired_by : ((ℕ → SolverMass) → RowJacobian → RowJacobian → Option Float) → System → Paired
+abbrev pub paired_by : ((ℕ → SolverMass) → RowJacobian → RowJacobian → Option Float) → System → Run ℕ ℕ
 paired_by value s = paired_in s (judged_pairs s (pairs_by value s))
 
 -- values that agree pair by pair

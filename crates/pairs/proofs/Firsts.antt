@@ -6,38 +6,9 @@ use mathlib.Core.List.{List}
 use native.Mathlib.Decide.{ℕ_discrete}
 use native.Mathlib.Omega.{arith}
 use lib.Dec.{eqb}
-use lib.ListN.{get_or, set, length, get_or-eq_default}
-use lib.Seq.{get_or-set_same, get_or-set_other}
+use lib.ListN.{get_or}
 use borrow.Author.Tests.{ne_eqb}
 use Rattle.pairs.specs.Gather.{shares_in, share_in, Begin, Firsts, FirstNoted}
-
--- ---- the ways through `first_row`; w is the body in 64 bits
-module _ (firsts : List ℕ) (body i w : ℕ) (ew : w ≡ body) where
-  pub first_no_place : length firsts ≤ w → FirstNoted firsts firsts body i 0
-  first_no_place l = record {
-    within = omega arith;
-    before = omega arith;
-    noted = omega (arith, get_or-eq_default firsts 0 {n = body} (omega arith));
-    lower = λ c. omega arith;
-  }
-
-  pub first_before : get_or firsts w 0 ≤ i → FirstNoted firsts firsts body i (get_or firsts w 0)
-  first_before l = rw (← ew) (record { within = l; before = omega arith; noted = l; lower = λ c. omega arith })
-
-  pub first_now : w < length firsts → i < get_or firsts w 0 → FirstNoted firsts (set firsts w i) body i i
-  first_now l u = rw (← ew) (record {
-    within = omega arith;
-    before = omega arith;
-    noted = omega (arith, here);
-    lower = λ c. lower c (ℕ_discrete c w);
-  })
-    where
-      here : get_or (set firsts w i) w 0 ≡ i
-      here = get_or-set_same firsts w i 0 l
-
-      lower : (c : ℕ) → Dec (c ≡ w) → get_or (set firsts w i) c 0 ≤ get_or firsts c 0
-      lower c (yes z) = rw z (omega (arith, here))
-      lower c (no z) = omega (arith, get_or-set_other firsts w c i 0 z)
 
 -- ---- where a row begins
 pub firsts_none : (links firsts : List ℕ) → Firsts links firsts 0

@@ -9,15 +9,17 @@ use native.Mathlib.Omega.{arith}
 use lib.Dec.{eqb, ltb}
 use lib.ListN.{get_or, set, length, length-set}
 use lib.Seq.{get_or-set_same, get_or-set_other}
-use borrow.Author.Tests.{lt-ltb, le-ltb, not-true, not-false, ltb-true, ltb-false}
-use Rattle.loops.specs.Run.{check}
+use borrow.Author.Tests.{lt-ltb, le-ltb, ltb-true, ltb-false}
+use Rattle.std.specs.Prelude.{Result, Ok, Err}
+use Rattle.loops.specs.Run.{Run, going, ended, check}
+use Rattle.loops.proofs.Inverse.{apart as never}
 use Rattle.sparse.specs.Kept.{start, Missing}
 use Rattle.pairs.specs.Pairs.{row_pairs, pair_count}
 use Rattle.pairs.specs.Pattern.{starts_in, columns_in}
 use Rattle.pairs.specs.Gather.{shares_in, any_share, eight_apart, share_in, tried_of, tried_columns, Begin, Part, RowPart, RowDone, Stored, Gathering, gather_run}
 use Rattle.pairs.proofs.Parted.{rest_of, with_rest, starts_long, columns_long, starts_set, columns_stay, columns_lent, starts_stay, columns_come}
-use Rattle.pairs.specs.declared.pattern.Gathered.{Gathered}
-use Rattle.pairs.specs.declared.pattern.Gathered.TheVariants.{Done, Full}
+use Rattle.refusals.specs.declared.Refusal.{Refusal}
+use Rattle.refusals.specs.Told.{told}
 
 -- ---- counting
 
@@ -36,32 +38,6 @@ row_yes share i m e = rw (add-one m, e)
 row_past : (share : ℕ → ℕ → Bool) (i m n : ℕ) → m ≤ n → ((k : ℕ) → m ≤ k → k < n → share i k ≡ false) → row_pairs share i n ≡ row_pairs share i m
 unfolding row_pairs
 row_past share i m n h = le_ind (λ n. ((k : ℕ) → m ≤ k → k < n → share i k ≡ false) → row_pairs share i n ≡ row_pairs share i m) (λ e. refl) (λ k l ih e. rw (e k l (omega arith)) (omega (arith, ih (λ q q1 q2. e q q1 (omega arith))))) n h
-
--- ---- the ways through `try_column`
-module _ (links : List ℕ) (a b w j t' : ℕ) (t : Bool) (et : t ≡ shares_in links a b w) (ew : w ≡ j) (room p : ℕ) where
-  pub tried_none : not t ≡ true → Done p ≡ tried_of (shares_in links a b j) room p
-  unfolding tried_of
-  tried_none h = rw (← ew, ← et, not-true t h)
-
-  pub tried_full : not t ≡ false → room ≤ p → Full ≡ tried_of (shares_in links a b j) room p
-  unfolding tried_of check
-  tried_full h l = rw (← ew, ← et, not-false t h, le-ltb p room l)
-
-  pub tried_done : not t ≡ false → p < room → Done (p + 1) ≡ tried_of (shares_in links a b j) room p
-  unfolding tried_of check
-  tried_done h l = rw (← ew, ← et, not-false t h, lt-ltb p room l)
-
-  pub kept_none : (columns : List ℕ) → not t ≡ true → columns ≡ tried_columns (shares_in links a b j) room columns p j
-  unfolding tried_columns
-  kept_none columns h = rw (← ew, ← et, not-true t h)
-
-  pub kept_full : (columns : List ℕ) → not t ≡ false → room ≤ p → columns ≡ tried_columns (shares_in links a b j) room columns p j
-  unfolding tried_columns check
-  kept_full columns h l = rw (← ew, ← et, not-false t h, le-ltb p room l)
-
-  pub kept_done : (columns columns' : List ℕ) → not t ≡ false → p < room → columns' ≡ set columns p j → columns' ≡ tried_columns (shares_in links a b j) room columns p j
-  unfolding tried_columns check
-  kept_done columns columns' h l e = e ∙ rw (← ew, ← et, not-false t h, lt-ltb p room l)
 
 -- ---- a part of a row
 module _ {share : ℕ → ℕ → Bool} where
@@ -128,7 +104,7 @@ module _ {share : ℕ → ℕ → Bool} where
 
   -- ---- a turn of `gather_row`
   turn : {columns₀ columns : List ℕ} {i a p m room q : ℕ} (s t : Bool) → share i m ≡ s → ltb p room ≡ t → RowPart share columns₀ columns i a p m → room ≡ length columns₀
-      → cond s (check t (Done (p + 1)) Full) (Done p) ≡ Done q → RowPart share columns₀ (cond s (check t (set columns p m) columns) columns) i a q (m + 1)
+      → ◌≡◌ {A = Run ℕ ℕ} (cond s (check t (going (p + 1)) (ended 10)) (going p)) (going q) → RowPart share columns₀ (cond s (check t (set columns p m) columns) columns) i a q (m + 1)
   unfolding check
   turn {p = p} {m = m} {q = q} false t e el h l d = let u : p ≡ q = cc in rw (← u) (record { long = h.long; before = h.before; part = part_past (m + 1) (omega arith) h.part (λ k k1 k2. let z : k ≡ m = omega arith in rw z e); room = h.room })
   turn {p = p} {room = room} {q = q} true false e el h l d = absurd (let z : ◌≡◌ {A = ℕ} 0 1 = cc in omega arith)
@@ -142,13 +118,13 @@ module _ {share : ℕ → ℕ → Bool} where
         room = rw length-set (omega (arith, h.long));
       })
 
-  spilled : {columns₀ columns : List ℕ} {i a p m room : ℕ} (s t : Bool) → share i m ≡ s → ltb p room ≡ t → RowPart share columns₀ columns i a p m → m < i
-      → cond s (check t (Done (p + 1)) Full) (Done p) ≡ Full → room < a + row_pairs share i i
+  spilled : {columns₀ columns : List ℕ} {i a p m room n : ℕ} (s t : Bool) → share i m ≡ s → ltb p room ≡ t → RowPart share columns₀ columns i a p m → m < i
+      → ◌≡◌ {A = Run ℕ ℕ} (cond s (check t (going (p + 1)) (ended 10)) (going p)) (ended n) → (n ≡ 10) × (room < a + row_pairs share i i)
   unfolding check
   spilled false t e el h l d = absurd (let z : ◌≡◌ {A = ℕ} 0 1 = cc in omega arith)
   spilled true true e el h l d = absurd (let z : ◌≡◌ {A = ℕ} 0 1 = cc in omega arith)
-  spilled {i = i} {p = p} {m = m} {room = room} true false e el h l d =
-      omega (arith, ltb-false p room el, h.part.counted, row_yes share i m e, row_mono share i (m + 1) i (omega arith))
+  spilled {i = i} {p = p} {m = m} {room = room} {n = n} true false e el h l d =
+      (cc, omega (arith, ltb-false p room el, h.part.counted, row_yes share i m e, row_mono share i (m + 1) i (omega arith)))
 
 -- the bodies of row i
 pub record Bodies (links : List ℕ) (i a b : ℕ) : Type 0 where
@@ -170,17 +146,17 @@ row_begin links columns i from first l h = record {
   room = l;
 }
 
-module _ (links columns₀ columns : List ℕ) (i a b first p m room : ℕ) (r : Gathered) (h : RowPart (share_in links) columns₀ columns i first p m) (z : Bodies links i a b)
-    (e : r ≡ tried_of (shares_in links a b m) room p) where
-  pub row_more : (columns' : List ℕ) (q : ℕ) → room ≡ length columns₀ → columns' ≡ tried_columns (shares_in links a b m) room columns p m → r ≡ Done q → RowPart (share_in links) columns₀ columns' i first q (m + 1)
+module _ (links columns₀ columns : List ℕ) (i a b first p m room : ℕ) (r : Result ℕ Refusal) (h : RowPart (share_in links) columns₀ columns i first p m) (z : Bodies links i a b)
+    (e : told r ≡ tried_of (shares_in links a b m) room p) where
+  pub row_more : (columns' : List ℕ) (q : ℕ) → room ≡ length columns₀ → columns' ≡ tried_columns (shares_in links a b m) room columns p m → r ≡ Ok q → RowPart (share_in links) columns₀ columns' i first q (m + 1)
   unfolding tried_of tried_columns
-  row_more columns' q l ec t = rw ec (turn (shares_in links a b m) (ltb p room) (shares_same links i a b m z) refl h l (sym e ∙ t))
+  row_more columns' q l ec t = rw ec (turn (shares_in links a b m) (ltb p room) (shares_same links i a b m z) refl h l (sym e ∙ ap told t))
 
-  pub row_full : (columns' : List ℕ) → m < i → r ≡ Full → RowDone Full (share_in links) columns₀ columns' i first room
+  pub row_full : (columns' : List ℕ) {x : Refusal} → m < i → r ≡ Err x → (r' : Result ℕ Refusal) → r' ≡ Err x → RowDone (told r') (share_in links) columns₀ columns' i first room
   unfolding tried_of
-  row_full columns' l t = record {
-    done = λ q u. absurd (let v : ◌≡◌ {A = ℕ} 0 1 = cc in omega arith);
-    full = λ _. spilled (shares_in links a b m) (ltb p room) (shares_same links i a b m z) refl h l (sym e ∙ t);
+  row_full columns' l t r' t' = record {
+    done = λ q u. absurd (never _ u (ap told t'));
+    full = λ n u. spilled (shares_in links a b m) (ltb p room) (shares_same links i a b m z) refl h l (sym e ∙ ap told (t ∙ sym t') ∙ u);
   }
 
 -- ---- eight columns passed over
@@ -237,10 +213,10 @@ module _ (links : List ℕ) (i a b m : ℕ) where
     pub row_eight : (columns₀ columns : List ℕ) (first p : ℕ) → Bodies links i a b → RowPart (share_in links) columns₀ columns i first p m → RowPart (share_in links) columns₀ columns i first p (m + 8)
     row_eight columns₀ columns first p z h = record { long = h.long; before = h.before; part = part_past (m + 8) (omega arith) h.part (λ k k1 k2. shares_same links i a b k z ∙ apart k k1 k2); room = h.room }
 
-pub row_done : (links columns₀ columns : List ℕ) (i first p j room : ℕ) → RowPart (share_in links) columns₀ columns i first p j → j ≤ i → i ≤ j → RowDone (Done p) (share_in links) columns₀ columns i first room
+pub row_done : (links columns₀ columns : List ℕ) (i first p j room : ℕ) → RowPart (share_in links) columns₀ columns i first p j → j ≤ i → i ≤ j → RowDone (going p) (share_in links) columns₀ columns i first room
 row_done links columns₀ columns i first p j room h l l' = let e : j ≡ i = omega arith in record {
   done = λ q u. let v : p ≡ q = cc in rw (← v) (rw e at h);
-  full = λ u. absurd (let v : ◌≡◌ {A = ℕ} 0 1 = cc in omega arith);
+  full = λ n u. absurd (never _ refl u);
 }
 
 -- ---- rows behind one another
@@ -295,24 +271,25 @@ module _ {share : ℕ → ℕ → Bool} where
     pub rows_within : p ≤ room
     rows_within = omega (arith, h.room, columns_long n room pattern long)
 
-    module _ (columns : List ℕ) (r : Gathered) (d : RowDone r share (rest_of (w + 1) pattern) columns i p room) where
-      pub rows_more : (pattern' : List ℕ) (q : ℕ) → i < n → pattern' ≡ set (with_rest (w + 1) pattern columns) (i + 1) q → r ≡ Done q → Stored share (starts_in n pattern') (columns_in n pattern') (i + 1) q
+    module _ (columns : List ℕ) (r : Result ℕ Refusal) (d : RowDone (told r) share (rest_of (w + 1) pattern) columns i p room) where
+      pub rows_more : (pattern' : List ℕ) (q : ℕ) → i < n → pattern' ≡ set (with_rest (w + 1) pattern columns) (i + 1) q → r ≡ Ok q → Stored share (starts_in n pattern') (columns_in n pattern') (i + 1) q
       rows_more pattern' q l e t =
-          let row : RowPart share (columns_in n pattern) columns i p q i = rw (columns_lent w n ew pattern) at (d.done q t) in
+          let row : RowPart share (columns_in n pattern) columns i p q i = rw (columns_lent w n ew pattern) at (d.done q (ap told t)) in
           rw (e, starts_set n (i + 1) q (with_rest (w + 1) pattern columns) (omega arith), columns_stay n (i + 1) q (with_rest (w + 1) pattern columns) (omega arith), starts_stay w n ew pattern columns (omega arith), columns_come w n ew pattern columns (omega arith))
           (stored_more h row (omega (arith, starts_long n pattern (omega arith))))
 
-      pub rows_full : (starts' columns' : List ℕ) → i < n → r ≡ Full → Gathering Full share starts' columns' n room
+      pub rows_full : (starts' columns' : List ℕ) {x : Refusal} → i < n → r ≡ Err x → (r' : Result ℕ Refusal) → r' ≡ Err x → Gathering (told r') share starts' columns' n room
       unfolding pair_count gather_run
-      rows_full starts' columns' l t =
-          let past : room < pair_count share n = omega (arith, d.full t, h.counted, count_mono share (suc i) n (omega arith)) in
+      rows_full starts' columns' l t r' t' =
+          let spill = d.full _ (ap told t) in
+          let past : room < pair_count share n = omega (arith, spill.1, h.counted, count_mono share (suc i) n (omega arith)) in
           record {
-            done = λ k u. absurd (let v : ◌≡◌ {A = ℕ} 0 1 = cc in omega arith);
-            full = λ _. past;
-            told = rw (lt-ltb room (pair_count share n) past);
+            done = λ k u. absurd (never _ u (ap told t'));
+            full = λ _ _. past;
+            told = rw (lt-ltb room (pair_count share n) past) (ap ended (sym spill.0) ∙ sym (ap told t'));
           }
 
-  pub rows_end : (starts columns : List ℕ) (i n room p : ℕ) → Stored share starts columns i p → length columns ≡ room → i ≤ n → n ≤ i → Gathering (Done p) share starts columns n room
+  pub rows_end : (starts columns : List ℕ) (i n room p : ℕ) → Stored share starts columns i p → length columns ≡ room → i ≤ n → n ≤ i → Gathering (going p) share starts columns n room
   unfolding gather_run
   rows_end starts columns i n room p h long l l' =
       let e : i ≡ n = omega arith in
@@ -320,6 +297,6 @@ module _ {share : ℕ → ℕ → Bool} where
       let fits : pair_count share n ≤ room = omega (arith, h.room, all) in
       record {
         done = λ k u. let v : p ≡ k = cc in rw (← v) (rw e at h);
-        full = λ u. absurd (let v : ◌≡◌ {A = ℕ} 0 1 = cc in omega arith);
+        full = λ _ u. absurd (never _ refl u);
         told = rw (le-ltb room (pair_count share n) fits, all);
       }

@@ -13,7 +13,8 @@ use lib.Seq.{get_or-set_same, get_or-set_other}
 use lib.Ieee.{Float, nan}
 use lib.Ieee.Scale.{finite}
 use borrow.Author.Tests.{lt-ltb, le-ltb, not-true, not-false, ltb-false}
-use Rattle.loops.specs.Run.{on, check}
+use Rattle.std.specs.Prelude.{Result, Ok, Err}
+use Rattle.loops.specs.Run.{going, ended, on, check}
 use Rattle.loops.specs.Every.{every}
 use Rattle.loops.specs.Cleared.{cleared_words}
 use Rattle.loops.proofs.Every.{every_iff, every_same}
@@ -32,9 +33,8 @@ use Rattle.pairs.specs.Pattern.{starts_in, columns_in}
 use Rattle.pairs.specs.Gather.{number_of, value_in, Valued, finite_below, shares_in, share_in, Stored, Gathering}
 use Rattle.pairs.specs.Answers.{judged_pairs, pairs_run, paired_of, Collected, PairsHeld, PairsFree}
 use Rattle.pairs.proofs.Parted.{rest_of, starts_long, columns_long, starts_lent, columns_lent, starts_cleared, columns_cleared}
-use Rattle.pairs.specs.declared.pattern.Gathered.{Gathered}
-use Rattle.pairs.specs.declared.pattern.Gathered.TheVariants as gathered
-use Rattle.pairs.specs.declared.gathering.Paired.TheVariants as paired
+use Rattle.refusals.specs.declared.Refusal.{Refusal}
+use Rattle.refusals.specs.Told.{told}
 
 -- ---- values, place by place
 pub valued_none : (value : ℕ → ℕ → Float) (starts columns : List ℕ) (values : List Float) → Kept starts columns → Valued value starts columns values (start starts 0)
@@ -291,46 +291,46 @@ fine_lent w n ew pattern values b h = rw (starts_lent w n ew pattern, ew) at h
 pub pairs_free : (rows count : ℕ) (pattern₀ pattern : List ℕ) (values₀ values : List Float) → length pattern ≡ length pattern₀ → length values ≡ length values₀ → PairsFree rows count pattern₀ pattern values₀ values
 pairs_free rows count pattern₀ pattern values₀ values a b = record { columns_past = free_past (rows + 1 + count) pattern₀ pattern a; values_past = free_past count values₀ values b }
 
-module _ {share : ℕ → ℕ → Bool} (n : ℕ) (pattern : List ℕ) (room : ℕ) (r : Gathered) (g : Gathering r share (starts_in n pattern) (columns_in n pattern) n room)
-    (pattern₀ : List ℕ) (same-long : length pattern ≡ length pattern₀) (long : length pattern₀ ≡ n + 1 + pair_room n) (c : ℕ) (t : r ≡ gathered.Done c) where
+module _ {share : ℕ → ℕ → Bool} (n : ℕ) (pattern : List ℕ) (room : ℕ) (r : Result ℕ Refusal) (g : Gathering (told r) share (starts_in n pattern) (columns_in n pattern) n room)
+    (pattern₀ : List ℕ) (same-long : length pattern ≡ length pattern₀) (long : length pattern₀ ≡ n + 1 + pair_room n) (c : ℕ) (t : r ≡ Ok c) where
   pub pairs_kept : Kept (starts_in n pattern) (columns_in n pattern)
-  pairs_kept = stored_kept (g.done c t) (starts_long n pattern (omega arith))
+  pairs_kept = stored_kept (g.done c (ap told t)) (starts_long n pattern (omega arith))
 
   pub pairs_room : c ≤ pair_room n
-  pairs_room = omega (arith, (g.done c t).room, columns_long n (pair_room n) pattern (omega arith))
+  pairs_room = omega (arith, (g.done c (ap told t)).room, columns_long n (pair_room n) pattern (omega arith))
 
-module _ (n bodies : ℕ) (jacobians : List Float) (links : List ℕ) (masses : List Float) (pattern : List ℕ) (room : ℕ) (r : Gathered)
-    (g : Gathering r (share_in links) (starts_in n pattern) (columns_in n pattern) n room) (er : room ≡ pair_room n)
+module _ (n bodies : ℕ) (jacobians : List Float) (links : List ℕ) (masses : List Float) (pattern : List ℕ) (room : ℕ) (r : Result ℕ Refusal)
+    (g : Gathering (told r) (share_in links) (starts_in n pattern) (columns_in n pattern) n room) (er : room ≡ pair_room n)
     (pattern₀ : List ℕ) (same-long : length pattern ≡ length pattern₀) (long : length pattern₀ ≡ n + 1 + pair_room n) where
   same : pattern_of (compact_system n bodies jacobians links masses) ≡ share_in links
   unfolding pattern_of shares_of share_in shares_in compact_of
   same = fun_ext (λ i. fun_ext (λ j. refl))
 
-  pub pairs_ten : (pattern' : List ℕ) (values : List Float) → r ≡ gathered.Full → pattern' ≡ cleared_words pattern
-      → PairsHeld (compact_system n bodies jacobians links masses) (paired.Refused 10) values (starts_in n pattern') (columns_in n pattern') values
+  pub pairs_ten : (pattern' : List ℕ) (values : List Float) {x : Refusal} → r ≡ Err x → pattern' ≡ cleared_words pattern
+      → PairsHeld (compact_system n bodies jacobians links masses) (ended 10) values (starts_in n pattern') (columns_in n pattern') values
   unfolding paired_of pairs_run judged_pairs on
   pairs_ten pattern' values t e = record {
-    answered = rw (same, lt-ltb pair_limit (pair_count (share_in links) n) (past_limit (share_in links) n (omega (arith, g.full t))));
+    answered = rw (same, lt-ltb pair_limit (pair_count (share_in links) n) (past_limit (share_in links) n (omega (arith, g.full _ (ap told t)))));
     ten = λ _. refl;
     ten_words = λ _. (starts_cleared n (pair_room n) pattern pattern' (omega arith) e, columns_cleared n (pair_room n) pattern pattern' (omega arith) e);
     twelve = λ e. absurd (let z : ◌≡◌ {A = ℕ} 10 12 = cc in omega arith);
     done = λ c e. absurd (let z : ◌≡◌ {A = ℕ} 0 1 = cc in omega arith);
   }
 
-  module _ (values₀ values : List Float) (c : ℕ) (b : Bool) (t : r ≡ gathered.Done c)
+  module _ (values₀ values : List Float) (c : ℕ) (b : Bool) (t : r ≡ Ok c)
       (v : Valued (value_in jacobians links masses) (starts_in n pattern) (columns_in n pattern) values (start (starts_in n pattern) n)) (eb : b ≡ finite_below values (start (starts_in n pattern) n)) where
     held : Collected (compact_system n bodies jacobians links masses) (starts_in n pattern) (columns_in n pattern) values
-    held = collected n bodies jacobians links masses (starts_in n pattern) (columns_in n pattern) values c (g.done c t) (starts_long n pattern (omega arith)) v
+    held = collected n bodies jacobians links masses (starts_in n pattern) (columns_in n pattern) values c (g.done c (ap told t)) (starts_long n pattern (omega arith)) v
 
     few_enough : ltb pair_limit (pair_count (share_in links) n) ≡ false
-    few_enough = le-ltb pair_limit (pair_count (share_in links) n) (within_limit (share_in links) n (omega (arith, (g.done c t).counted, pairs_room n pattern room r g pattern₀ same-long long c t)))
+    few_enough = le-ltb pair_limit (pair_count (share_in links) n) (within_limit (share_in links) n (omega (arith, (g.done c (ap told t)).counted, pairs_room n pattern room r g pattern₀ same-long long c t)))
 
     judged : b ≡ finite_pairs (pairs_of (compact_system n bodies jacobians links masses)) n
     judged =
         eb
         ∙ finite_same (pairs_of (compact_system n bodies jacobians links masses)) (starts_in n pattern) (columns_in n pattern) values n (pairs_kept n pattern room r g pattern₀ same-long long c t) (starts_long n pattern (omega arith)) held.pairs
 
-    pub pairs_twelve : not b ≡ true → PairsHeld (compact_system n bodies jacobians links masses) (paired.Refused 12) values₀ (starts_in n pattern) (columns_in n pattern) values
+    pub pairs_twelve : not b ≡ true → PairsHeld (compact_system n bodies jacobians links masses) (ended 12) values₀ (starts_in n pattern) (columns_in n pattern) values
     unfolding paired_of pairs_run judged_pairs on check
     pairs_twelve f = record {
       answered = rw (same, few_enough, ← judged, not-true b f);
@@ -340,10 +340,10 @@ module _ (n bodies : ℕ) (jacobians : List Float) (links : List ℕ) (masses : 
       done = λ c e. absurd (let z : ◌≡◌ {A = ℕ} 0 1 = cc in omega arith);
     }
 
-    pub pairs_done : not b ≡ false → PairsHeld (compact_system n bodies jacobians links masses) (paired.Done c) values₀ (starts_in n pattern) (columns_in n pattern) values
+    pub pairs_done : not b ≡ false → PairsHeld (compact_system n bodies jacobians links masses) (going c) values₀ (starts_in n pattern) (columns_in n pattern) values
     unfolding paired_of pairs_run judged_pairs on check
     pairs_done f = record {
-      answered = rw (same, few_enough, ← judged, not-false b f, ← (g.done c t).counted);
+      answered = rw (same, few_enough, ← judged, not-false b f, ← (g.done c (ap told t)).counted);
       ten = λ e. absurd (let z : ◌≡◌ {A = ℕ} 0 1 = cc in omega arith);
       ten_words = λ e. absurd (let z : ◌≡◌ {A = ℕ} 0 1 = cc in omega arith);
       twelve = λ e. absurd (let z : ◌≡◌ {A = ℕ} 0 1 = cc in omega arith);

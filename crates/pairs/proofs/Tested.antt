@@ -12,8 +12,7 @@ use Rattle.loops.specs.Every.{every}
 use Rattle.loops.proofs.Every.{every_same}
 use Rattle.rounding.proofs.Rounded.{add_finite}
 use Rattle.kapitsa_math.specs.declared.vector.Vec3.{Vec3}
-use Rattle.kapitsa_math.specs.declared.scalar.Checked.{Checked}
-use Rattle.kapitsa_math.specs.declared.scalar.Checked.TheVariants.{Value, Overflow}
+use Rattle.std.specs.Prelude.{Option as Maybe, Some, None}
 use Rattle.kapitsa_math.specs.Checked.{checked_value_of}
 use Rattle.kapitsa_joint.specs.Mass.{cross_of}
 use Rattle.kapitsa_joint.proofs.Cross.{tested_cross, cross_final}
@@ -23,9 +22,9 @@ use Rattle.mass_operator.specs.System.{System}
 use Rattle.pairs.specs.Pairs.{arm_of, cross_at, sum_of, pair_of, pairs_of, finite_pair, finite_pairs}
 
 -- what the Rust goes on with: a cross that passed its own tests and is finite
-unfoldable pub passes : Checked → Bool
-passes (Value x) = finite x
-passes Overflow = false
+unfoldable pub passes : Maybe Float → Bool
+passes (Some x) = finite x
+passes None = false
 
 -- the Rust's tests of the cross at one body, if the rows share it
 unfoldable pub tested_at : SolverMass → Vec3 → Vec3 → Option (Vec3 × Vec3) → Bool
@@ -44,7 +43,7 @@ unfolding tested_at cross_at finite_pair passes checked_value_of check
 cross_tested m l a none = refl
 cross_tested m l a (some q) = rw (cross_final m l a q.0 q.1) (told (finite (cross_of m l a q.0 q.1)) refl)
   where
-    told : (b : Bool) → finite (cross_of m l a q.0 q.1) ≡ b → passes (check b (Value (cross_of m l a q.0 q.1)) Overflow) ≡ b
+    told : (b : Bool) → finite (cross_of m l a q.0 q.1) ≡ b → passes (check b (Some (cross_of m l a q.0 q.1)) None) ≡ b
     told true e = e
     told false e = refl
 

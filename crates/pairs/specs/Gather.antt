@@ -1,5 +1,5 @@
 -- What the functions that gather the pairs hand to one another.
-use Rattle.std.specs.Prelude.{ℕ, zero, suc, ◌+◌, ◌-◌, ◌*◌, ◌%◌, ◌<◌, ◌≤◌, ◌≡◌, Bool, true, false, not, ◌||◌, cond, List, eqb, ltb, get_or, set, length, Float}
+use Rattle.std.specs.Prelude.{ℕ, zero, suc, ◌+◌, ◌-◌, ◌*◌, ◌%◌, ◌<◌, ◌≤◌, ◌≡◌, Bool, true, false, not, ◌||◌, cond, List, eqb, ltb, get_or, set, length, Float, Option as Maybe, Some, None}
 use Rattle.std.proofs.Math.Option.{Option, none, some}
 use Rattle.std.specs.Float.{nan, binary64}
 use Rattle.std.specs.Float.Ieee.{add, mul}
@@ -18,15 +18,12 @@ use Rattle.sparse.specs.Kept.{start, Rising, Missing}
 use Rattle.pairs.specs.Pairs.{row_pairs, pair_count, sum_of, pair_of}
 use Rattle.pairs.specs.declared.arms.Arm.{Arm}
 use Rattle.pairs.specs.declared.arms.Arms.{Arms}
-use Rattle.pairs.specs.declared.cross.Crossed.{Crossed}
-use Rattle.pairs.specs.declared.cross.Crossed.TheVariants as crossed
-use Rattle.pairs.specs.declared.pattern.Gathered.{Gathered}
-use Rattle.pairs.specs.declared.pattern.Gathered.TheVariants as gathered
 
 -- ---- values
-abbrev pub crossed_out : Crossed → Option Float
-crossed_out (crossed.Value x) = some x
-crossed_out crossed.Apart = none
+-- a share that is there, or none
+abbrev pub crossed_out : Maybe Float → Option Float
+crossed_out (Some x) = some x
+crossed_out None = none
 
 unfoldable pub number_of : Option Float → Float
 number_of (some x) = x
@@ -98,9 +95,9 @@ pub record FirstNoted (firsts₀ firsts : List ℕ) (body i r : ℕ) : Type 0 wh
   pub noted : get_or firsts body 0 ≤ i
   pub lower : (c : ℕ) → get_or firsts c 0 ≤ get_or firsts₀ c 0
 
--- one column tried at place p of room many
-unfoldable pub tried_of : Bool → ℕ → ℕ → Gathered
-tried_of share room p = cond share (check (ltb p room) (gathered.Done (p + 1)) gathered.Full) (gathered.Done p)
+-- one column tried at place p of room many: "10. Mode 1 has more than 16,384 pairs"
+unfoldable pub tried_of : Bool → ℕ → ℕ → Run ℕ ℕ
+tried_of share room p = cond share (check (ltb p room) (going (p + 1)) (ended 10)) (going p)
 
 unfoldable pub tried_columns : Bool → ℕ → List ℕ → ℕ → ℕ → List ℕ
 tried_columns share room columns p j = cond share (check (ltb p room) (set columns p j) columns) columns
@@ -119,9 +116,9 @@ pub record RowPart (share : ℕ → ℕ → Bool) (columns₀ columns : List ℕ
   pub part : Part share columns i a b m
   pub room : b ≤ length columns
 
-pub record RowDone (answer : Gathered) (share : ℕ → ℕ → Bool) (columns₀ columns : List ℕ) (i a room : ℕ) : Type 0 where
-  pub done : (b : ℕ) → answer ≡ gathered.Done b → RowPart share columns₀ columns i a b i
-  pub full : answer ≡ gathered.Full → room < a + row_pairs share i i
+pub record RowDone (answer : Run ℕ ℕ) (share : ℕ → ℕ → Bool) (columns₀ columns : List ℕ) (i a room : ℕ) : Type 0 where
+  pub done : (b : ℕ) → answer ≡ going b → RowPart share columns₀ columns i a b i
+  pub full : (n : ℕ) → answer ≡ ended n → (n ≡ 10) × (room < a + row_pairs share i i)
 
 -- the rows before i are at the places before p
 pub record Stored (share : ℕ → ℕ → Bool) (starts columns : List ℕ) (i p : ℕ) : Type 0 where
@@ -132,16 +129,11 @@ pub record Stored (share : ℕ → ℕ → Bool) (starts columns : List ℕ) (i 
   pub counted : p ≡ pair_count share i
   pub room : p ≤ length columns
 
--- document 01's number of each answer: "10. Mode 1 has more than 16,384 pairs"
-abbrev pub gathered_out : Gathered → Run ℕ ℕ
-gathered_out (gathered.Done p) = going p
-gathered_out gathered.Full = ended 10
-
 -- how many pairs n rows have, or 10 where there is no room for them
 unfoldable pub gather_run : (ℕ → ℕ → Bool) → ℕ → ℕ → Run ℕ ℕ
 gather_run share n room = cond (ltb room (pair_count share n)) (ended 10) (going (pair_count share n))
 
-pub record Gathering (answer : Gathered) (share : ℕ → ℕ → Bool) (starts columns : List ℕ) (i room : ℕ) : Type 0 where
-  pub done : (p : ℕ) → answer ≡ gathered.Done p → Stored share starts columns i p
-  pub full : answer ≡ gathered.Full → room < pair_count share i
-  pub told : gather_run share i room ≡ gathered_out answer
+pub record Gathering (answer : Run ℕ ℕ) (share : ℕ → ℕ → Bool) (starts columns : List ℕ) (i room : ℕ) : Type 0 where
+  pub done : (p : ℕ) → answer ≡ going p → Stored share starts columns i p
+  pub full : (n : ℕ) → answer ≡ ended n → room < pair_count share i
+  pub told : gather_run share i room ≡ answer

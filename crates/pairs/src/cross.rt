@@ -33,40 +33,31 @@ fn met(arm: Arm, linear: Vec3, angular: Vec3) -> f64
     arm.inverse_mass * linear.dot(arm.linear) + angular.dot(response)
 }
 
-#[derive(Clone, Copy)]
-pub enum Crossed {
-    Value(f64),
-    Apart,
-}
-
 // What the lower row does at `body`, with the higher row's arm there, if it has one.
-fn met_at(higher: Arms, body: u32, linear: Vec3, angular: Vec3) -> Crossed
+fn met_at(higher: Arms, body: u32, linear: Vec3, angular: Vec3) -> Option<f64>
     ensures { met_at higher body linear angular ≡ crossed_out result }
 {
     let a = higher.a;
     if a.body == body {
-        return Crossed::Value(met(a, linear, angular));
+        return Some(met(a, linear, angular));
     }
     let b = higher.b;
     if b.body == body {
-        return Crossed::Value(met(b, linear, angular));
+        return Some(met(b, linear, angular));
     }
-    Crossed::Apart
+    None
 }
 
 // The sum of the crosses that are there; +0.0 where none is, which no pair meets.
-fn sum(first: Crossed, second: Crossed) -> f64
+#[tactic(auto, unfolding(crate::specs::Gather::number_of, crate::specs::Pairs::sum_of))]
+fn sum(first: Option<f64>, second: Option<f64>) -> f64
     ensures { result ≡ number_of (sum_of (crossed_out first) (crossed_out second)) }
 {
-    match first {
-        Crossed::Value(x) => match second {
-            Crossed::Value(y) => x + y,
-            Crossed::Apart => x,
-        },
-        Crossed::Apart => match second {
-            Crossed::Value(y) => y,
-            Crossed::Apart => 0.0,
-        },
+    match (first, second) {
+        (Some(x), Some(y)) => x + y,
+        (Some(x), None) => x,
+        (None, Some(y)) => y,
+        (None, None) => 0.0,
     }
 }
 

@@ -2,21 +2,17 @@
 ghost use Rattle.std.specs.Prelude.{◌≡◌, ◌+◌, ◌*◌, ◌≤◌, length};
 ghost use Rattle.mass_operator.specs.System.{compact_system};
 ghost use Rattle.compact_table.specs.Compact.{Linked};
+ghost use Rattle.refusals.specs.Told.{told};
 ghost use Rattle.sparse.specs.Kept.{start, Kept};
 ghost use Rattle.pairs.specs.Pairs.{pattern_of, pair_count, pair_room};
 ghost use Rattle.pairs.specs.Pattern.{starts_in, columns_in};
 ghost use Rattle.pairs.specs.Gather.{value_in, Valued, finite_below};
 ghost use Rattle.pairs.specs.Answers.{PairsHeld, PairsFree};
 
-use crate::pattern::{Gathered, gather};
+use crate::pattern::gather;
 use crate::values::fill_values;
 use loops::wide;
-
-#[derive(Clone, Copy)]
-pub enum Paired {
-    Done(u32),
-    Refused(u32),
-}
+use refusals::Refusal;
 
 // The values of the pairs whose starts and columns are in `pattern`. Are all finite?
 fn fill(
@@ -60,21 +56,21 @@ pub fn pairs(
     pattern: &mut [u32],
     values: &mut [f64],
     room: u32,
-) -> Paired
+) -> Result<u32, Refusal>
     requires rows_in_bounds { (12 * rows ≤ length jacobians.now) × (2 * rows ≤ length links.now) × (10 * bodies ≤ length masses.now) }
     requires linked { Linked links.now rows bodies }
     requires pattern_len { (length pattern.old ≡ rows + 1 + pair_room rows) × (length values.old ≡ pair_room rows) × (room ≡ pair_room rows) }
-    ensures pairs_held { PairsHeld (compact_system rows bodies jacobians.now links.now masses.now) result values.old
+    ensures pairs_held { PairsHeld (compact_system rows bodies jacobians.now links.now masses.now) (told result) values.old
         (starts_in rows pattern.new) (columns_in rows pattern.new) values.new }
     ensures pairs_free { PairsFree rows (pair_count (pattern_of (compact_system rows bodies jacobians.now links.now masses.now)) rows)
         pattern.old pattern.new values.old values.new }
 {
-    let Gathered::Done(count) = gather(links, pattern, room, rows) else {
+    let Ok(count) = gather(links, pattern, room, rows) else {
         loops::clear_words(pattern);
-        return Paired::Refused(10);
+        return Err(Refusal::Pairs);
     };
     if !fill(jacobians, links, masses, rows, bodies, pattern, values) {
-        return Paired::Refused(12);
+        return Err(Refusal::Value);
     }
-    Paired::Done(count)
+    Ok(count)
 }

@@ -10,5 +10,5 @@ pub mod room; // room.rt: how many places are lent
 pub mod values; // values.rt: the value of each place
 
 pub use cross::cross_value;
-pub use gathering::{Paired, pairs};
+pub use gathering::pairs;
 pub use room::pair_room;

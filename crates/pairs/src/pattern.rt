@@ -1,17 +1,13 @@
 // The pattern of the pairs, starts and columns in one slice: row by row, columns ascending, by testing for a shared body every earlier row that can have one.
 ghost use Rattle.std.specs.Prelude.{◌≡◌, ◌+◌, ◌*◌, ◌<◌, ◌≤◌, length};
 ghost use Rattle.loops.specs.Cleared.{Free};
+ghost use Rattle.refusals.specs.Told.{told};
 ghost use Rattle.pairs.specs.Pattern.{starts_in, columns_in};
 ghost use Rattle.pairs.specs.Gather.{shares_in, any_share, eight_apart, share_in, tried_of, tried_columns, FirstNoted, Firsts, Begin, RowDone, Gathering};
 
 use loops::wide;
+use refusals::Refusal;
 use sparse::put;
-
-#[derive(Clone, Copy)]
-pub enum Gathered {
-    Done(u32),
-    Full,
-}
 
 // Does row `j` share a body with a row that has the bodies `a` and `b`?
 fn shares(links: &[u32], a: u32, b: u32, j: usize) -> bool
@@ -48,6 +44,7 @@ fn eight_apart(links: &[u32], i: u32, a: u32, b: u32, j: u32) -> bool
 }
 
 // Column `j`, if it makes a pair, at place `p`.
+#[tactic(auto, unfolding(crate::specs::Gather::tried_of, crate::specs::Gather::tried_columns, loops::specs::Run::check))]
 fn try_column(
     links: &[u32],
     columns: &mut [u32],
@@ -56,19 +53,19 @@ fn try_column(
     b: u32,
     j: u32,
     p: u32,
-) -> Gathered
+) -> Result<u32, Refusal>
     requires { (2 * j + 2 ≤ length links.now) × (room ≡ length columns.old) }
-    ensures value { result ≡ tried_of (shares_in links.now a b j) room p }
+    ensures value { told result ≡ tried_of (shares_in links.now a b j) room p }
     ensures columns_after { columns.new ≡ tried_columns (shares_in links.now a b j) room columns.old p j }
 {
     if !shares(links, a, b, wide(j)) {
-        return Gathered::Done(p);
+        return Ok(p);
     }
     if room <= p {
-        return Gathered::Full;
+        return Err(Refusal::Pairs);
     }
     put(columns, p, j);
-    Gathered::Done(p + 1)
+    Ok(p + 1)
 }
 
 // The pairs of row `i`, whose columns begin at `from`, from place `first` on.
@@ -79,10 +76,10 @@ fn gather_row(
     i: u32,
     from: u32,
     first: u32,
-) -> Gathered
+) -> Result<u32, Refusal>
     requires i_in_bounds { (2 * i + 2 ≤ length links.now) × (room ≡ length columns.old) × (first ≤ room) }
     requires begin { Begin (share_in links.now) i from }
-    ensures { RowDone result (share_in links.now) columns.old columns.new i first room }
+    ensures { RowDone (told result) (share_in links.now) columns.old columns.new i first room }
 {
     let at = 2 * wide(i);
     let a = links[at];
@@ -94,17 +91,10 @@ fn gather_row(
             j += 8;
             continue;
         }
-        match try_column(links, columns, room, a, b, j, p) {
-            Gathered::Done(q) => {
-                p = q;
-            }
-            Gathered::Full => {
-                return Gathered::Full;
-            }
-        }
+        p = try_column(links, columns, room, a, b, j, p)?;
         j += 1;
     }
-    Gathered::Done(p)
+    Ok(p)
 }
 
 // The first row that has `body`, which row `i` has: where `firsts` notes none before, row `i` is noted. Row 0, which is never too late, for a body that has no place in `firsts`.
@@ -146,28 +136,19 @@ fn gather_rows(
     room: u32,
     firsts: &mut [u32],
     n: u32,
-) -> Gathered
+) -> Result<u32, Refusal>
     requires { (2 * n ≤ length links.now) × (length pattern.old ≡ n + 1 + room) }
-    ensures { Gathering result (share_in links.now) (starts_in n pattern.new) (columns_in n pattern.new) n room }
+    ensures { Gathering (told result) (share_in links.now) (starts_in n pattern.new) (columns_in n pattern.new) n room }
 {
     pattern[0] = 0;
     let ends = wide(n) + 1;
     let mut p = 0;
-    let mut i = 0;
-    while i < n {
+    for i in 0..n {
         let from = first_column(links, firsts, i);
-        match gather_row(links, &mut pattern[ends..], room, i, from, p) {
-            Gathered::Done(q) => {
-                p = q;
-            }
-            Gathered::Full => {
-                return Gathered::Full;
-            }
-        }
-        i += 1;
-        put(pattern, i, p);
+        p = gather_row(links, &mut pattern[ends..], room, i, from, p)?;
+        put(pattern, i + 1, p);
     }
-    Gathered::Done(p)
+    Ok(p)
 }
 
 // With fewer rows, it costs more to note the first row of each body than it saves.
@@ -179,10 +160,10 @@ const BODIES: usize = 256;
 // Above every row: no row that has the body is noted.
 const NO_ROW: u32 = 4294967295;
 
-// The pairs of `n` rows. The answer is their number, or Full where there are more than `room`. Words of the pattern of which `Gathering` tells nothing are free.
-pub fn gather(links: &[u32], pattern: &mut [u32], room: u32, n: u32) -> Gathered
+// The pairs of `n` rows. The answer is their number, or refusal 10 where there are more than `room`. Words of the pattern of which `Gathering` tells nothing are free.
+pub fn gather(links: &[u32], pattern: &mut [u32], room: u32, n: u32) -> Result<u32, Refusal>
     requires { (2 * n ≤ length links.now) × (length pattern.old ≡ n + 1 + room) }
-    ensures gathering { Gathering result (share_in links.now) (starts_in n pattern.new) (columns_in n pattern.new) n room }
+    ensures gathering { Gathering (told result) (share_in links.now) (starts_in n pattern.new) (columns_in n pattern.new) n room }
     ensures free { Free pattern.old pattern.new }
 {
     if n < FEW_ROWS {

@@ -39,13 +39,11 @@ fn value_row(
     }
     let higher = arms_at(jacobians, links, masses, rows, bodies, i);
     let mut all = fine;
-    let mut p = first;
-    while p < end {
+    for p in first..end {
         let j = earlier(columns, i, first, end, p);
         let value = value_with(jacobians, links, higher, j);
         write(values, p, value);
         all = all & binary64::is_finite(value);
-        p += 1;
     }
     all
 }
@@ -70,12 +68,10 @@ pub fn fill_values(
     ensures free { Free values.old values.new }
 {
     let mut fine = true;
-    let mut i = 0;
-    while i < rows {
+    for i in 0..rows {
         fine = value_row(
             jacobians, links, masses, rows, bodies, starts, columns, values, i, fine,
         );
-        i += 1;
     }
     fine
 }

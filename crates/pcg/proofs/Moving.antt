@@ -10,8 +10,9 @@ use Rattle.rules.specs.Rules.{Rules}
 use Rattle.preconditioner.specs.declared.mode.Mode.{Mode}
 use Rattle.position.specs.Problem.{Problem}
 use Rattle.position_delivery.specs.Outcome.{Lent}
-use Rattle.position_delivery.specs.declared.answer.PositionPcg.{PositionPcg}
 use Rattle.work_memory.specs.Work.{WorkMemory}
+use Rattle.loops.specs.Run.{Run}
+use Rattle.position_delivery.specs.declared.answer.PositionPcgResult.{PositionPcgResult}
 use Rattle.solve_by_rules.specs.Ruled.{residual_lent, centres_lent, SolveRuled}
 
 no_centre : (a x b : Bool) → ((a && (x && centres_lent 0 0 0)) && b) ≡ ((a && x) && b)
@@ -24,7 +25,7 @@ none : (l : List Float) → length l ≡ 0 → l ≡ []
 none [] e = refl
 none (x ∷ l) e = absurd (omega arith)
 
-pub moving_ruled : (rules : Bool) (rows residual : ℕ) (passed : Bool) {s : Rules} {p : Problem} {mode : Mode} {limit place n : ℕ} {before : Lent} {numbers solution impulses : List Float} (centres : List Float) {named namedAfter : List ℕ} {answer : PositionPcg} {work workAfter : WorkMemory}
+pub moving_ruled : (rules : Bool) (rows residual : ℕ) (passed : Bool) {s : Rules} {p : Problem} {mode : Mode} {limit place n : ℕ} {before : Lent} {numbers solution impulses : List Float} (centres : List Float) {named namedAfter : List ℕ} {answer : Run PositionPcgResult ℕ} {work workAfter : WorkMemory}
     → length centres ≡ 0 → SolveRuled ((rules && (residual_lent rows residual && centres_lent 0 0 0)) && passed) s p mode limit place n before (record { numbers = numbers; solution = solution; impulses = impulses; centres = centres }) named namedAfter answer work workAfter
     → SolveRuled ((rules && residual_lent rows residual) && passed) s p mode limit place n before (record { numbers = numbers; solution = solution; impulses = impulses; centres = [] }) named namedAfter answer work workAfter
 moving_ruled rules rows residual passed centres e h = rw (no_centre rules (residual_lent rows residual) passed, none centres e) at h

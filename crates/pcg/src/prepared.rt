@@ -1,5 +1,6 @@
 // The position solve over lent tables, by lent rules: the entry.
 ghost use Rattle.std.specs.Prelude.{◌≡◌, ◌&&◌, length};
+ghost use Rattle.refusals.specs.Told.{told};
 ghost use Rattle.rules.specs.Rows.{rules_in};
 ghost use Rattle.preconditioner.specs.Mode.{mode_of};
 ghost use Rattle.kapitsa_joint.specs.Kind.{place_of};
@@ -9,7 +10,8 @@ ghost use Rattle.work_memory.specs.Lengths.{passes3};
 ghost use Rattle.solve_by_rules.specs.Ruled.{rules_lent, centres_lent, beside_lent, SolveRuled};
 
 use kapitsa_joint::{Kind, place_of};
-use position_delivery::{PositionPcg, commit};
+use position_delivery::{PositionPcgResult, commit};
+use refusals::Refusal;
 use solve_by_rules::{beside_lent, name_ruled, propose_by_rules, rules_lent};
 
 // Of either kind, proposed and committed: solution, impulses, centres, the accumulated numbers and each row's rule are written only where the answer is accepted; the work memory is +0.0 (integers 0) afterwards, except after refusal 3, which writes nothing.
@@ -43,12 +45,12 @@ pub fn solve_prepared(
     pattern: &mut [u32],
     order: &mut [u32],
     values: &mut [f64],
-) -> PositionPcg
+) -> Result<PositionPcgResult, Refusal>
     ensures { SolveRuled ((rules_lent rows (length rule_words.now) (length rule_tolerances.now) (length rule_numbers.old) && beside_lent kind rows bodies (length centres.now) (length new_centres.old) (length given.now)) && passes3 rows bodies mode numbers.entry.now words.now masses.now solution.old impulses.old (work_memory jacobians.old links.old tolerances.old diagonal.old residual.old pending.old direction.old product.old body_impulses.old pattern.old order.old values.old))
         (rules_in rule_words.now rule_tolerances.now)
         (solve_for kind rows bodies numbers.entry.now words.now masses.now centres.now given.now (rules_in rule_words.now rule_tolerances.now) shift) (mode_of mode shift) limit (place_of kind) rows
         record { numbers = numbers.entry.now; solution = solution.old; impulses = impulses.old; centres = new_centres.old } record { numbers = numbers.exit.now; solution = solution.new; impulses = impulses.new; centres = new_centres.new }
-        rule_numbers.old rule_numbers.new result
+        rule_numbers.old rule_numbers.new (told result)
         (work_memory jacobians.old links.old tolerances.old diagonal.old residual.old pending.old direction.old product.old body_impulses.old pattern.old order.old values.old)
         (work_memory jacobians.new links.new tolerances.new diagonal.new residual.new pending.new direction.new product.new body_impulses.new pattern.new order.new values.new) }
 {
@@ -66,7 +68,7 @@ pub fn solve_prepared(
         given.len(),
     );
     if !lent {
-        return PositionPcg::Refused(3);
+        return Err(Refusal::Length);
     }
     let answer = propose_by_rules(
         kind,
@@ -132,12 +134,12 @@ pub fn solve_position_pcg_prepared(
     pattern: &mut [u32],
     order: &mut [u32],
     values: &mut [f64],
-) -> PositionPcg
+) -> Result<PositionPcgResult, Refusal>
     ensures { SolveRuled ((rules_lent rows (length rule_words.now) (length rule_tolerances.now) (length rule_numbers.old) && centres_lent bodies (length centres.now) (length new_centres.old)) && passes3 rows bodies mode numbers.entry.now words.now masses.now solution.old impulses.old (work_memory jacobians.old links.old tolerances.old diagonal.old residual.old pending.old direction.old product.old body_impulses.old pattern.old order.old values.old))
         (rules_in rule_words.now rule_tolerances.now)
         (position_of rows bodies numbers.entry.now words.now masses.now centres.now (rules_in rule_words.now rule_tolerances.now) shift) (mode_of mode shift) limit 24 rows
         record { numbers = numbers.entry.now; solution = solution.old; impulses = impulses.old; centres = new_centres.old } record { numbers = numbers.exit.now; solution = solution.new; impulses = impulses.new; centres = new_centres.new }
-        rule_numbers.old rule_numbers.new result
+        rule_numbers.old rule_numbers.new (told result)
         (work_memory jacobians.old links.old tolerances.old diagonal.old residual.old pending.old direction.old product.old body_impulses.old pattern.old order.old values.old)
         (work_memory jacobians.new links.new tolerances.new diagonal.new residual.new pending.new direction.new product.new body_impulses.new pattern.new order.new values.new) }
 {

@@ -1,5 +1,6 @@
 // The velocity solve over lent tables, by a lent residual and lent rules: the entry of document 02, a.
 ghost use Rattle.std.specs.Prelude.{◌&&◌, length, []};
+ghost use Rattle.refusals.specs.Told.{told};
 ghost use Rattle.rules.specs.Rows.{rules_in};
 ghost use Rattle.preconditioner.specs.Mode.{mode_of};
 ghost use Rattle.solve_method.specs.Position.{velocity_of};
@@ -9,7 +10,8 @@ ghost use Rattle.solve_by_rules.specs.Ruled.{rules_lent, residual_lent, SolveRul
 
 use crate::prepared::solve_prepared;
 use kapitsa_joint::Kind;
-use position_delivery::PositionPcg;
+use position_delivery::PositionPcgResult;
+use refusals::Refusal;
 
 // Solution, impulses, accumulated impulses and each row's rule are written only where the answer is accepted; the work memory is +0.0 (integers 0) afterwards, except after refusal 3, which writes nothing.
 pub fn solve_velocity_pcg_prepared(
@@ -39,12 +41,12 @@ pub fn solve_velocity_pcg_prepared(
     pattern: &mut [u32],
     order: &mut [u32],
     values: &mut [f64],
-) -> PositionPcg
+) -> Result<PositionPcgResult, Refusal>
     ensures { SolveRuled ((rules_lent rows (length rule_words.now) (length rule_tolerances.now) (length rule_numbers.old) && residual_lent rows (length given.now)) && passes3 rows bodies mode numbers.entry.now words.now masses.now solution.old impulses.old (work_memory jacobians.old links.old tolerances.old diagonal.old residual.old pending.old direction.old product.old body_impulses.old pattern.old order.old values.old))
         (rules_in rule_words.now rule_tolerances.now)
         (velocity_of rows bodies numbers.entry.now words.now masses.now given.now (rules_in rule_words.now rule_tolerances.now) shift) (mode_of mode shift) limit 25 rows
         record { numbers = numbers.entry.now; solution = solution.old; impulses = impulses.old; centres = [] } record { numbers = numbers.exit.now; solution = solution.new; impulses = impulses.new; centres = [] }
-        rule_numbers.old rule_numbers.new result
+        rule_numbers.old rule_numbers.new (told result)
         (work_memory jacobians.old links.old tolerances.old diagonal.old residual.old pending.old direction.old product.old body_impulses.old pattern.old order.old values.old)
         (work_memory jacobians.new links.new tolerances.new diagonal.new residual.new pending.new direction.new product.new body_impulses.new pattern.new order.new values.new) }
 {

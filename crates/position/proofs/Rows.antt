@@ -4,6 +4,8 @@ use mathlib.Core.Path.{◌≡◌, refl, sym, ◌∙◌}
 use mathlib.Core.Bool.{Bool, true, false, true≢false}
 use mathlib.Core.List.{List, [], ◌∷◌}
 use mathlib.Core.Logic.{⊎_elim}
+use Rattle.std.specs.Prelude.{Result}
+use Rattle.refusals.specs.declared.Refusal.{Refusal}
 use lib.Ieee.{Float}
 use Rattle.loops.specs.Run.{Run, going, ended, check, next, on, turns}
 use Rattle.loops.specs.Judge.{judge, judged, test}
@@ -16,7 +18,6 @@ use Rattle.joint_refusals.specs.Refusals.{is_valid_of}
 use Rattle.position.specs.Problem.{Problem, started_problem}
 use Rattle.position.specs.Prepare.{diagonal_tests, row_judged, valid_judged, diagonals_judged, rows_judged}
 use Rattle.position.specs.Answers.{BegunHeld}
-use Rattle.position.specs.declared.prepare.Begun.{Begun}
 
 -- ---- tests of one number, in a row: passed where every one is, and refused with their number
 module _ (n : ℕ) (p : ℕ → Bool) where
@@ -80,6 +81,6 @@ module _ (p : Problem) where
   rows_passed h = ⊎_elim (λ v. sym (rows_each v) ∙ h) (λ v. absurd (apart _ h (rows_seven v))) (saw_bool valid_before)
 
 -- ---- step 0 looks at four parts of a problem
-pub begun_of : (p : Problem) (a : Begun) (diagonal residual : List Float) → BegunHeld (started_problem p.valid_first p.table p.tolerance p.start) a diagonal residual → BegunHeld p a diagonal residual
+pub begun_of : (p : Problem) (a : Result Unit Refusal) (diagonal residual : List Float) → BegunHeld (started_problem p.valid_first p.table p.tolerance p.start) a diagonal residual → BegunHeld p a diagonal residual
 unfolding rows_judged valid_judged diagonals_judged row_judged
 begun_of p a diagonal residual h = record { judgement = h.judgement; diagonal_is = h.diagonal_is; residual_is = h.residual_is }

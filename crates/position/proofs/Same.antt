@@ -3,6 +3,8 @@ use Prim.Native.Nat.{ℕ, ◌<◌}
 use mathlib.Core.Path.{◌≡◌, refl, sym, ◌∙◌}
 use mathlib.Core.Bool.{Bool}
 use mathlib.Core.List.{List}
+use Rattle.std.specs.Prelude.{Result}
+use Rattle.refusals.specs.declared.Refusal.{Refusal}
 use lib.Ieee.{Float}
 use Rattle.loops.specs.Judge.{judged}
 use Rattle.loops.proofs.Same.{judged_same}
@@ -11,7 +13,6 @@ use Rattle.kapitsa_joint.specs.Table.{Table}
 use Rattle.position.specs.Problem.{Problem, started_problem}
 use Rattle.position.specs.Prepare.{row_judged, valid_judged, diagonals_judged, rows_judged, prepared_residual, residuals}
 use Rattle.position.specs.Answers.{BegunHeld}
-use Rattle.position.specs.declared.prepare.Begun.{Begun}
 
 module _ (valid_first : Bool) (t : Table) (f g : ℕ → Float) (start from : ℕ → Float) (same : (i : ℕ) → i < t.rows → f i ≡ g i) (starts : (i : ℕ) → i < t.rows → start i ≡ from i) where
   abbrev P : Problem
@@ -43,5 +44,5 @@ module _ (valid_first : Bool) (t : Table) (f g : ℕ → Float) (start from : �
   unfolding residuals prepared_residual
   residuals_same = tabulate_same _ _ t.rows (λ i h. rw (starts i h))
 
-  pub begun_same : (a : Begun) (diagonal residual : List Float) → BegunHeld P a diagonal residual → BegunHeld Q a diagonal residual
+  pub begun_same : (a : Result Unit Refusal) (diagonal residual : List Float) → BegunHeld P a diagonal residual → BegunHeld Q a diagonal residual
   begun_same a diagonal residual h = record { judgement = sym judged_alike ∙ h.judgement; diagonal_is = h.diagonal_is; residual_is = λ d. h.residual_is d ∙ residuals_same }

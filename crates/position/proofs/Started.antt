@@ -5,6 +5,11 @@ use mathlib.Core.Bool.{Bool, true, false, not}
 use mathlib.Core.List.{List}
 use mathlib.Core.Logic.{inl, inr}
 use native.Mathlib.Omega.{arith}
+use Rattle.std.specs.Prelude.{Result, Ok, Err, IsErrAnd}
+use Rattle.refusals.specs.Number.{number_of}
+use Rattle.refusals.proofs.Again.{told_again}
+use Rattle.refusals.specs.declared.Refusal.{Refusal}
+use Rattle.refusals.specs.declared.Refusal.TheVariants.{Row}
 use borrow.Author.Tests.{not-true, not-false}
 use lib.ListN.{length, get_or, set}
 use lib.Seq.{get_or-set_other}
@@ -21,13 +26,11 @@ use Rattle.position.specs.Problem.{Problem, started_problem}
 use Rattle.position.specs.Prepare.{row_judged, prepared_diagonal, prepared_residual, diagonals, residuals}
 use Rattle.position.specs.Answers.{row_out, BegunHeld}
 use Rattle.position.specs.declared.prepare.PreparedRow.{PreparedRow}
-use Rattle.position.specs.declared.prepare.RowAnswer.{RowAnswer}
-use Rattle.position.specs.declared.prepare.RowAnswer.TheVariants as rows
-use Rattle.position.specs.declared.prepare.Begun.TheVariants as begun
 use Rattle.position.proofs.Rows.{valid_before, rows_each, rows_seven}
 
-unlike : (number : ℕ) → begun.Refused number ≡ begun.Done → ⊥
-unlike number q = let z : ◌≡◌ {A = ℕ} 0 1 = cc in omega arith
+unlike : (b : Result Unit Refusal) (e : Refusal) → IsErrAnd b (λ y. y ≡ e) → b ≡ Ok tt → ⊥
+unlike (Ok u) e h q = h
+unlike (Err y) e h q = cc
 
 -- of a problem that starts from a lent list
 pub record Started (p : Problem) (from : List Float) (i : ℕ) (diagonal residual : List Float) : Type 0 where
@@ -44,8 +47,8 @@ module _ (valid_first : Bool) (t : Table) (tolerance : ℕ → Float) (from : Li
   pub started_none : (v : Bool) (diagonal : List Float) → v ≡ valid_before P → not v ≡ false → length diagonal ≡ t.rows → length from ≡ t.rows → Started P from 0 diagonal from
   started_none v diagonal ev h d r = record { valid = sym ev ∙ not-false v h; passed = at_none; diagonal_filled = fills_none diagonal d; residual_filled = fills_none from r; kept = λ k _. refl }
 
-  pub started_seven : (v : Bool) (diagonal residual : List Float) → v ≡ valid_before P → not v ≡ true → BegunHeld P (begun.Refused 7) diagonal residual
-  started_seven v diagonal residual ev h = record { judgement = rows_seven P (sym ev ∙ not-true v h); diagonal_is = λ q. absurd (unlike 7 q); residual_is = λ q. absurd (unlike 7 q) }
+  pub started_seven : (v : Bool) (diagonal residual : List Float) → v ≡ valid_before P → not v ≡ true → BegunHeld P (Err Row) diagonal residual
+  started_seven v diagonal residual ev h = record { judgement = rows_seven P (sym ev ∙ not-true v h); diagonal_is = λ q. absurd (unlike (Err Row) Row refl q); residual_is = λ q. absurd (unlike (Err Row) Row refl q) }
 
   module _ (i : ℕ) (diagonal residual : List Float) (h : Started P from i diagonal residual) where
     -- row i, from the number that stands there, which is still the one it starts from
@@ -59,8 +62,8 @@ module _ (valid_first : Bool) (t : Table) (tolerance : ℕ → Float) (from : Li
     unfolding row_judged prepared_residual
     its = rw (h.kept i (omega arith))
 
-    module _ (l : i < t.rows) (a : RowAnswer) (called : alone (get_or residual i nan) ≡ row_out a) where
-      pub started_more : (p : PreparedRow) → a ≡ rows.Row p → Started P from (i + 1) (set diagonal i p.diagonal) (set residual i p.residual)
+    module _ (l : i < t.rows) (a : Result PreparedRow Refusal) (called : alone (get_or residual i nan) ≡ row_out a) where
+      pub started_more : (p : PreparedRow) → a ≡ Ok p → Started P from (i + 1) (set diagonal i p.diagonal) (set residual i p.residual)
       started_more p e =
           let (s, j, g) = (next_going (row_judged P i) (λ _. going prepared) (p.diagonal, p.residual)).0 (sym its ∙ called ∙ rw e) in
           let q = sym (going_inj g) in
@@ -72,16 +75,16 @@ module _ (valid_first : Bool) (t : Table) (tolerance : ℕ → Float) (from : Li
             kept = λ k m. get_or-set_other residual i k p.residual nan (λ z. omega arith) ∙ h.kept k (omega arith);
           }
 
-      refused_row : (number : ℕ) → a ≡ rows.Refused number → row_judged P i ≡ ended number
-      refused_row number e = elim ((next_ended (row_judged P i) (λ _. going prepared) number).0 (sym its ∙ called ∙ rw e)) [
+      refused_row : (e : Refusal) → a ≡ Err e → row_judged P i ≡ ended (number_of e)
+      refused_row e q = elim ((next_ended (row_judged P i) (λ _. going prepared) (number_of e)).0 (sym its ∙ called ∙ rw q)) [
         | inl q ↦ q
         | inr q ↦ absurd (apart _ refl q.2)
       ]
 
-      pub started_refused : (number : ℕ) → a ≡ rows.Refused number → BegunHeld P (begun.Refused number) diagonal residual
+      pub started_refused : (e : Refusal) (b : Result Unit Refusal) → a ≡ Err e → IsErrAnd b (λ y. y ≡ e) → BegunHeld P b diagonal residual
       unfolding judged
-      started_refused number e = record { judgement = rows_each P h.valid ∙ at_stop h.passed l (refused_row number e); diagonal_is = λ q. absurd (unlike number q); residual_is = λ q. absurd (unlike number q) }
+      started_refused e b s f = record { judgement = rows_each P h.valid ∙ at_stop h.passed l (refused_row e s) ∙ sym (told_again b e f); diagonal_is = λ q. absurd (unlike b e f q); residual_is = λ q. absurd (unlike b e f q) }
 
-    pub started_done : t.rows ≤ i → BegunHeld P begun.Done diagonal residual
+    pub started_done : t.rows ≤ i → BegunHeld P (Ok tt) diagonal residual
     unfolding judged diagonals residuals
     started_done l = record { judgement = rows_each P h.valid ∙ at_end h.passed l; diagonal_is = λ _. filled_tabulate h.diagonal_filled l; residual_is = λ _. filled_tabulate h.residual_filled l }

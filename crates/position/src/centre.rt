@@ -44,15 +44,7 @@ pub fn moved_finite(masses: &[f64], impulses: &[f64], centres: &[f64], bodies: u
     requires { (10 * bodies ≤ length masses.now) × (6 * bodies ≤ length impulses.now) × (3 * bodies ≤ length centres.now) }
     ensures { result ≡ centres_finite (moved_by (mass_of masses.now) (paired_of impulses.now) (centres_in bodies centres.now)) }
 {
-    let mut b = 0;
-    while b < bodies {
-        let center = moved_at(masses, impulses, centres, b);
-        if !center.is_finite() {
-            return false;
-        }
-        b += 1;
-    }
-    true
+    (0..bodies).all(|b| moved_at(masses, impulses, centres, b).is_finite())
 }
 
 pub fn move_centres(
@@ -65,9 +57,7 @@ pub fn move_centres(
     requires { (10 * bodies ≤ length masses.now) × (6 * bodies ≤ length impulses.now) × (3 * bodies ≤ length centres.now) × (length new_centres.old ≡ 3 * bodies) }
     ensures { new_centres.new ≡ flat_centres (moved_by (mass_of masses.now) (paired_of impulses.now) (centres_in bodies centres.now)) }
 {
-    let mut b = 0;
-    while b < bodies {
+    for b in 0..bodies {
         put_vec(new_centres, 3 * b, moved_at(masses, impulses, centres, b));
-        b += 1;
     }
 }

@@ -10,6 +10,6 @@ pub mod start; // start.rt: the starting residual
 
 pub use centre::{move_centres, moved_finite};
 pub use multiplier::{add_multipliers, multipliers_finite};
-pub use prepare::{Begun, begin};
+pub use prepare::begin;
 pub use residual::{position_vector_converged, residual_maxima};
 pub use start::start_residual;

@@ -15,23 +15,14 @@ pub fn multipliers_finite(place: usize, numbers: &[f64], solution: &[f64]) -> bo
     requires { (place < 27) × (27 * length solution.now ≤ length numbers.now) }
     ensures { result ≡ gains_finite place numbers.now solution.now (length solution.now) }
 {
-    let mut i = 0;
-    while i < solution.len() {
-        if !binary64::is_finite(gain(place, numbers, solution, i)) {
-            return false;
-        }
-        i += 1;
-    }
-    true
+    (0..solution.len()).all(|i| binary64::is_finite(gain(place, numbers, solution, i)))
 }
 
 pub fn add_multipliers(place: usize, numbers: &mut [f64], solution: &[f64])
     requires { (place < 27) × (27 * length solution.now ≤ length numbers.old) }
     ensures { numbers.new ≡ gained place numbers.old solution.now (length solution.now) }
 {
-    let mut i = 0;
-    while i < solution.len() {
+    for i in 0..solution.len() {
         numbers[27 * i + place] = gain(place, numbers, solution, i);
-        i += 1;
     }
 }

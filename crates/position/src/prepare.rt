@@ -17,23 +17,12 @@ use joint_refusals::{is_valid_at, rows_valid};
 use kapitsa_joint::{ConstraintRow, mass_at, row_at};
 use loops::wide;
 use pairs::cross_value;
+use refusals::Refusal;
 
-#[derive(Clone, Copy)]
+#[derive(Clone, Copy, Debug)]
 pub struct PreparedRow {
     pub diagonal: f64,
     pub residual: f64,
-}
-
-#[derive(Clone, Copy)]
-pub enum RowAnswer {
-    Row(PreparedRow),
-    Refused(u32),
-}
-
-#[derive(Clone, Copy)]
-pub enum Begun {
-    Done,
-    Refused(u32),
 }
 
 // Both bodies' SolverMass::diagonal, tested where the row is judged.
@@ -53,25 +42,22 @@ fn row_diagonal(masses: &[f64], row: ConstraintRow) -> f64
 }
 
 // 8 and 9 of a row, and its numbers.
-fn judge_diagonal(diagonal: f64, residual: f64, tolerance: f64) -> RowAnswer
+fn judge_diagonal(diagonal: f64, residual: f64, tolerance: f64) -> Result<PreparedRow, Refusal>
     ensures { next (judge ((8, passes8 diagonal) ∷ ((9, passes9 diagonal residual tolerance) ∷ []))) (λ _. going (cond (is_low diagonal) one diagonal, cond (is_low diagonal) plus_zero residual)) ≡ row_out result }
 {
     if !binary64::is_finite(diagonal) {
-        return RowAnswer::Refused(8);
+        return Err(Refusal::Diagonal);
     }
     if diagonal <= binary64::MIN_POSITIVE {
         if tolerance < binary64::abs(residual) {
-            return RowAnswer::Refused(9);
+            return Err(Refusal::Immovable);
         }
-        return RowAnswer::Row(PreparedRow {
+        return Ok(PreparedRow {
             diagonal: 1.0,
             residual: 0.0,
         });
     }
-    RowAnswer::Row(PreparedRow {
-        diagonal: diagonal,
-        residual: residual,
-    })
+    Ok(PreparedRow { diagonal, residual })
 }
 
 fn prepare_row(
@@ -83,13 +69,13 @@ fn prepare_row(
     tolerances: &[f64],
     residual: f64,
     i: usize,
-) -> RowAnswer
+) -> Result<PreparedRow, Refusal>
     requires { (27 * rows ≤ length numbers.now) × (8 * rows ≤ length words.now) × (10 * bodies ≤ length masses.now) × (rows ≤ length tolerances.now) × (i < rows) }
     ensures { next (row_judged (started_problem false (table_of rows bodies numbers.now words.now masses.now) (tolerances_in tolerances.now) (λ _. residual)) i)
         (λ _. going (prepared_diagonal (table_of rows bodies numbers.now words.now masses.now) i, prepared_residual (table_of rows bodies numbers.now words.now masses.now) (λ _. residual) i)) ≡ row_out result }
 {
     if !is_valid_at(numbers, words, i, bodies) {
-        return RowAnswer::Refused(7);
+        return Err(Refusal::Row);
     }
     let row = row_at(numbers, words, i);
     judge_diagonal(row_diagonal(masses, row), residual, tolerances[i])
@@ -116,18 +102,17 @@ pub fn begin(
     tolerances: &[f64],
     diagonal: &mut [f64],
     residual: &mut [f64],
-) -> Begun
+) -> Result<(), Refusal>
     requires { (27 * length diagonal.old ≤ length numbers.now) × (8 * length diagonal.old ≤ length words.now) × (10 * bodies ≤ length masses.now) × (length tolerances.now ≡ length diagonal.old) × (length residual.old ≡ length diagonal.old) }
     ensures begun_held { BegunHeld (started_problem valid_first (table_of (length diagonal.old) bodies numbers.now words.now masses.now) (tolerances_in tolerances.now) (coefficients residual.old)) result diagonal.new residual.new }
     ensures free { Free diagonal.old diagonal.new × Free residual.old residual.new }
 {
     let rows = diagonal.len();
     if !valid_before(valid_first, numbers, words, rows, bodies) {
-        return Begun::Refused(7);
+        return Err(Refusal::Row);
     }
-    let mut i = 0;
-    while i < rows {
-        match prepare_row(
+    for i in 0..rows {
+        let row = prepare_row(
             numbers,
             words,
             masses,
@@ -136,16 +121,9 @@ pub fn begin(
             tolerances,
             residual[i],
             i,
-        ) {
-            RowAnswer::Row(row) => {
-                diagonal[i] = row.diagonal;
-                residual[i] = row.residual;
-            }
-            RowAnswer::Refused(number) => {
-                return Begun::Refused(number);
-            }
-        }
-        i += 1;
+        )?;
+        diagonal[i] = row.diagonal;
+        residual[i] = row.residual;
     }
-    Begun::Done
+    Ok(())
 }

@@ -20,14 +20,7 @@ pub fn position_vector_converged(tolerances: &[f64], residual: &[f64]) -> bool
     requires { length residual.now ≤ length tolerances.now }
     ensures { result ≡ meets_of (tolerances_in tolerances.now) residual.now (length residual.now) }
 {
-    let mut i = 0;
-    while i < residual.len() {
-        if !row_converged(tolerances, residual, i) {
-            return false;
-        }
-        i += 1;
-    }
-    true
+    (0..residual.len()).all(|i| row_converged(tolerances, residual, i))
 }
 
 // position_pcg_result of pcg.rs: its two maxima.
@@ -39,10 +32,8 @@ pub fn residual_maxima(words: &[u32], residual: &[f64]) -> Maxima
         linear: 0.0,
         angular: 0.0,
     };
-    let mut i = 0;
-    while i < residual.len() {
+    for i in 0..residual.len() {
         maxima = maxima.raised(dimension(words[8 * i + 1]), binary64::abs(residual[i]));
-        i += 1;
     }
     maxima
 }

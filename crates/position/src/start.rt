@@ -12,10 +12,8 @@ fn negate_errors(numbers: &[f64], residual: &mut [f64])
     requires { 27 * length residual.old ≤ length numbers.now }
     ensures { residual.new ≡ tabulate (λ i. neg (get_or numbers.now (27 * i + 15) nan)) (length residual.old) }
 {
-    let mut i = 0;
-    while i < residual.len() {
+    for i in 0..residual.len() {
         residual[i] = -numbers[27 * i + 15];
-        i += 1;
     }
 }
 

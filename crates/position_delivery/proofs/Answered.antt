@@ -20,11 +20,10 @@ use Rattle.position.specs.Prepare.{row_judged, valid_judged, diagonals_judged, r
 use Rattle.solve_method.specs.Method.{opening_of, begin_of, method_of, Delivered}
 use Rattle.position_delivery.specs.Delivery.{finished_of}
 use Rattle.position_delivery.specs.Outcome.{Lent, Outcome, Answer, proposal_of, committed_of, outcome_at, MeaningAt}
+use Rattle.position_delivery.specs.declared.answer.PositionPcgResult.{PositionPcgResult}
 use Rattle.solve_method.specs.Counting.{counted_of}
-use Rattle.position_delivery.specs.declared.answer.PositionPcg.{PositionPcg}
-use Rattle.position_delivery.specs.declared.answer.PositionPcg.TheVariants as answers
 
-abbrev outcome : PositionPcg → Lent → Outcome
+abbrev outcome : Run PositionPcgResult ℕ → Lent → Outcome
 outcome r l = record { answer = r; lent = l }
 
 -- ---- up to the step counted the centres themselves are not looked at, only whether they are finite
@@ -43,7 +42,7 @@ delivered_of p mode place n limit before x o e h = ap (outcome_at place n before
 
 -- ---- refusal 3
 module _ (p : Problem) (mode : Mode) (place n limit : ℕ) (before : Lent) (b fits : Bool) (e : b ≡ fits) where
-  pub entry_refused : not b ≡ true → outcome_at place n before (solve (method_of fits p mode) limit) ≡ outcome (answers.Refused 3) before
+  pub entry_refused : not b ≡ true → outcome_at place n before (solve (method_of fits p mode) limit) ≡ outcome (ended 3) before
   unfolding solve proposal_of committed_of opening_of judge
   entry_refused h = ap (outcome_at place n before) (on_ended _ _ _ {a = 3} (test_fail fits 3 _ e h))
 
@@ -51,7 +50,7 @@ module _ (p : Problem) (mode : Mode) (place n limit : ℕ) (before : Lent) (b fi
   entry_on o h q = let z : true ≡ fits = sym (not-false b h) ∙ e in ap (λ (x : Bool). outcome_at place n before (solve (method_of x p mode) limit)) (sym z) ∙ q
 
 -- whatever the answer, it means what it says
-module _ (m : Method Iterate Carried Delivered) (limit place n : ℕ) (before after : Lent) (r : PositionPcg) where
+module _ (m : Method Iterate Carried Delivered) (limit place n : ℕ) (before after : Lent) (r : Run PositionPcgResult ℕ) where
   said : (a : Answer) → solve m limit ≡ a → MeaningAt m limit place n before (outcome_at place n before a).answer (outcome_at place n before a).lent
   unfolding proposal_of committed_of
   said (going ((flag, count, v), f)) e = let w = means m limit (going ((flag, count, v), f)) e in record { step = v; delivered = f; accepted = w.0; result_is = refl; lent_is = refl; none_turns_back = w.1 }

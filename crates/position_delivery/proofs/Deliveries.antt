@@ -9,7 +9,7 @@ use lib.Seq.{set-get_or}
 use lib.Ieee.{Float, nan, binary64, add}
 use lib.Ieee.Scale.{finite}
 use borrow.Author.Tests.{not-true, not-false}
-use Rattle.loops.specs.Run.{going, ended, next, check, on}
+use Rattle.loops.specs.Run.{going, ended, next, check, on, Run}
 use Rattle.loops.specs.Judge.{test}
 use Rattle.loops.specs.Every.{every}
 use Rattle.loops.specs.Tabulate.{tabulate}
@@ -30,8 +30,8 @@ use Rattle.mass_operator.specs.Operator.{impulse_at}
 use Rattle.mass_operator.specs.Flat.{Summed, flat_impulses, impulses_of, coefficients}
 use Rattle.mass_operator.proofs.Flat.{flat_holds, flat_same}
 use Rattle.mass_operator.specs.Applied.{all_finite_of, applied_of}
-use Rattle.mass_operator.specs.declared.finite.Applied.{Applied}
-use Rattle.mass_operator.specs.declared.finite.Applied.TheVariants as applied
+use Rattle.mass_operator.specs.declared.finite.NotFinite.{NotFinite}
+use Rattle.std.specs.Prelude.{Result, Ok, Err, is_err}
 use Rattle.position.specs.Multipliers.{accumulated_in, gain_of, gains_finite, gained}
 use Rattle.position.specs.Centres.{moved_by}
 use Rattle.position.proofs.Moved.{moved_finite_same, moved_flat_same}
@@ -39,53 +39,46 @@ use Rattle.solve_method.specs.Method.{gains_of, maxima_in, impulse_by, finish_of
 use Rattle.position_delivery.specs.Outcome.{with_accumulated, result_of, proposal_of, committed_of}
 use Rattle.position_delivery.specs.Delivery.{moved_in, Judged, Shown, accepted_of, gained_after, committed_by, finished_of}
 use Rattle.loops.specs.Cleared.{zeros}
-use Rattle.position_delivery.specs.declared.answer.PositionPcg.{PositionPcg}
-use Rattle.position_delivery.specs.declared.answer.PositionPcg.TheVariants as answers
 use Rattle.kapitsa_joint.specs.Tolerance.{dimension_of}
 use Rattle.position.specs.Residual.{maxima_of}
 use Rattle.recurrence.specs.Step.{Iterate}
+use Rattle.position_delivery.specs.declared.answer.PositionPcgResult.{PositionPcgResult}
 use Rattle.kapitsa_joint.specs.declared.maxima.Maxima.{Maxima}
 
 -- ---- `accept`
 pub accepts : (flag : Bool) (count : ℕ) (words : List ℕ) (residual : List Float) (m : Maxima) → m ≡ maxima_of (λ i. dimension_of (get_or words (8 * i + 1) 0)) residual (length residual)
-    → answers.Accepted (record { converged = flag; iterations = count; linear_residual_m = m.linear; angular_residual_rad = m.angular }) ≡ accepted_of flag count words residual
+    → going (record { converged = flag; iterations = count; linear_residual_m = m.linear; angular_residual_rad = m.angular }) ≡ accepted_of flag count words residual
 unfolding accepted_of
 accepts flag count words residual m e = rw e
 
 -- ---- `deliverable`
-applied_finite : (a : Applied) (l : List Float) → a ≡ applied_of l → (b : Bool) → all_finite_of l ≡ b → check b applied.Done applied.Overflow ≡ a
-unfolding applied_of
-applied_finite a l e b h = rw (← h) (sym e)
+applied_finite : (a : Result Unit NotFinite) (l : List Float) → a ≡ applied_of l → all_finite_of l ≡ not (is_err a)
+unfolding applied_of check
+applied_finite a l e = rw e (by (all_finite_of l))
+  where
+    by : (b : Bool) → b ≡ not (is_err {T = Unit} {E = NotFinite} (check b (Ok tt) (Err record {})))
+    by true = refl
+    by false = refl
 
 -- the impulses in work memory are those of the list
 read : (l : List Float) (bodies placed : ℕ) {m : List Float} → placed ≤ bodies → flat_impulses (paired_of l) bodies ≡ m → (b : ℕ) → b < placed → paired_of l b ≡ impulse_of m b
 read l bodies placed few e b h = sym ((flat_holds (paired_of l) bodies).at b (omega arith)) ∙ ap (λ (m : List Float). impulse_of m b) e
 
-module _ (j : ℕ → RowJacobian) (numbers pending : List Float) (rows bodies : ℕ) (a : Applied) (l : List Float) (summed : Summed j (coefficients pending) rows bodies a l) where
-  all : (b : Bool) → all_finite_of (impulses_of j (coefficients pending) rows bodies) ≡ b → check b applied.Done applied.Overflow ≡ a
-  all b h = applied_finite a (impulses_of j (coefficients pending) rows bodies) summed.answered b h
-
-  failed : (b : Bool) → check b applied.Done applied.Overflow ≡ applied.Overflow → b ≡ false
-  unfolding check
-  failed true e = absurd (let z : ◌≡◌ {A = ℕ} 0 1 = cc in omega arith)
-  failed false e = refl
-
-  passed : (b : Bool) → check b applied.Done applied.Overflow ≡ applied.Done → b ≡ true
-  unfolding check
-  passed true e = refl
-  passed false e = absurd (let z : ◌≡◌ {A = ℕ} 0 1 = cc in omega arith)
+module _ (j : ℕ → RowJacobian) (numbers pending : List Float) (rows bodies : ℕ) (a : Result Unit NotFinite) (l : List Float) (summed : Summed j (coefficients pending) rows bodies a l) where
+  all : all_finite_of (impulses_of j (coefficients pending) rows bodies) ≡ not (is_err a)
+  all = applied_finite a (impulses_of j (coefficients pending) rows bodies) summed.answered
 
   in_order : flat_impulses (paired_of l) bodies ≡ impulses_of j (coefficients pending) rows bodies
   unfolding impulses_of
   in_order = flat_same (paired_of l) (λ b. impulse_at j (coefficients pending) b rows) bodies summed.summed.at
 
   module _ (place placed : ℕ) (masses centres : List Float) where
-    pub judged_overflow : a ≡ applied.Overflow → Judged false place placed bodies numbers masses centres (impulses_of j (coefficients pending) rows bodies) pending l
-    judged_overflow t = record { passed = rw (failed _ (all _ refl ∙ t)); summed = in_order }
+    pub judged_overflow : is_err a ≡ true → Judged false place placed bodies numbers masses centres (impulses_of j (coefficients pending) rows bodies) pending l
+    judged_overflow t = record { passed = rw (all, t); summed = in_order }
 
-    pub judged_finite : (gains moved : Bool) → placed ≤ bodies → a ≡ applied.Done → gains ≡ gains_finite place numbers pending (length pending) → moved ≡ centres_finite (moved_by (mass_of masses) (paired_of l) (centres_in placed centres))
+    pub judged_finite : (gains moved : Bool) → placed ≤ bodies → is_err a ≡ false → gains ≡ gains_finite place numbers pending (length pending) → moved ≡ centres_finite (moved_by (mass_of masses) (paired_of l) (centres_in placed centres))
         → Judged (gains && moved) place placed bodies numbers masses centres (impulses_of j (coefficients pending) rows bodies) pending l
-    judged_finite gains moved few t eg em = record { passed = rw (passed _ (all _ refl ∙ t), ← eg, em, same); summed = in_order }
+    judged_finite gains moved few t eg em = record { passed = rw (all, t, ← eg, em, same); summed = in_order }
       where
         same : centres_finite (moved_by (mass_of masses) (paired_of l) (centres_in placed centres)) ≡ centres_finite (moved_in placed masses (impulses_of j (coefficients pending) rows bodies) centres)
         same = moved_finite_same (mass_of masses) (paired_of l) (impulse_of (impulses_of j (coefficients pending) rows bodies)) (centres_in placed centres) (read l bodies placed few in_order)
@@ -161,10 +154,10 @@ module _ (place : ℕ) (numbers masses : List Float) (words : List ℕ) (rows bo
   unfolding maxima_in row_of words_of
   maxima_in_lem pending residual e = ap (maxima_of (λ i. dimension_of (get_or words (8 * i + 1) 0)) residual) e
 
-  module _ (flag : Bool) (count : ℕ) (pending residual : List Float) (long : length residual ≡ rows) (r : PositionPcg) (accepted : r ≡ accepted_of flag count words residual) where
-    answer_is : (m l k : List Float) → r ≡ answers.Accepted (result_of flag count (record { accumulated = m; impulses = l; centres = k; maxima = maxima_in table (record { solution = pending; residual = residual }) }))
+  module _ (flag : Bool) (count : ℕ) (pending residual : List Float) (long : length residual ≡ rows) (r : Run PositionPcgResult ℕ) (accepted : r ≡ accepted_of flag count words residual) where
+    answer_is : (m l k : List Float) → r ≡ going (result_of flag count (record { accumulated = m; impulses = l; centres = k; maxima = maxima_in table (record { solution = pending; residual = residual }) }))
     unfolding accepted_of
-    answer_is m l k = accepted ∙ ap (λ (x : Maxima). answers.Accepted (record { converged = flag; iterations = count; linear_residual_m = x.linear; angular_residual_rad = x.angular })) (maxima_in_lem pending residual long)
+    answer_is m l k = accepted ∙ ap (λ (x : Maxima). going (record { converged = flag; iterations = count; linear_residual_m = x.linear; angular_residual_rad = x.angular })) (maxima_in_lem pending residual long)
 
     pub proposed_none : (placed : ℕ) (centres solution impulses new solution₁ impulses₁ new₁ : List Float) → count ≡ 0 → length centres ≡ 3 * placed → solution₁ ≡ pending → impulses₁ ≡ zeros (6 * bodies) → new₁ ≡ centres
         → proposal_of solution impulses new (finished_of table accumulated (centres_in placed centres) (flag, count, record { solution = pending; residual = residual })) ≡ record { answer = r; solution = solution₁; impulses = impulses₁; centres = new₁ }
@@ -219,12 +212,12 @@ module _ (place : ℕ) (numbers masses : List Float) (words : List ℕ) (rows bo
       centres_are : flat_centres (moved_in p masses (impulses_of (compact_of jacobians links) (coefficients pending) n b) centres) ≡ flat_centres (moved there)
       centres_are = rw (impulses_are, ep) (moved_flat_same (mass_of masses) (impulse_of totals) (impulse_by table step) there placed_at)
 
-      pub proposed_refused : (count : ℕ) → (count ≡ 0 → ⊥) → q ≡ false → proposal_of solution impulses new (finished_of table accumulated there (flag, count, step)) ≡ record { answer = answers.Refused 17; solution = solution₁; impulses = impulses₁; centres = new₁ }
+      pub proposed_refused : (count : ℕ) → (count ≡ 0 → ⊥) → q ≡ false → proposal_of solution impulses new (finished_of table accumulated there (flag, count, step)) ≡ record { answer = ended 17; solution = solution₁; impulses = impulses₁; centres = new₁ }
       unfolding proposal_of
       proposed_refused zero z t = absurd (z refl)
       proposed_refused (suc k) z t = let (es, ei, ec) = shown.kept t in ap (proposal_of solution impulses new) (refused there k (sym tests ∙ t)) ∙ rw (es, ei, ec)
 
-      pub proposed_all : (count : ℕ) (r : PositionPcg) → (count ≡ 0 → ⊥) → q ≡ true → length residual ≡ rows → r ≡ accepted_of flag count words residual → proposal_of solution impulses new (finished_of table accumulated there (flag, count, step)) ≡ record { answer = r; solution = solution₁; impulses = impulses₁; centres = new₁ }
+      pub proposed_all : (count : ℕ) (r : Run PositionPcgResult ℕ) → (count ≡ 0 → ⊥) → q ≡ true → length residual ≡ rows → r ≡ accepted_of flag count words residual → proposal_of solution impulses new (finished_of table accumulated there (flag, count, step)) ≡ record { answer = r; solution = solution₁; impulses = impulses₁; centres = new₁ }
       unfolding proposal_of
       proposed_all zero r z t lr e = absurd (z refl)
       proposed_all (suc k) r z t lr e =

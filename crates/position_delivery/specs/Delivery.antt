@@ -1,6 +1,6 @@
 -- What the functions that deliver hand to one another.
 use Rattle.std.specs.Prelude.{ℕ, zero, suc, ◌+◌, ◌*◌, ◌<◌, ◌≤◌, ◌≡◌, Bool, true, false, ◌&&◌, List, get_or, length, Float}
-use Rattle.loops.specs.Run.{going, next}
+use Rattle.loops.specs.Run.{going, next, Run, ended}
 use Rattle.kapitsa_joint.specs.Table.{Table}
 use Rattle.kapitsa_joint.specs.Tolerance.{dimension_of}
 use Rattle.kapitsa_joint.specs.Mass.{mass_of}
@@ -15,8 +15,6 @@ use Rattle.position.specs.Residual.{maxima_of}
 use Rattle.position.specs.Multipliers.{gains_finite, gained}
 use Rattle.solve_method.specs.Method.{finish_of}
 use Rattle.position_delivery.specs.Outcome.{Answer}
-use Rattle.position_delivery.specs.declared.answer.PositionPcg.{PositionPcg}
-use Rattle.position_delivery.specs.declared.answer.PositionPcg.TheVariants as answers
 use Rattle.position_delivery.specs.declared.answer.PositionPcgResult.{PositionPcgResult}
 
 -- the centres after impulses that a list holds
@@ -39,10 +37,10 @@ pub record Shown (r : Bool) (place placed : ℕ) (numbers masses centres impulse
   pub kept : r ≡ false → (solution₁ ≡ solution₀) × (impulses₁ ≡ impulses₀) × (centres₁ ≡ centres₀)
 
 -- the answer by the rows' words and the residual
-unfoldable pub accepted_of : Bool → ℕ → List ℕ → List Float → PositionPcg
+unfoldable pub accepted_of : Bool → ℕ → List ℕ → List Float → Run PositionPcgResult ℕ
 accepted_of flag count words residual =
     let m = maxima_of (λ i. dimension_of (get_or words (8 * i + 1) 0)) residual (length residual) in
-    answers.Accepted (record { converged = flag; iterations = count; linear_residual_m = m.linear; angular_residual_rad = m.angular })
+    going (record { converged = flag; iterations = count; linear_residual_m = m.linear; angular_residual_rad = m.angular })
 
 -- the rows' numbers once an answer with this solution is committed: "Each accumulated_multiplier gains its solution number; with count 0 it keeps its bits"
 unfoldable pub gained_after : ℕ → ℕ → List Float → List Float → List Float
@@ -50,13 +48,13 @@ gained_after place zero numbers solution = numbers
 gained_after place (suc count) numbers solution = gained place numbers solution (length solution)
 
 -- the room that this takes, where the answer is accepted
-pub record CommitRoom (place : ℕ) (answer : PositionPcg) (solution numbers : ℕ) : Type 0 where
+pub record CommitRoom (place : ℕ) (answer : Run PositionPcgResult ℕ) (solution numbers : ℕ) : Type 0 where
   pub within : place < 27
-  pub room : (r : PositionPcgResult) → answer ≡ answers.Accepted r → 27 * solution ≤ numbers
+  pub room : (r : PositionPcgResult) → answer ≡ going r → 27 * solution ≤ numbers
 
-unfoldable pub committed_by : ℕ → PositionPcg → List Float → List Float → List Float
-committed_by place (answers.Accepted r) numbers solution = gained_after place r.iterations numbers solution
-committed_by place (answers.Refused number) numbers solution = numbers
+unfoldable pub committed_by : ℕ → Run PositionPcgResult ℕ → List Float → List Float → List Float
+committed_by place (going r) numbers solution = gained_after place r.iterations numbers solution
+committed_by place (ended number) numbers solution = numbers
 
 -- flag, count and the step counted, with what is delivered of it
 unfoldable pub finished_of : Table → (ℕ → Float) → Centres → Bool × ℕ × Iterate → Answer

@@ -6,8 +6,6 @@ use Rattle.recurrence.specs.Step.{Iterate, Carried}
 use Rattle.solve_method.specs.Method.{Delivered}
 use Rattle.steps.specs.Method.{Method}
 use Rattle.steps.specs.Meaning.{Accepted, TurnsBack}
-use Rattle.position_delivery.specs.declared.answer.PositionPcg.{PositionPcg}
-use Rattle.position_delivery.specs.declared.answer.PositionPcg.TheVariants as answers
 use Rattle.position_delivery.specs.declared.answer.PositionPcgResult.{PositionPcgResult}
 
 -- the lent numbers that an accepted answer writes: the rows, for their accumulated multipliers, solution, impulses and the new centres
@@ -18,7 +16,7 @@ pub record Lent : Type 0 where
   pub centres : List Float
 
 pub record Outcome : Type 0 where
-  pub answer : PositionPcg
+  pub answer : Run PositionPcgResult ℕ
   pub lent : Lent
 
 -- the rows' numbers with these at one place of the first k rows' 27: 24 for the accumulated multipliers, 25 for the accumulated impulses (document 02, a)
@@ -38,14 +36,14 @@ result_of flag count f = record { converged = flag; iterations = count; linear_r
 
 -- The delivery in two halves. What is proposed, the rows left as they were: the answer, which 17 may turn back, solution, impulses and centres.
 pub record Proposal : Type 0 where
-  pub answer : PositionPcg
+  pub answer : Run PositionPcgResult ℕ
   pub solution : List Float
   pub impulses : List Float
   pub centres : List Float
 
 unfoldable pub proposal_of : List Float → List Float → List Float → Answer → Proposal
-proposal_of solution impulses centres (going ((flag, count, v), f)) = record { answer = answers.Accepted (result_of flag count f); solution = v.solution; impulses = f.impulses; centres = f.centres }
-proposal_of solution impulses centres (ended number) = record { answer = answers.Refused number; solution = solution; impulses = impulses; centres = centres }
+proposal_of solution impulses centres (going ((flag, count, v), f)) = record { answer = going (result_of flag count f); solution = v.solution; impulses = f.impulses; centres = f.centres }
+proposal_of solution impulses centres (ended number) = record { answer = ended number; solution = solution; impulses = impulses; centres = centres }
 
 -- What is then written into the n rows: their accumulated numbers, at this place.
 unfoldable pub committed_of : ℕ → ℕ → List Float → Answer → List Float
@@ -81,10 +79,10 @@ module _ (m : Method Iterate Carried Delivered) (limit place n : ℕ) (before : 
     pub turned : TurnsBack m limit number
     pub kept : after ≡ before
 
-  abbrev pub MeaningAt : PositionPcg → Lent → Type 0
-  MeaningAt (answers.Accepted r) after = AcceptedAs r after
-  MeaningAt (answers.Refused number) after = RefusedAs number after
+  abbrev pub MeaningAt : Run PositionPcgResult ℕ → Lent → Type 0
+  MeaningAt (going r) after = AcceptedAs r after
+  MeaningAt (ended number) after = RefusedAs number after
 
 -- of positions
-abbrev pub SolveMeaning : Method Iterate Carried Delivered → ℕ → ℕ → Lent → PositionPcg → Lent → Type 0
+abbrev pub SolveMeaning : Method Iterate Carried Delivered → ℕ → ℕ → Lent → Run PositionPcgResult ℕ → Lent → Type 0
 SolveMeaning m limit n before answer after = MeaningAt m limit 24 n before answer after

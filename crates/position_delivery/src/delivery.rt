@@ -1,10 +1,11 @@
 // What is delivered of the step counted: 17 is judged before anything is written.
 ghost use Rattle.std.specs.Prelude.{◌≡◌, ◌*◌, ◌<◌, ◌≤◌, length};
+ghost use Rattle.refusals.specs.Told.{told};
 ghost use Rattle.kapitsa_joint.specs.Table.{table_of};
 ghost use Rattle.kapitsa_joint.specs.Centre.{centres_in};
 ghost use Rattle.compact_table.specs.Compact.{compact_of, Linked};
 ghost use Rattle.mass_operator.specs.Flat.{coefficients, impulses_of};
-ghost use Rattle.loops.specs.Run.{next};
+ghost use Rattle.loops.specs.Run.{going, next};
 ghost use Rattle.loops.specs.Cleared.{Free};
 ghost use Rattle.work_memory.specs.Work.{table_memory, cleared_table};
 ghost use Rattle.work_memory.specs.Lengths.{RowsRoom, TableRoom};
@@ -14,12 +15,12 @@ ghost use Rattle.position_iteration.specs.Stands.{StandsAfter, Stands};
 ghost use Rattle.position_delivery.specs.Outcome.{proposal_of, outcome_at};
 ghost use Rattle.position_delivery.specs.Delivery.{Judged, Shown, accepted_of, gained_after, CommitRoom, committed_by, finished_of};
 
-use crate::answer::{PositionPcg, PositionPcgResult};
+use crate::answer::PositionPcgResult;
 use crate::impulses::deliver_impulses;
 use loops::wide;
-use mass_operator::{Applied, global_velocity_impulse};
+use mass_operator::global_velocity_impulse;
 use position::{add_multipliers, move_centres, moved_finite, multipliers_finite, residual_maxima};
-use position_iteration::Iterated;
+use refusals::Refusal;
 use work_memory::clear_table;
 
 // 17, of impulses, multipliers and centres: true where it does not apply.
@@ -40,10 +41,9 @@ fn deliverable(
     requires linked { Linked links.now (length pending.now) bodies }
     ensures { Judged result place placed bodies numbers.now masses.now centres.now (impulses_of (compact_of jacobians.now links.now) (coefficients pending.now) (length pending.now) bodies) pending.now body_impulses.new }
 {
-    let Applied::Done = global_velocity_impulse(jacobians, links, pending, bodies, body_impulses)
-    else {
+    if global_velocity_impulse(jacobians, links, pending, bodies, body_impulses).is_err() {
         return false;
-    };
+    }
     multipliers_finite(place, numbers, pending)
         & moved_finite(masses, body_impulses, centres, placed)
 }
@@ -90,17 +90,17 @@ fn show(
 }
 
 // The answer of a step that is counted and delivered.
-fn accept(flag: bool, count: u32, words: &[u32], residual: &[f64]) -> PositionPcg
+fn accept(flag: bool, count: u32, words: &[u32], residual: &[f64]) -> PositionPcgResult
     requires { 8 * length residual.now ≤ length words.now }
-    ensures { result ≡ accepted_of flag count words.now residual.now }
+    ensures { going result ≡ accepted_of flag count words.now residual.now }
 {
     let maxima = residual_maxima(words, residual);
-    PositionPcg::Accepted(PositionPcgResult {
+    PositionPcgResult {
         converged: flag,
         iterations: count,
         linear_residual_m: maxima.linear,
         angular_residual_rad: maxima.angular,
-    })
+    }
 }
 
 // What is proposed of the step counted: with count 0 no impulse, and nothing to refuse.
@@ -123,18 +123,18 @@ fn propose_step(
     solution: &mut [f64],
     impulses: &mut [f64],
     new_centres: &mut [f64],
-) -> PositionPcg
+) -> Result<PositionPcgResult, Refusal>
     requires numbers_len { (length numbers.now ≡ 27 * rows) × (length words.now ≡ 8 * rows) × (10 * bodies ≤ length masses.now) × (length solution.old ≡ rows) × (length impulses.old ≡ 6 * bodies) }
     requires place_bound { (place < 27) × (placed ≤ bodies) × (length centres.now ≡ 3 * placed) × (length new_centres.old ≡ 3 * placed) }
     requires rows_in_bounds { (12 * rows ≤ length jacobians.now) × (2 * rows ≤ length links.now) × (length pending.now ≡ rows) × (length residual.now ≡ rows) × (length body_impulses.old ≡ 6 * bodies) }
     requires stands { Stands (table_of rows bodies numbers.now words.now masses.now) masses.now jacobians.now links.now }
-    ensures { proposal_of solution.entry.now impulses.old new_centres.old (finished_of (table_of rows bodies numbers.now words.now masses.now) (accumulated_in place numbers.now) (centres_in placed centres.now) (flag, count, record { solution = pending.now; residual = residual.now })) ≡ record { answer = result; solution = solution.exit.now; impulses = impulses.new; centres = new_centres.new } }
+    ensures { proposal_of solution.entry.now impulses.old new_centres.old (finished_of (table_of rows bodies numbers.now words.now masses.now) (accumulated_in place numbers.now) (centres_in placed centres.now) (flag, count, record { solution = pending.now; residual = residual.now })) ≡ record { answer = told result; solution = solution.exit.now; impulses = impulses.new; centres = new_centres.new } }
 {
     if count == 0 {
         loops::copy(solution, pending);
         loops::clear(impulses);
         loops::copy(new_centres, centres);
-        return accept(flag, count, words, residual);
+        return Ok(accept(flag, count, words, residual));
     }
     if !show(
         place,
@@ -151,14 +151,14 @@ fn propose_step(
         impulses,
         new_centres,
     ) {
-        return PositionPcg::Refused(17);
+        return Err(Refusal::Result);
     }
-    accept(flag, count, words, residual)
+    Ok(accept(flag, count, words, residual))
 }
 
 // What is proposed of the count: the step that it counts, or the refusal that it met. The rows are only read.
 fn propose(
-    counted: Iterated,
+    counted: Result<Option<u32>, Refusal>,
     limit: u32,
     place: usize,
     placed: u32,
@@ -176,30 +176,18 @@ fn propose(
     solution: &mut [f64],
     impulses: &mut [f64],
     new_centres: &mut [f64],
-) -> PositionPcg
+) -> Result<PositionPcgResult, Refusal>
     requires numbers_len { (length numbers.now ≡ 27 * rows) × (length words.now ≡ 8 * rows) × (10 * bodies ≤ length masses.now) × (length solution.old ≡ rows) × (length impulses.old ≡ 6 * bodies) }
     requires place_bound { (place < 27) × (placed ≤ bodies) × (length centres.now ≡ 3 * placed) × (length new_centres.old ≡ 3 * placed) }
     requires rows_in_bounds { (12 * rows ≤ length jacobians.now) × (2 * rows ≤ length links.now) × (length pending.now ≡ rows) × (length residual.now ≡ rows) × (length body_impulses.old ≡ 6 * bodies) }
     requires stands_after { StandsAfter (table_of rows bodies numbers.now words.now masses.now) masses.now counted jacobians.now links.now }
-    ensures centres_value { proposal_of solution.old impulses.old new_centres.old (next (iterated_out counted limit pending.now residual.now) (finished_of (table_of rows bodies numbers.now words.now masses.now) (accumulated_in place numbers.now) (centres_in placed centres.now))) ≡ record { answer = result; solution = solution.new; impulses = impulses.new; centres = new_centres.new } }
+    ensures centres_value { proposal_of solution.old impulses.old new_centres.old (next (iterated_out counted limit pending.now residual.now) (finished_of (table_of rows bodies numbers.now words.now masses.now) (accumulated_in place numbers.now) (centres_in placed centres.now))) ≡ record { answer = told result; solution = solution.new; impulses = impulses.new; centres = new_centres.new } }
     ensures free { Free body_impulses.old body_impulses.new }
 {
-    let mut flag = true;
-    let mut count = limit;
-    match counted {
-        Iterated::Met(step) => {
-            count = step;
-        }
-        Iterated::Limit => {
-            flag = false;
-        }
-        Iterated::Refused(number) => {
-            return PositionPcg::Refused(number);
-        }
-    }
+    let met = counted?;
     propose_step(
-        flag,
-        count,
+        met.is_some(),
+        met.unwrap_or(limit),
         place,
         placed,
         numbers,
@@ -231,21 +219,26 @@ pub fn gain_after(place: usize, count: u32, numbers: &mut [f64], solution: &[f64
 }
 
 // The same of an answer; of a refusal nothing.
-pub fn commit(place: usize, answer: PositionPcg, numbers: &mut [f64], solution: &[f64])
-    requires { CommitRoom place answer (length solution.now) (length numbers.old) }
-    ensures { numbers.new ≡ committed_by place answer numbers.old solution.now }
+pub fn commit(
+    place: usize,
+    answer: Result<PositionPcgResult, Refusal>,
+    numbers: &mut [f64],
+    solution: &[f64],
+)
+    requires { CommitRoom place (told answer) (length solution.now) (length numbers.old) }
+    ensures { numbers.new ≡ committed_by place (told answer) numbers.old solution.now }
 {
     match answer {
-        PositionPcg::Accepted(result) => {
+        Ok(result) => {
             gain_after(place, result.iterations, numbers, solution);
         }
-        PositionPcg::Refused(number) => {}
+        Err(_) => {}
     }
 }
 
 // Proposed, and what is read of the work memory cleared. `place` is where a row has its accumulated number, and `placed` bodies have a centre: all, or for velocities none. The contract tells what a commit then makes of the rows (document 02, l).
 pub fn propose_and_clear(
-    counted: Iterated,
+    counted: Result<Option<u32>, Refusal>,
     limit: u32,
     place: usize,
     placed: u32,
@@ -263,13 +256,13 @@ pub fn propose_and_clear(
     solution: &mut [f64],
     impulses: &mut [f64],
     new_centres: &mut [f64],
-) -> PositionPcg
+) -> Result<PositionPcgResult, Refusal>
     requires rows_room { RowsRoom rows bodies numbers.now words.now masses.now }
     requires solution_len { (length solution.old ≡ rows) × (length impulses.old ≡ 6 * bodies) }
     requires place_bound { (place < 27) × (placed ≤ bodies) × (length centres.now ≡ 3 * placed) × (length new_centres.old ≡ 3 * placed) }
     requires table_room { TableRoom rows bodies (table_memory jacobians.old links.old residual.old pending.old body_impulses.old) }
     requires stands_after { StandsAfter (table_of rows bodies numbers.now words.now masses.now) masses.now counted jacobians.old links.old }
-    ensures centres_value { outcome_at place rows record { numbers = numbers.entry.now; solution = solution.old; impulses = impulses.old; centres = new_centres.old } (next (iterated_out counted limit pending.old residual.old) (finished_of (table_of rows bodies numbers.entry.now words.now masses.now) (accumulated_in place numbers.entry.now) (centres_in placed centres.now))) ≡ record { answer = result; lent = record { numbers = committed_by place result numbers.entry.now solution.new; solution = solution.new; impulses = impulses.new; centres = new_centres.new } } }
+    ensures centres_value { outcome_at place rows record { numbers = numbers.entry.now; solution = solution.old; impulses = impulses.old; centres = new_centres.old } (next (iterated_out counted limit pending.old residual.old) (finished_of (table_of rows bodies numbers.entry.now words.now masses.now) (accumulated_in place numbers.entry.now) (centres_in placed centres.now))) ≡ record { answer = told result; lent = record { numbers = committed_by place (told result) numbers.entry.now solution.new; solution = solution.new; impulses = impulses.new; centres = new_centres.new } } }
     ensures body_impulses_after { table_memory jacobians.new links.new residual.new pending.new body_impulses.new ≡ cleared_table (table_memory jacobians.old links.old residual.old pending.old body_impulses.old) }
 {
     let answer = propose(

@@ -9,9 +9,7 @@ pub fn deliver_impulses(body_impulses: &[f64], bodies: usize, impulses: &mut [f6
     requires { (6 * bodies ≤ length body_impulses.now) × (length impulses.old ≡ 6 * bodies) }
     ensures { impulses.new ≡ flat_impulses (paired_of body_impulses.now) bodies }
 {
-    let mut b = 0;
-    while b < bodies {
+    for b in 0..bodies {
         put_impulse(impulses, b, paired_at(body_impulses, b));
-        b += 1;
     }
 }

@@ -2,9 +2,9 @@
 
 #![tactic(auto)]
 
-pub mod answer; // answer.rt: flag, count and maxima, or a refusal
+pub mod answer; // answer.rt: flag, count and maxima
 pub mod delivery; // delivery.rt: multipliers, solution and impulses
 pub mod impulses; // impulses.rt: impulses in the order of document 01
 
-pub use answer::{PositionPcg, PositionPcgResult};
+pub use answer::PositionPcgResult;
 pub use delivery::{commit, gain_after, propose_and_clear};

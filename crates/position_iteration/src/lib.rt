@@ -5,4 +5,4 @@
 pub mod iteration; // iteration.rt: the loop over the steps
 pub mod turn; // turn.rt: a step, and what is carried to the next
 
-pub use iteration::{Iterated, iterate};
+pub use iteration::iterate;

@@ -26,8 +26,6 @@ use Rattle.steps.specs.Solve.{solve}
 use Rattle.solve_method.specs.Method.{method_of}
 use Rattle.position_delivery.specs.Delivery.{committed_by}
 use Rattle.position_delivery.specs.Outcome.{Answer, Lent, Outcome, proposal_of, outcome_of}
-use Rattle.position_delivery.specs.declared.answer.PositionPcg.{PositionPcg}
-use Rattle.position_delivery.specs.declared.answer.PositionPcg.TheVariants as answers
 use Rattle.position_delivery.specs.declared.answer.PositionPcgResult.{PositionPcgResult}
 use Rattle.work_memory.specs.Work.{WorkMemory}
 use Rattle.work_memory.specs.Lengths.{table_fits, vectors_fit, factor_fits, passes3}
@@ -71,12 +69,12 @@ within_counts rows bodies mode numbers words masses solution impulses w h =
     let (t, _) = both _ (leb mode 2) c in
     leb-true rows 512 (both (leb rows 512) (leb bodies 256) t).0
 
-joined : {a₀ a : PositionPcg} {n₀ n x₀ x i₀ i c₀ c : List Float} → a₀ ≡ a → n₀ ≡ n → x₀ ≡ x → i₀ ≡ i → c₀ ≡ c → ◌≡◌ {A = Outcome} (record { answer = a₀; lent = record { numbers = n₀; solution = x₀; impulses = i₀; centres = c₀ } }) (record { answer = a; lent = record { numbers = n; solution = x; impulses = i; centres = c } })
+joined : {a₀ a : Run PositionPcgResult ℕ} {n₀ n x₀ x i₀ i c₀ c : List Float} → a₀ ≡ a → n₀ ≡ n → x₀ ≡ x → i₀ ≡ i → c₀ ≡ c → ◌≡◌ {A = Outcome} (record { answer = a₀; lent = record { numbers = n₀; solution = x₀; impulses = i₀; centres = c₀ } }) (record { answer = a; lent = record { numbers = n; solution = x; impulses = i; centres = c } })
 joined ea en ex ei ec = rw (ea, en, ex, ei, ec)
 
 -- ---- an accepted proposal: `lent` is what refusal 3 tests of its words and of the multipliers it started from, `beside` what it tests of rules and centres in the undivided solve too
 module _ (lent beside : Bool) (rows bodies mode : ℕ) (numbers : List Float) (words : List ℕ) (masses : List Float) (s : Rules) (p : Problem) (m : Mode) (limit : ℕ) (before after : ProposalMemory) (named namedAfter : List ℕ) (r : PositionPcgResult) (work workAfter : WorkMemory)
-    (proposed : Proposed ((lent && beside) && passes3 rows bodies mode numbers words masses before.solution before.impulses work) s p m limit rows numbers before after named namedAfter (answers.Accepted r) work workAfter) where
+    (proposed : Proposed ((lent && beside) && passes3 rows bodies mode numbers words masses before.solution before.impulses work) s p m limit rows numbers before after named namedAfter (going r) work workAfter) where
   abbrev passes : Bool
   passes = passes3 rows bodies mode numbers words masses before.solution before.impulses work
 
@@ -84,14 +82,14 @@ module _ (lent beside : Bool) (rows bodies mode : ℕ) (numbers : List Float) (w
   found = solve (method_of ((lent && beside) && passes) p m) limit
 
   -- what the undivided solve leaves, by its definition
-  undivided_is : outcome_of rows (lent_by numbers before) found ≡ record { answer = answers.Accepted r; lent = lent_by (committed_by 24 (answers.Accepted r) numbers after.solution) after }
+  undivided_is : outcome_of rows (lent_by numbers before) found ≡ record { answer = going r; lent = lent_by (committed_by 24 (going r) numbers after.solution) after }
   undivided_is =
       let told = proposed.answered in
       joined (ap (λ (x : Proposing). x.answer) told) proposed.commits (ap (λ (x : Proposing). x.memory.solution) told) (ap (λ (x : Proposing). x.memory.impulses) told) (ap (λ (x : Proposing). x.memory.centres) told)
 
   fits : ((lent && beside) && passes) ≡ true
   unfolding AllPass
-  fits = (accepted_tests ((lent && beside) && passes) p m limit 24 rows (lent_by numbers before) (lent_by (committed_by 24 (answers.Accepted r) numbers after.solution) after) undivided_is r refl).0
+  fits = (accepted_tests ((lent && beside) && passes) p m limit 24 rows (lent_by numbers before) (lent_by (committed_by 24 (going r) numbers after.solution) after) undivided_is r refl).0
 
   passed : passes ≡ true
   passed = (both (lent && beside) passes fits).1
@@ -108,16 +106,16 @@ module _ (lent beside : Bool) (rows bodies mode : ℕ) (numbers : List Float) (w
   solution_long : length after.solution ≡ rows
   solution_long = proposed.long ∙ (lent_room rows bodies mode numbers words masses before.solution before.impulses work passed).0
 
-  answer_is : (proposal_of before.solution before.impulses before.centres found).answer ≡ answers.Accepted r
+  answer_is : (proposal_of before.solution before.impulses before.centres found).answer ≡ going r
   answer_is = ap (λ (x : Proposing). x.answer) proposed.answered
 
   pub words_are : after.words ≡ words_of rows r 0
   unfolding words_by
-  words_are = sym (ap (λ (x : Proposing). x.memory.words) proposed.answered) ∙ ap (λ (a : PositionPcg). words_by a rows before.words) answer_is
+  words_are = sym (ap (λ (x : Proposing). x.memory.words) proposed.answered) ∙ ap (λ (a : Run PositionPcgResult ℕ). words_by a rows before.words) answer_is
 
   pub started_are : after.started ≡ tabulate (accumulated_in 24 numbers) rows
   unfolding started_by
-  started_are = sym (ap (λ (x : Proposing). x.memory.started) proposed.answered) ∙ ap (λ (a : PositionPcg). started_by a numbers rows before.started) answer_is
+  started_are = sym (ap (λ (x : Proposing). x.memory.started) proposed.answered) ∙ ap (λ (a : Run PositionPcgResult ℕ). started_by a numbers rows before.started) answer_is
 
   started_long : length after.started ≡ rows
   started_long = ap length started_are ∙ length_tabulate (accumulated_in 24 numbers) rows
@@ -130,13 +128,13 @@ module _ (lent beside : Bool) (rows bodies mode : ℕ) (numbers : List Float) (w
       rw (words_are, started_are) (ap (λ (x : Run Unit ℕ). committing_by x numbers (words_of rows r 0) after.solution) goes ∙ ap (λ (l : List Float). record { number = 0; numbers = l; words = words_of rows r 1 }) (sym proposed.commits))
 
   -- The undivided solve on the same lent values, by its own promise: its answer is the proposal's, and every lent number is as propose and commit leave it.
-  module _ {lent_after : Lent} {named₁ : List ℕ} {answer : PositionPcg} {work₁ : WorkMemory} (undivided : SolveRuled (beside && passes) s p m limit 24 rows (lent_by numbers before) lent_after named named₁ answer work work₁) where
-    same_solve : ◌≡◌ {A = Outcome} (record { answer = answers.Accepted r; lent = lent_by (committed_by 24 (answers.Accepted r) numbers after.solution) after }) (record { answer = answer; lent = lent_after })
+  module _ {lent_after : Lent} {named₁ : List ℕ} {answer : Run PositionPcgResult ℕ} {work₁ : WorkMemory} (undivided : SolveRuled (beside && passes) s p m limit 24 rows (lent_by numbers before) lent_after named named₁ answer work work₁) where
+    same_solve : ◌≡◌ {A = Outcome} (record { answer = going r; lent = lent_by (committed_by 24 (going r) numbers after.solution) after }) (record { answer = answer; lent = lent_after })
     same_solve =
         let both-fit : ((lent && beside) && passes) ≡ (beside && passes) = fits ∙ sym (rw (beside_fits, passed)) in
         sym undivided_is ∙ ap (λ (b : Bool). outcome_of rows (lent_by numbers before) (solve (method_of b p m) limit)) both-fit ∙ undivided.held.answered
 
-    pub same_answer : answer ≡ answers.Accepted r
+    pub same_answer : answer ≡ going r
     same_answer = sym (ap (λ (o : Outcome). o.answer) same_solve)
 
     pub same_numbers : lent_after ≡ lent_by (committing numbers rows after.words after.solution after.started).numbers after
@@ -145,7 +143,7 @@ module _ (lent beside : Bool) (rows bodies mode : ℕ) (numbers : List Float) (w
         sym (ap (λ (o : Outcome). o.lent) same_solve) ∙ ap (λ (l : List Float). lent_by l after) (sym left)
 
     pub same_rules : named₁ ≡ namedAfter
-    same_rules = undivided.named ∙ ap (λ (a : PositionPcg). named_by a p.rule rows named) same_answer ∙ sym proposed.named
+    same_rules = undivided.named ∙ ap (λ (a : Run PositionPcgResult ℕ). named_by a p.rule rows named) same_answer ∙ sym proposed.named
 
     pub same_work : work₁ ≡ workAfter
     same_work = undivided.held.memory.emptied (rw (beside_fits, passed)) ∙ sym (proposed.memory.emptied fits)

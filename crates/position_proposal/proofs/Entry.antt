@@ -17,13 +17,13 @@ use Rattle.position.specs.Kinds.{GivenRoom}
 use Rattle.position.specs.Problem.{Problem}
 use Rattle.position_delivery.specs.Delivery.{committed_by}
 use Rattle.position_delivery.specs.Outcome.{Lent, Outcome}
-use Rattle.position_delivery.specs.declared.answer.PositionPcg.{PositionPcg}
-use Rattle.position_delivery.specs.declared.answer.PositionPcg.TheVariants as answers
 use Rattle.work_memory.specs.Work.{WorkMemory}
 use Rattle.solve_by_rules.specs.Ruled.{rules_lent, centres_lent, SolveRuled}
 use Rattle.solve_by_rules.specs.SolveHeld.{SolveHeld}
 use Rattle.solve_by_rules.proofs.Naming.{accepted_tests, lent_beside, lent_numbers, lent_rules}
 use Rattle.proposals.specs.Proposal.{ProposalMemory, Proposing, words_by, started_by, NotingRoom}
+use Rattle.loops.specs.Run.{Run, ended}
+use Rattle.position_delivery.specs.declared.answer.PositionPcgResult.{PositionPcgResult}
 use Rattle.position_proposal.specs.Proposed.{proposal_lent, lent_by, Proposed}
 
 -- ---- the lengths of what is lent beside the table, where their test passes; b is what it answered
@@ -50,7 +50,7 @@ fitting rows bodies words started rule_words rule_tolerances rule_numbers centre
       beside = λ given. lent_beside kinds.Position rows rule_words rule_tolerances rule_numbers bodies centres newCentres given refl passed;
     }
 
-pub noting_room : (fits : Bool) (p : Problem) (mode : Mode) (limit place n : ℕ) (before after : Lent) {answer : PositionPcg} {work workAfter : WorkMemory} {numbers words started : ℕ} → SolveHeld fits p mode limit place n before after answer work workAfter → (fits ≡ true → numbers ≡ 27 * n) → (words ≡ 4) × (started ≡ n)
+pub noting_room : (fits : Bool) (p : Problem) (mode : Mode) (limit place n : ℕ) (before after : Lent) {answer : Run PositionPcgResult ℕ} {work workAfter : WorkMemory} {numbers words started : ℕ} → SolveHeld fits p mode limit place n before after answer work workAfter → (fits ≡ true → numbers ≡ 27 * n) → (words ≡ 4) × (started ≡ n)
     → NotingRoom answer numbers words started
 unfolding AllPass
 noting_room fits p mode limit place n before after held long (four, e) = record {
@@ -59,12 +59,12 @@ noting_room fits p mode limit place n before after held long (four, e) = record 
 }
 
 -- ---- the entry
-same : (n : ℕ) (numbers : List Float) (words : List ℕ) (started : List Float) {a₀ a : PositionPcg} {words₁ : List ℕ} {x₀ x i₀ i c₀ c started₁ : List Float} → a₀ ≡ a → x₀ ≡ x → i₀ ≡ i → c₀ ≡ c → words₁ ≡ words_by a n words → started₁ ≡ started_by a numbers n started
+same : (n : ℕ) (numbers : List Float) (words : List ℕ) (started : List Float) {a₀ a : Run PositionPcgResult ℕ} {words₁ : List ℕ} {x₀ x i₀ i c₀ c started₁ : List Float} → a₀ ≡ a → x₀ ≡ x → i₀ ≡ i → c₀ ≡ c → words₁ ≡ words_by a n words → started₁ ≡ started_by a numbers n started
     → ◌≡◌ {A = Proposing} (record { answer = a₀; memory = record { words = words_by a₀ n words; solution = x₀; impulses = i₀; centres = c₀; started = started_by a₀ numbers n started } }) (record { answer = a; memory = record { words = words₁; solution = x; impulses = i; centres = c; started = started₁ } })
 same n numbers words started ea ex ei ec ew es = rw (ea, ex, ei, ec, ew, es)
 
 module _ {fits : Bool} {s : Rules} {p : Problem} {mode : Mode} {limit n : ℕ} {numbers : List Float} {named : List ℕ} {work : WorkMemory} where
-  pub proposed_of : {k : ℕ} {m after : ProposalMemory} {namedAfter : List ℕ} {answer : PositionPcg} {workAfter : WorkMemory} → k ≡ n → SolveRuled fits s p mode limit 24 n (lent_by numbers m) (lent_by (committed_by 24 answer numbers after.solution) after) named namedAfter answer work workAfter
+  pub proposed_of : {k : ℕ} {m after : ProposalMemory} {namedAfter : List ℕ} {answer : Run PositionPcgResult ℕ} {workAfter : WorkMemory} → k ≡ n → SolveRuled fits s p mode limit 24 n (lent_by numbers m) (lent_by (committed_by 24 answer numbers after.solution) after) named namedAfter answer work workAfter
       → after.words ≡ words_by answer n m.words → after.started ≡ started_by answer numbers k m.started → length after.solution ≡ length m.solution → Proposed fits s p mode limit n numbers m after named namedAfter answer work workAfter
   proposed_of {k} {m} {after} {answer = answer} en h ew es long =
       let told = h.held.answered in
@@ -80,6 +80,6 @@ module _ {fits : Bool} {s : Rules} {p : Problem} {mode : Mode} {limit n : ℕ} {
       }
 
   -- refusal 3 of what is lent beside the table
-  pub unproposed : {m : ProposalMemory} → SolveRuled fits s p mode limit 24 n (lent_by numbers m) (lent_by numbers m) named named (answers.Refused 3) work work → Proposed fits s p mode limit n numbers m m named named (answers.Refused 3) work work
+  pub unproposed : {m : ProposalMemory} → SolveRuled fits s p mode limit 24 n (lent_by numbers m) (lent_by numbers m) named named (ended 3) work work → Proposed fits s p mode limit n numbers m m named named (ended 3) work work
   unfolding committed_by words_by started_by
   unproposed h = proposed_of refl h refl refl refl

@@ -1,5 +1,6 @@
 // The proposal of a position solve, document 02, l: "a proposal carries the answer, solution, impulses, centres and the multipliers it started from".
 ghost use Rattle.std.specs.Prelude.{◌≡◌, ◌&&◌, length};
+ghost use Rattle.refusals.specs.Told.{told};
 ghost use Rattle.rules.specs.Rows.{rules_in};
 ghost use Rattle.preconditioner.specs.Mode.{mode_of};
 ghost use Rattle.solve_method.specs.Position.{position_of};
@@ -10,8 +11,9 @@ ghost use Rattle.position_proposal.specs.Proposed.{proposal_lent, Proposed};
 
 use kapitsa_joint::Kind;
 use loops::wide;
-use position_delivery::PositionPcg;
+use position_delivery::PositionPcgResult;
 use proposals::note_accepted;
+use refusals::Refusal;
 use solve_by_rules::{centres_lent, name_accepted, propose_by_rules, rules_lent};
 
 // Refusal 3, of all that is lent beside the table: true where it does not apply.
@@ -65,12 +67,12 @@ pub fn propose_position(
     pattern: &mut [u32],
     order: &mut [u32],
     values: &mut [f64],
-) -> PositionPcg
+) -> Result<PositionPcgResult, Refusal>
     ensures { Proposed ((proposal_lent rows (length proposal.old) (length started.old) && (rules_lent rows (length rule_words.now) (length rule_tolerances.now) (length rule_numbers.old) && centres_lent bodies (length centres.now) (length new_centres.old))) && passes3 rows bodies mode numbers.now words.entry.now masses.now solution.old impulses.old (work_memory jacobians.old links.old tolerances.old diagonal.old residual.old pending.old direction.old product.old body_impulses.old pattern.old order.old values.old))
         (rules_in rule_words.now rule_tolerances.now)
         (position_of rows bodies numbers.now words.entry.now masses.now centres.now (rules_in rule_words.now rule_tolerances.now) shift) (mode_of mode shift) limit rows numbers.now
         record { words = proposal.old; solution = solution.old; impulses = impulses.old; centres = new_centres.old; started = started.old } record { words = proposal.new; solution = solution.new; impulses = impulses.new; centres = new_centres.new; started = started.new }
-        rule_numbers.old rule_numbers.new result
+        rule_numbers.old rule_numbers.new (told result)
         (work_memory jacobians.old links.old tolerances.old diagonal.old residual.old pending.old direction.old product.old body_impulses.old pattern.old order.old values.old)
         (work_memory jacobians.new links.new tolerances.new diagonal.new residual.new pending.new direction.new product.new body_impulses.new pattern.new order.new values.new) }
 {
@@ -85,7 +87,7 @@ pub fn propose_position(
         centres.len(),
         new_centres.len(),
     ) {
-        return PositionPcg::Refused(3);
+        return Err(Refusal::Length);
     }
     let none: [f64; 0] = [0.0; 0];
     let answer = propose_by_rules(

@@ -1,5 +1,6 @@
 // The solve of either kind: refusal 3, then the memory for 512 rows and 256 bodies, for the factor by mode, so that no mode adds its memory to another's.
 ghost use Rattle.std.specs.Prelude.{◌≡◌, true, ◌≤◌, length};
+ghost use Rattle.refusals.specs.Told.{told};
 ghost use Rattle.rules.specs.Rows.{rules_in};
 ghost use Rattle.kapitsa_joint.specs.Kind.{place_of};
 ghost use Rattle.kapitsa_joint.specs.declared.kind.Kind.TheVariants.{Position};
@@ -10,8 +11,9 @@ ghost use Rattle.own_memory.specs.Job.{job_fits, JobSolved, FactorRoom};
 use kapitsa_joint::Kind;
 use own_memory::job_fits;
 use pcg::solve_prepared;
-use position_delivery::PositionPcg;
+use position_delivery::PositionPcgResult;
 use preconditioner::{Mode, order_room, pattern_room, values_room};
+use refusals::Refusal;
 
 // With memory for the compact table and the vectors.
 fn with_vectors(
@@ -35,11 +37,11 @@ fn with_vectors(
     pattern: &mut [u32],
     order: &mut [u32],
     values: &mut [f64],
-) -> PositionPcg
+) -> Result<PositionPcgResult, Refusal>
     requires given_value { job_fits kind rows bodies mode (length numbers.old) (length words.now) (length masses.now) (length solution.old) (length impulses.old) (length centres.now) (length new_centres.old) (length rule_words.now) (length rule_tolerances.now) (length rule_numbers.old) (length given.now) ≡ true }
     requires rows_bound { (rows ≤ 512) × (bodies ≤ 256) }
     requires factor_room { FactorRoom mode rows (length pattern.old) (length order.old) (length values.old) }
-    ensures { JobSolved true (rules_in rule_words.now rule_tolerances.now) (solve_for kind rows bodies numbers.entry.now words.now masses.now centres.now given.now (rules_in rule_words.now rule_tolerances.now) shift) (mode_of mode shift) limit (place_of kind) rows record { numbers = numbers.entry.now; solution = solution.old; impulses = impulses.old; centres = new_centres.old } record { numbers = numbers.exit.now; solution = solution.new; impulses = impulses.new; centres = new_centres.new } rule_numbers.old rule_numbers.new result }
+    ensures { JobSolved true (rules_in rule_words.now rule_tolerances.now) (solve_for kind rows bodies numbers.entry.now words.now masses.now centres.now given.now (rules_in rule_words.now rule_tolerances.now) shift) (mode_of mode shift) limit (place_of kind) rows record { numbers = numbers.entry.now; solution = solution.old; impulses = impulses.old; centres = new_centres.old } record { numbers = numbers.exit.now; solution = solution.new; impulses = impulses.new; centres = new_centres.new } rule_numbers.old rule_numbers.new (told result) }
 {
     let mut jacobians: [f64; 6144] = [0.0; 6144];
     let mut links: [u32; 1024] = [0; 1024];
@@ -107,11 +109,11 @@ fn with_factor(
     impulses: &mut [f64],
     new_centres: &mut [f64],
     rule_numbers: &mut [u32],
-) -> PositionPcg
+) -> Result<PositionPcgResult, Refusal>
     requires given_value { job_fits kind rows bodies mode (length numbers.old) (length words.now) (length masses.now) (length solution.old) (length impulses.old) (length centres.now) (length new_centres.old) (length rule_words.now) (length rule_tolerances.now) (length rule_numbers.old) (length given.now) ≡ true }
     requires rows_bound { (rows ≤ 512) × (bodies ≤ 256) }
     requires mode_value { mode ≡ 1 }
-    ensures { JobSolved true (rules_in rule_words.now rule_tolerances.now) (solve_for kind rows bodies numbers.entry.now words.now masses.now centres.now given.now (rules_in rule_words.now rule_tolerances.now) shift) (mode_of mode shift) limit (place_of kind) rows record { numbers = numbers.entry.now; solution = solution.old; impulses = impulses.old; centres = new_centres.old } record { numbers = numbers.exit.now; solution = solution.new; impulses = impulses.new; centres = new_centres.new } rule_numbers.old rule_numbers.new result }
+    ensures { JobSolved true (rules_in rule_words.now rule_tolerances.now) (solve_for kind rows bodies numbers.entry.now words.now masses.now centres.now given.now (rules_in rule_words.now rule_tolerances.now) shift) (mode_of mode shift) limit (place_of kind) rows record { numbers = numbers.entry.now; solution = solution.old; impulses = impulses.old; centres = new_centres.old } record { numbers = numbers.exit.now; solution = solution.new; impulses = impulses.new; centres = new_centres.new } rule_numbers.old rule_numbers.new (told result) }
 {
     let mut pattern: [u32; 16897] = [0; 16897];
     let mut order: [u32; 33280] = [0; 33280];
@@ -162,11 +164,11 @@ fn with_blocks(
     impulses: &mut [f64],
     new_centres: &mut [f64],
     rule_numbers: &mut [u32],
-) -> PositionPcg
+) -> Result<PositionPcgResult, Refusal>
     requires given_value { job_fits kind rows bodies mode (length numbers.old) (length words.now) (length masses.now) (length solution.old) (length impulses.old) (length centres.now) (length new_centres.old) (length rule_words.now) (length rule_tolerances.now) (length rule_numbers.old) (length given.now) ≡ true }
     requires rows_bound { (rows ≤ 512) × (bodies ≤ 256) }
     requires mode_value { mode ≡ 2 }
-    ensures { JobSolved true (rules_in rule_words.now rule_tolerances.now) (solve_for kind rows bodies numbers.entry.now words.now masses.now centres.now given.now (rules_in rule_words.now rule_tolerances.now) shift) (mode_of mode shift) limit (place_of kind) rows record { numbers = numbers.entry.now; solution = solution.old; impulses = impulses.old; centres = new_centres.old } record { numbers = numbers.exit.now; solution = solution.new; impulses = impulses.new; centres = new_centres.new } rule_numbers.old rule_numbers.new result }
+    ensures { JobSolved true (rules_in rule_words.now rule_tolerances.now) (solve_for kind rows bodies numbers.entry.now words.now masses.now centres.now given.now (rules_in rule_words.now rule_tolerances.now) shift) (mode_of mode shift) limit (place_of kind) rows record { numbers = numbers.entry.now; solution = solution.old; impulses = impulses.old; centres = new_centres.old } record { numbers = numbers.exit.now; solution = solution.new; impulses = impulses.new; centres = new_centres.new } rule_numbers.old rule_numbers.new (told result) }
 {
     let mut pattern: [u32; 512] = [0; 512];
     let mut order: [u32; 0] = [0; 0];
@@ -216,11 +218,11 @@ fn with_diagonal(
     impulses: &mut [f64],
     new_centres: &mut [f64],
     rule_numbers: &mut [u32],
-) -> PositionPcg
+) -> Result<PositionPcgResult, Refusal>
     requires given_value { job_fits kind rows bodies mode (length numbers.old) (length words.now) (length masses.now) (length solution.old) (length impulses.old) (length centres.now) (length new_centres.old) (length rule_words.now) (length rule_tolerances.now) (length rule_numbers.old) (length given.now) ≡ true }
     requires rows_bound { (rows ≤ 512) × (bodies ≤ 256) }
     requires mode_value { mode ≡ 0 }
-    ensures { JobSolved true (rules_in rule_words.now rule_tolerances.now) (solve_for kind rows bodies numbers.entry.now words.now masses.now centres.now given.now (rules_in rule_words.now rule_tolerances.now) shift) (mode_of mode shift) limit (place_of kind) rows record { numbers = numbers.entry.now; solution = solution.old; impulses = impulses.old; centres = new_centres.old } record { numbers = numbers.exit.now; solution = solution.new; impulses = impulses.new; centres = new_centres.new } rule_numbers.old rule_numbers.new result }
+    ensures { JobSolved true (rules_in rule_words.now rule_tolerances.now) (solve_for kind rows bodies numbers.entry.now words.now masses.now centres.now given.now (rules_in rule_words.now rule_tolerances.now) shift) (mode_of mode shift) limit (place_of kind) rows record { numbers = numbers.entry.now; solution = solution.old; impulses = impulses.old; centres = new_centres.old } record { numbers = numbers.exit.now; solution = solution.new; impulses = impulses.new; centres = new_centres.new } rule_numbers.old rule_numbers.new (told result) }
 {
     let mut pattern: [u32; 0] = [0; 0];
     let mut order: [u32; 0] = [0; 0];
@@ -268,8 +270,8 @@ pub fn solve_table(
     impulses: &mut [f64],
     new_centres: &mut [f64],
     rule_numbers: &mut [u32],
-) -> PositionPcg
-    ensures { JobSolved (job_fits kind rows bodies mode (length numbers.entry.now) (length words.now) (length masses.now) (length solution.old) (length impulses.old) (length centres.now) (length new_centres.old) (length rule_words.now) (length rule_tolerances.now) (length rule_numbers.old) (length given.now)) (rules_in rule_words.now rule_tolerances.now) (solve_for kind rows bodies numbers.entry.now words.now masses.now centres.now given.now (rules_in rule_words.now rule_tolerances.now) shift) (mode_of mode shift) limit (place_of kind) rows record { numbers = numbers.entry.now; solution = solution.old; impulses = impulses.old; centres = new_centres.old } record { numbers = numbers.exit.now; solution = solution.new; impulses = impulses.new; centres = new_centres.new } rule_numbers.old rule_numbers.new result }
+) -> Result<PositionPcgResult, Refusal>
+    ensures { JobSolved (job_fits kind rows bodies mode (length numbers.entry.now) (length words.now) (length masses.now) (length solution.old) (length impulses.old) (length centres.now) (length new_centres.old) (length rule_words.now) (length rule_tolerances.now) (length rule_numbers.old) (length given.now)) (rules_in rule_words.now rule_tolerances.now) (solve_for kind rows bodies numbers.entry.now words.now masses.now centres.now given.now (rules_in rule_words.now rule_tolerances.now) shift) (mode_of mode shift) limit (place_of kind) rows record { numbers = numbers.entry.now; solution = solution.old; impulses = impulses.old; centres = new_centres.old } record { numbers = numbers.exit.now; solution = solution.new; impulses = impulses.new; centres = new_centres.new } rule_numbers.old rule_numbers.new (told result) }
 {
     if !job_fits(
         kind,
@@ -288,7 +290,7 @@ pub fn solve_table(
         rule_numbers.len(),
         given.len(),
     ) {
-        return PositionPcg::Refused(3);
+        return Err(Refusal::Length);
     }
     if mode == 0 {
         return with_diagonal(
@@ -370,8 +372,8 @@ pub fn solve_position(
     impulses: &mut [f64],
     new_centres: &mut [f64],
     rule_numbers: &mut [u32],
-) -> PositionPcg
-    ensures { JobSolved (job_fits Position rows bodies mode (length numbers.entry.now) (length words.now) (length masses.now) (length solution.old) (length impulses.old) (length centres.now) (length new_centres.old) (length rule_words.now) (length rule_tolerances.now) (length rule_numbers.old) 0) (rules_in rule_words.now rule_tolerances.now) (position_of rows bodies numbers.entry.now words.now masses.now centres.now (rules_in rule_words.now rule_tolerances.now) shift) (mode_of mode shift) limit 24 rows record { numbers = numbers.entry.now; solution = solution.old; impulses = impulses.old; centres = new_centres.old } record { numbers = numbers.exit.now; solution = solution.new; impulses = impulses.new; centres = new_centres.new } rule_numbers.old rule_numbers.new result }
+) -> Result<PositionPcgResult, Refusal>
+    ensures { JobSolved (job_fits Position rows bodies mode (length numbers.entry.now) (length words.now) (length masses.now) (length solution.old) (length impulses.old) (length centres.now) (length new_centres.old) (length rule_words.now) (length rule_tolerances.now) (length rule_numbers.old) 0) (rules_in rule_words.now rule_tolerances.now) (position_of rows bodies numbers.entry.now words.now masses.now centres.now (rules_in rule_words.now rule_tolerances.now) shift) (mode_of mode shift) limit 24 rows record { numbers = numbers.entry.now; solution = solution.old; impulses = impulses.old; centres = new_centres.old } record { numbers = numbers.exit.now; solution = solution.new; impulses = impulses.new; centres = new_centres.new } rule_numbers.old rule_numbers.new (told result) }
 {
     let none: [f64; 0] = [0.0; 0];
     solve_table(

@@ -1,5 +1,6 @@
 // The velocity solve with work memory of its own, by a lent residual and lent rules: document 02, a.
 ghost use Rattle.std.specs.Prelude.{length, []};
+ghost use Rattle.refusals.specs.Told.{told};
 ghost use Rattle.rules.specs.Rows.{rules_in};
 ghost use Rattle.kapitsa_joint.specs.declared.kind.Kind.TheVariants.{Velocity};
 ghost use Rattle.preconditioner.specs.Mode.{mode_of};
@@ -8,7 +9,8 @@ ghost use Rattle.own_memory.specs.Job.{job_fits, JobSolved};
 
 use crate::solve::solve_table;
 use kapitsa_joint::Kind;
-use position_delivery::PositionPcg;
+use position_delivery::PositionPcgResult;
+use refusals::Refusal;
 
 // Solution, impulses, accumulated impulses and each row's rule are written only where the answer is accepted.
 pub fn solve_velocity(
@@ -26,8 +28,8 @@ pub fn solve_velocity(
     solution: &mut [f64],
     impulses: &mut [f64],
     rule_numbers: &mut [u32],
-) -> PositionPcg
-    ensures { JobSolved (job_fits Velocity rows bodies mode (length numbers.entry.now) (length words.now) (length masses.now) (length solution.old) (length impulses.old) 0 0 (length rule_words.now) (length rule_tolerances.now) (length rule_numbers.old) (length given.now)) (rules_in rule_words.now rule_tolerances.now) (velocity_of rows bodies numbers.entry.now words.now masses.now given.now (rules_in rule_words.now rule_tolerances.now) shift) (mode_of mode shift) limit 25 rows record { numbers = numbers.entry.now; solution = solution.old; impulses = impulses.old; centres = [] } record { numbers = numbers.exit.now; solution = solution.new; impulses = impulses.new; centres = [] } rule_numbers.old rule_numbers.new result }
+) -> Result<PositionPcgResult, Refusal>
+    ensures { JobSolved (job_fits Velocity rows bodies mode (length numbers.entry.now) (length words.now) (length masses.now) (length solution.old) (length impulses.old) 0 0 (length rule_words.now) (length rule_tolerances.now) (length rule_numbers.old) (length given.now)) (rules_in rule_words.now rule_tolerances.now) (velocity_of rows bodies numbers.entry.now words.now masses.now given.now (rules_in rule_words.now rule_tolerances.now) shift) (mode_of mode shift) limit 25 rows record { numbers = numbers.entry.now; solution = solution.old; impulses = impulses.old; centres = [] } record { numbers = numbers.exit.now; solution = solution.new; impulses = impulses.new; centres = [] } rule_numbers.old rule_numbers.new (told result) }
 {
     let none: [f64; 0] = [0.0; 0];
     let mut no_centres: [f64; 0] = [0.0; 0];

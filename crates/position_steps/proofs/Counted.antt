@@ -31,21 +31,20 @@ use Rattle.position.specs.Prepare.{row_judged, valid_judged, diagonals_judged, r
 use Rattle.position.specs.Residual.{meets_of}
 use Rattle.kapitsa_joint.specs.declared.kind.Kind.{Kind}
 use Rattle.kapitsa_joint.specs.declared.kind.Kind.TheVariants as kinds
-use Rattle.position.specs.declared.prepare.Begun.{Begun}
-use Rattle.position.specs.declared.prepare.Begun.TheVariants as begun
+use Rattle.std.specs.Prelude.{Result, Ok, Err, Option}
+use Rattle.refusals.specs.Number.{number_of}
+use Rattle.refusals.specs.Told.{told}
+use Rattle.refusals.specs.declared.Refusal.{Refusal}
 use Rattle.steps.specs.Solve.{counting}
 use Rattle.solve_method.specs.Method.{owner_of, after_three, factor_here, begin_of, first_of, method_of}
 use Rattle.solve_method.specs.Counting.{counted_of}
 use Rattle.solve_method.specs.Position.{shift_tests, solve_for, kind_of, steps_for}
 use Rattle.position_iteration.specs.Standing.{iterated_out}
 use Rattle.position_iteration.specs.Stands.{Stands}
-use Rattle.position_iteration.specs.declared.iteration.Iterated.{Iterated}
 use Rattle.work_memory.specs.Work.{StepMemory, cleared_steps}
-use Rattle.position_steps.specs.Opening.{opened_out}
 use Rattle.position_steps.specs.Start.{step_zero_of, Started, StartHeld, Linking, start_out}
 use Rattle.position_steps.specs.Running.{looping_by, stepping_by, running_of, following_of}
 use Rattle.position_steps.specs.Counting.{CountHeld}
-use Rattle.position_steps.specs.declared.opening.Opened.{Opened}
 use Rattle.position_steps.proofs.Openings.{counted_after}
 use Rattle.position_steps.proofs.Stepping.{next_same, following_same}
 
@@ -86,14 +85,14 @@ unfolding counting begin_of rows_judged valid_judged diagonals_judged row_judged
 counting_tested options limits placed c p mode limit = refl
 
 -- ---- what `run_steps` asks
-pub start_linked : (p : Problem) (opened : Opened) (masses : List Float) (a : Begun) (jacobians : List Float) (links : List ℕ) (tolerances diagonal pending residual : List Float) (w : ℕ) → StartHeld p opened masses a jacobians links tolerances diagonal pending residual → w ≡ p.table.bodies → Linking a links p.table.rows w
+pub start_linked : (p : Problem) (opened : Result Unit Refusal) (masses : List Float) (a : Result Unit Refusal) (jacobians : List Float) (links : List ℕ) (tolerances diagonal pending residual : List Float) (w : ℕ) → StartHeld p opened masses a jacobians links tolerances diagonal pending residual → w ≡ p.table.bodies → Linking a links p.table.rows w
 start_linked p opened masses a jacobians links tolerances diagonal pending residual w h e = record { linked = λ q. rw e (h.started q).stands.linked }
 
 pub start_roomy : (mode : Mode) (n : ℕ) (m : Memory) (diagonal : List Float) → Roomy mode n m → length diagonal ≡ length m.diagonal → Roomy mode n record { diagonal = diagonal; pattern = m.pattern; order = m.order; values = m.values }
 start_roomy mode n m diagonal r e = record { diagonal_long = e ∙ r.diagonal_long; pattern_long = r.pattern_long; order_long = r.order_long; values_long = r.values_long }
 
 -- ---- `count_steps`
-module _ (kind : Kind) (rows bodies : ℕ) (numbers : List Float) (words : List ℕ) (masses given : List Float) (rules : Rules) (opened : Opened) (mode : Mode) (limit : ℕ) (a : Begun) (jacobians : List Float) (links : List ℕ) (tolerances diagonal pending residual : List Float) where
+module _ (kind : Kind) (rows bodies : ℕ) (numbers : List Float) (words : List ℕ) (masses given : List Float) (rules : Rules) (opened : Result Unit Refusal) (mode : Mode) (limit : ℕ) (a : Result Unit Refusal) (jacobians : List Float) (links : List ℕ) (tolerances diagonal pending residual : List Float) where
   abbrev table : Table
   table = table_of rows bodies numbers words masses
 
@@ -106,34 +105,34 @@ module _ (kind : Kind) (rows bodies : ℕ) (numbers : List Float) (words : List 
   abbrev coded : Iterate → Run (Bool × ℕ × Iterate) ℕ
   coded = code (is_velocity kind) bodies
 
-  told : Started problem masses jacobians links tolerances diagonal → length residual ≡ rows → coded (record { solution = pending; residual = residual }) ≡ following problem mode limit (record { solution = pending; residual = residual })
+  same_step : Started problem masses jacobians links tolerances diagonal → length residual ≡ rows → coded (record { solution = pending; residual = residual }) ≡ following problem mode limit (record { solution = pending; residual = residual })
   unfolding row_of words_of
-  told h long =
+  same_step h long =
       let v : Iterate = record { solution = pending; residual = residual } in
       ap (λ (s : System). following_of (is_velocity kind) mode s (joints_in words) diagonal (tolerances_in tolerances) limit v) h.stands.system
       ∙ ap (λ (d : List Float). following_of (is_velocity kind) mode (system_of table) (owner_of table) d (tolerances_in tolerances) limit v) h.diagonal_is
       ∙ following_same (is_velocity kind) mode (system_of table) (owner_of table) (diagonals table) (tolerances_in tolerances) (ruled_by rules table).row limit v (λ i l. ap (λ (x : List Float). get_or x i nan) h.tolerances_are ∙ get_d_tabulate (ruled_by rules table).row rows i nan l) long
 
-  module _ (held : StartHeld problem opened masses a jacobians links tolerances diagonal pending residual) (long : length residual ≡ rows) (b : Bool) (eb : b ≡ is_velocity kind) (w : ℕ) (ew : w ≡ bodies) (o : Iterated) (x r : List Float) (called : next (start_out a pending residual) (code b w) ≡ iterated_out o limit x r) where
+  module _ (held : StartHeld problem opened masses a jacobians links tolerances diagonal pending residual) (long : length residual ≡ rows) (b : Bool) (eb : b ≡ is_velocity kind) (w : ℕ) (ew : w ≡ bodies) (o : Result (Option ℕ) Refusal) (x r : List Float) (called : next (start_out a pending residual) (code b w) ≡ iterated_out o limit x r) where
     here : next (start_out a pending residual) coded ≡ iterated_out o limit x r
     here = ap (λ (f : Bool). next (start_out a pending residual) (code f bodies)) (sym eb) ∙ ap (λ (i : ℕ). next (start_out a pending residual) (code b i)) (sym ew) ∙ called
 
-    follows : (q : Begun) → a ≡ q → next (start_out q pending residual) (following problem mode limit) ≡ next (start_out q pending residual) coded
-    follows begun.Done e = on_going _ _ _ refl ∙ sym (told (held.started e) long) ∙ sym (on_going _ _ _ refl)
-    follows (begun.Refused k) e = on_ended _ _ _ refl ∙ sym (on_ended _ _ _ refl)
+    follows : (q : Result Unit Refusal) → a ≡ q → next (start_out q pending residual) (following problem mode limit) ≡ next (start_out q pending residual) coded
+    follows (Ok u) e = on_going _ _ _ refl ∙ sym (same_step (held.started e) long) ∙ sym (on_going _ _ _ refl)
+    follows (Err k) e = on_ended _ _ _ refl ∙ sym (on_ended _ _ _ refl)
 
-    answers : next (opened_out opened) (λ _. counting (method_of true problem mode) limit) ≡ iterated_out o limit x r
+    answers : next (told opened) (λ _. counting (method_of true problem mode) limit) ≡ iterated_out o limit x r
     answers =
-        next_same (opened_out opened) _ _ (λ _. in_turn problem mode limit)
-        ∙ sym (next_next (opened_out opened) (λ _. step_zero_of problem) (following problem mode limit))
+        next_same (told opened) _ _ (λ _. in_turn problem mode limit)
+        ∙ sym (next_next (told opened) (λ _. step_zero_of problem) (following problem mode limit))
         ∙ ap (λ (q : Run Iterate ℕ). next q (following problem mode limit)) held.answered
         ∙ follows a refl
         ∙ here
 
     -- where the answer is no refusal, step 0 was none
-    stands : (q : Begun) → a ≡ q → (p : Bool × ℕ × Iterate) → iterated_out o limit x r ≡ going p → Stands table masses jacobians links
-    stands begun.Done e p h = (held.started e).stands
-    stands (begun.Refused k) e p h = absurd (let y : ended k ≡ going p = sym (on_ended _ _ _ refl) ∙ ap (λ (q : Begun). next (start_out q pending residual) coded) (sym e) ∙ here ∙ h in let z : ◌≡◌ {A = ℕ} 0 1 = cc in omega arith)
+    stands : (q : Result Unit Refusal) → a ≡ q → (p : Bool × ℕ × Iterate) → iterated_out o limit x r ≡ going p → Stands table masses jacobians links
+    stands (Ok u) e p h = (held.started e).stands
+    stands (Err k) e p h = absurd (let y : ended (number_of k) ≡ going p = sym (on_ended _ _ _ refl) ∙ ap (λ (q : Result Unit Refusal). next (start_out q pending residual) coded) (sym e) ∙ here ∙ h in let z : ◌≡◌ {A = ℕ} 0 1 = cc in omega arith)
 
     pub count_held : (before after : StepMemory) → after ≡ cleared_steps before → CountHeld mode problem opened limit masses o jacobians links x r before after
     count_held before after m = record {
@@ -143,7 +142,7 @@ module _ (kind : Kind) (rows bodies : ℕ) (numbers : List Float) (words : List 
     }
 
 -- ---- the count of a solve: it follows what was judged of its numbers and whether its centres are finite
-module _ (kind : Kind) (rows bodies : ℕ) (numbers : List Float) (words : List ℕ) (masses centres given : List Float) (rules : Rules) (shift : Float) (mode : Mode) (limit : ℕ) (placed : Bool) (opened : Opened) where
+module _ (kind : Kind) (rows bodies : ℕ) (numbers : List Float) (words : List ℕ) (masses centres given : List Float) (rules : Rules) (shift : Float) (mode : Mode) (limit : ℕ) (placed : Bool) (opened : Result Unit Refusal) where
   abbrev limits : Tolerances
   limits = ruled_by rules (table_of rows bodies numbers words masses)
 
@@ -153,12 +152,12 @@ module _ (kind : Kind) (rows bodies : ℕ) (numbers : List Float) (words : List 
   abbrev stepped : Kind → Problem
   stepped k = kind_of k rows bodies numbers words masses given rules
 
-  pub counted_of_lem : placed ≡ centres_finite (centres_in (placed_of kind bodies) centres) → judge (after_three (steps_for kind rows bodies numbers words masses given rules shift placed) limit) ≡ opened_out opened
-      → counted_of mode (solved kind) limit ≡ next (opened_out opened) (λ _. counting (method_of true (stepped kind) mode) limit)
+  pub counted_of_lem : placed ≡ centres_finite (centres_in (placed_of kind bodies) centres) → judge (after_three (steps_for kind rows bodies numbers words masses given rules shift placed) limit) ≡ told opened
+      → counted_of mode (solved kind) limit ≡ next (told opened) (λ _. counting (method_of true (stepped kind) mode) limit)
   unfolding centres_finite every
   counted_of_lem e h = go kind e h
     where
-      go : (k : Kind) → placed ≡ centres_finite (centres_in (placed_of k bodies) centres) → judge (after_three (steps_for k rows bodies numbers words masses given rules shift placed) limit) ≡ opened_out opened
-          → counted_of mode (solved k) limit ≡ next (opened_out opened) (λ _. counting (method_of true (stepped k) mode) limit)
-      go kinds.Position q h = counted_after (solved kinds.Position) mode limit opened (rw q at h) ∙ next_same (opened_out opened) _ _ (λ _. counting_tested (shift_tests shift) limits (centres_finite (centres_in bodies centres)) (centres_in bodies centres) (stepped kinds.Position) mode limit)
-      go kinds.Velocity q h = counted_after (solved kinds.Velocity) mode limit opened (rw q at h) ∙ next_same (opened_out opened) _ _ (λ _. counting_tested (shift_tests shift) limits true no_centres (stepped kinds.Velocity) mode limit)
+      go : (k : Kind) → placed ≡ centres_finite (centres_in (placed_of k bodies) centres) → judge (after_three (steps_for k rows bodies numbers words masses given rules shift placed) limit) ≡ told opened
+          → counted_of mode (solved k) limit ≡ next (told opened) (λ _. counting (method_of true (stepped k) mode) limit)
+      go kinds.Position q h = counted_after (solved kinds.Position) mode limit opened (rw q at h) ∙ next_same (told opened) _ _ (λ _. counting_tested (shift_tests shift) limits (centres_finite (centres_in bodies centres)) (centres_in bodies centres) (stepped kinds.Position) mode limit)
+      go kinds.Velocity q h = counted_after (solved kinds.Velocity) mode limit opened (rw q at h) ∙ next_same (told opened) _ _ (λ _. counting_tested (shift_tests shift) limits true no_centres (stepped kinds.Velocity) mode limit)

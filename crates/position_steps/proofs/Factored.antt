@@ -5,7 +5,7 @@ use mathlib.Core.Bool.{Bool}
 use mathlib.Core.List.{List}
 use lib.ListN.{length}
 use lib.Ieee.{Float}
-use Rattle.loops.specs.Run.{Run}
+use Rattle.loops.specs.Run.{Run, going}
 use Rattle.compact_table.specs.Compact.{Linked}
 use Rattle.mass_operator.specs.System.{System, compact_system}
 use Rattle.preconditioner.specs.Factor.{factor_judged}
@@ -13,22 +13,20 @@ use Rattle.preconditioner.specs.Room.{Memory, Roomy}
 use Rattle.preconditioner.specs.Held.{FactorBuilt, Holds, z_in, joints_in, prepared_out}
 use Rattle.preconditioner.specs.declared.mode.Mode.{Mode}
 use Rattle.preconditioner.specs.declared.apply.Preconditioner.{Preconditioner}
-use Rattle.preconditioner.specs.declared.prepare.Prepared.{Prepared}
-use Rattle.preconditioner.specs.declared.prepare.Prepared.TheVariants as prepared
 use Rattle.preconditioner.proofs.Modes.{joints_are}
 use Rattle.preconditioner.proofs.Means.{built_answered, built_holds, built_ready}
 use Rattle.recurrence.specs.Step.{Iterate}
 use Rattle.position_iteration.specs.Standing.{Standing}
 use Rattle.position_steps.specs.Running.{stepping_by}
 
-module _ (n bodies : ℕ) (words : List ℕ) (masses jacobians : List Float) (links : List ℕ) (before after : Memory) (mode : Mode) (a : Prepared) (built : FactorBuilt (compact_system n bodies jacobians links masses) (joints_in words) before after mode a) where
+module _ (n bodies : ℕ) (words : List ℕ) (masses jacobians : List Float) (links : List ℕ) (before after : Memory) (mode : Mode) (a : Run Preconditioner ℕ) (built : FactorBuilt (compact_system n bodies jacobians links masses) (joints_in words) before after mode a) where
   abbrev system : System
   system = compact_system n bodies jacobians links masses
 
   pub factor_told : factor_judged mode system (joints_in words) before.diagonal ≡ prepared_out a
   factor_told = built_answered system (joints_in words) before after mode a built
 
-  module _ (ew : length words ≡ 8 * n) (room : Roomy mode n before) (p : Preconditioner) (done : a ≡ prepared.Done p) where
+  module _ (ew : length words ≡ 8 * n) (room : Roomy mode n before) (p : Preconditioner) (done : a ≡ going p) where
     pub factor_holds : Holds system (joints_in words) before.diagonal after mode p
     factor_holds = built_holds system (joints_in words) before after p (joints_are words n ew) mode a done room built
 

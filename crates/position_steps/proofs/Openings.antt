@@ -26,8 +26,10 @@ use Rattle.kapitsa_joint.specs.declared.kind.Kind.TheVariants as kinds
 use Rattle.solve_method.specs.Method.{passes5, after_three, opening_of, method_of}
 use Rattle.solve_method.specs.Counting.{counted_of}
 use Rattle.solve_method.specs.Position.{steps_for}
-use Rattle.position_steps.specs.Opening.{opened_out, OpenedRuled, opens_in, given_fits}
-use Rattle.position_steps.specs.declared.opening.Opened.{Opened}
+use Rattle.position_steps.specs.Opening.{OpenedRuled, opens_in, given_fits}
+use Rattle.std.specs.Prelude.{Result}
+use Rattle.refusals.specs.Told.{told}
+use Rattle.refusals.specs.declared.Refusal.{Refusal}
 
 -- ---- `opens`
 module _ (rows : ℕ) (opens : ℕ → Bool) (limit : ℕ) where
@@ -102,13 +104,13 @@ unfolding opening_of
 opening_after p limit h = judge_pass 3 true (after_three p limit) refl refl h
 
 -- the count follows what is judged
-pub counted_after : (q : Problem) (mode : Mode) (limit : ℕ) (opened : Opened) → judge (after_three q limit) ≡ opened_out opened → counted_of mode q limit ≡ next (opened_out opened) (λ _. counting (method_of true q mode) limit)
+pub counted_after : (q : Problem) (mode : Mode) (limit : ℕ) (opened : Result Unit Refusal) → judge (after_three q limit) ≡ told opened → counted_of mode q limit ≡ next (told opened) (λ _. counting (method_of true q mode) limit)
 unfolding counted_of
 counted_after q mode limit opened h = ap (λ (x : Run Unit ℕ). next x (λ _. counting (method_of true q mode) limit)) (opening_after q limit h)
 
 -- 28 has passed, so that each row has a tolerance
-pub opened_ruled : (kind : Kind) (rows bodies : ℕ) (numbers : List Float) (words : List ℕ) (masses given : List Float) (rules : Rules) (shift : Float) (placed : Bool) (limit : ℕ) (opened : Opened)
-    → judge (after_three (steps_for kind rows bodies numbers words masses given rules shift placed) limit) ≡ opened_out opened → OpenedRuled opened rules words rows
+pub opened_ruled : (kind : Kind) (rows bodies : ℕ) (numbers : List Float) (words : List ℕ) (masses given : List Float) (rules : Rules) (shift : Float) (placed : Bool) (limit : ℕ) (opened : Result Unit Refusal)
+    → judge (after_three (steps_for kind rows bodies numbers words masses given rules shift placed) limit) ≡ told opened → OpenedRuled opened rules words rows
 unfolding AllPass
 opened_ruled kind rows bodies numbers words masses given rules shift placed limit opened h = record {
   ruled = λ e. lent_28 rules rows bodies numbers words masses ∙ ((judge_going (after_three (steps_for kind rows bodies numbers words masses given rules shift placed) limit)).0 (h ∙ rw e)).1.1.1.0;

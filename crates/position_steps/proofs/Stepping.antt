@@ -11,19 +11,19 @@ use Rattle.mass_operator.specs.System.{System}
 use Rattle.preconditioner.specs.Factor.{factor_judged}
 use Rattle.preconditioner.specs.Apply.{preconditioned}
 use Rattle.preconditioner.specs.Room.{Memory}
-use Rattle.preconditioner.specs.Held.{Holds, z_in, prepared_out, refusal_of}
+use Rattle.preconditioner.specs.Held.{Holds, z_in, prepared_out}
 use Rattle.preconditioner.specs.declared.mode.Mode.{Mode}
 use Rattle.preconditioner.specs.declared.apply.Preconditioner.{Preconditioner}
-use Rattle.preconditioner.specs.declared.prepare.Prepared.{Prepared}
-use Rattle.preconditioner.specs.declared.prepare.Prepared.TheVariants as prepared
 use Rattle.preconditioner.proofs.Means.{holds_same}
 use Rattle.recurrence.specs.Step.{Iterate, Carried, advance_of, first_from}
 use Rattle.recurrence.specs.Answers.{carried_out}
-use Rattle.recurrence.specs.declared.ratio.Scale.{Scale}
-use Rattle.recurrence.specs.declared.ratio.Scale.TheVariants as scales
+use Rattle.refusals.specs.Number.{number_of}
+use Rattle.refusals.specs.declared.Refusal.{Refusal}
+use Rattle.std.specs.Prelude.{Result, Ok, Err}
 use Rattle.position.specs.Residual.{meets_of}
-use Rattle.position.specs.declared.prepare.Begun.{Begun}
-use Rattle.position.specs.declared.prepare.Begun.TheVariants as begun
+use Rattle.std.specs.Prelude.{Result, Ok, Err}
+use Rattle.refusals.specs.Number.{number_of}
+use Rattle.refusals.specs.declared.Refusal.{Refusal}
 use Rattle.steps.specs.Solve.{turn, after_loop}
 use Rattle.solve_method.specs.Method.{steps_by}
 use Rattle.solve_method.proofs.Alike.{meets_same, same_turns}
@@ -45,12 +45,12 @@ next_same (going s) f g h = h s
 next_same (ended a) f g h = refl
 
 -- ---- `step_on`, by the z of the memory
-module _ (z : List Float → Run (List Float) ℕ) (s : System) (tolerance : ℕ → Float) (limit : ℕ) (x r : List Float) (q : Scale) (d : List Float) (called : first_from (z r) r ≡ carried_out q d) where
-  pub stepping_refused : (k : ℕ) → q ≡ scales.Refused k → stepping_by z s tolerance limit (iterate x r) ≡ ended k
+module _ (z : List Float → Run (List Float) ℕ) (s : System) (tolerance : ℕ → Float) (limit : ℕ) (x r : List Float) (q : Result Float Refusal) (d : List Float) (called : first_from (z r) r ≡ carried_out q d) where
+  pub stepping_refused : (k : Refusal) → q ≡ Err k → stepping_by z s tolerance limit (iterate x r) ≡ ended (number_of k)
   unfolding stepping_by
   stepping_refused k e = on_ended _ _ _ (called ∙ rw e)
 
-  pub stepping_on : (t : Float) {o : Steps} → q ≡ scales.Value t → after_loop limit (turns (turn (steps_by z (advance_of s) s.rows tolerance)) (iterate x r, carried d t) limit) ≡ o → stepping_by z s tolerance limit (iterate x r) ≡ o
+  pub stepping_on : (t : Float) {o : Steps} → q ≡ Ok t → after_loop limit (turns (turn (steps_by z (advance_of s) s.rows tolerance)) (iterate x r, carried d t) limit) ≡ o → stepping_by z s tolerance limit (iterate x r) ≡ o
   unfolding stepping_by looping_by
   stepping_on t e h = on_going _ _ _ {s = carried d t} (called ∙ rw e) ∙ h
 
@@ -79,17 +79,17 @@ following_same first mode s owner diagonal f g limit v same long =
     go false m h = rw (m, h)
 
 -- ---- `run_steps`
-module _ (first : Bool) (mode : Mode) (s : System) (owner : ℕ → ℕ) (diagonal : List Float) (tolerance : ℕ → Float) (limit : ℕ) (a : Begun) (x r : List Float) where
+module _ (first : Bool) (mode : Mode) (s : System) (owner : ℕ → ℕ) (diagonal : List Float) (tolerance : ℕ → Float) (limit : ℕ) (a : Result Unit Refusal) (x r : List Float) where
   abbrev following : Bool → Iterate → Steps
   following b = following_of b mode s owner diagonal tolerance limit
 
   abbrev ran : Steps
   ran = next (start_out a x r) (following first)
 
-  pub run_refused : (k : ℕ) → a ≡ begun.Refused k → ran ≡ ended k
-  run_refused k e = on_ended _ _ _ {a = k} (rw e)
+  pub run_refused : (e : Refusal) → a ≡ Err e → ran ≡ ended (number_of e)
+  run_refused e q = on_ended _ _ _ {a = number_of e} (rw q)
 
-  module _ (done : a ≡ begun.Done) (b : Bool) (eb : b ≡ meets_of tolerance r (length r)) (long : length r ≡ s.rows) where
+  module _ (done : a ≡ Ok tt) (b : Bool) (eb : b ≡ meets_of tolerance r (length r)) (long : length r ≡ s.rows) where
     tested : (o : Bool) → b ≡ o → meets_of tolerance r s.rows ≡ o
     tested o e = rw (← long) (sym eb ∙ e)
 
@@ -107,10 +107,10 @@ module _ (first : Bool) (mode : Mode) (s : System) (owner : ℕ → ℕ) (diagon
         go f false e q = absurd (false≢true q)
 
     -- the factor is refused, whether it comes first or step 0 misses
-    module _ (f : Prepared) (answered : factor_judged mode s owner diagonal ≡ prepared_out f) where
-      pub run_unbuilt : (k : ℕ) → (b && not first) ≡ false → f ≡ prepared.Refused k → ran ≡ ended (refusal_of f)
+    module _ (f : Run Preconditioner ℕ) (answered : factor_judged mode s owner diagonal ≡ prepared_out f) where
+      pub run_unbuilt : (k : ℕ) → (b && not first) ≡ false → f ≡ ended k → ran ≡ ended k
       unfolding following_of running_of check
-      run_unbuilt k h e = begins (go first b refl h ∙ rw e)
+      run_unbuilt k h e = begins (go first b refl h)
         where
           refused : factor_judged mode s owner diagonal ≡ ended k
           refused = answered ∙ rw e
@@ -120,7 +120,7 @@ module _ (first : Bool) (mode : Mode) (s : System) (owner : ℕ → ℕ) (diagon
           go false true q n = absurd (true≢false n)
           go false false q n = rw (tested false q) (on_ended _ _ _ {a = k} refused)
 
-      module _ (p : Preconditioner) (built : f ≡ prepared.Done p) where
+      module _ (p : Preconditioner) (built : f ≡ going p) where
         stands : factor_judged mode s owner diagonal ≡ going tt
         stands = answered ∙ rw built
 

@@ -1,5 +1,5 @@
 -- What the count promises.
-use Rattle.std.specs.Prelude.{ℕ, ◌≡◌, true, List, Float}
+use Rattle.std.specs.Prelude.{ℕ, ◌≡◌, true, List, Float, Result, Option}
 use Rattle.loops.specs.Cleared.{Free}
 use Rattle.preconditioner.specs.declared.mode.Mode.{Mode}
 use Rattle.position.specs.Problem.{Problem}
@@ -8,14 +8,13 @@ use Rattle.steps.specs.Solve.{counting}
 use Rattle.solve_method.specs.Method.{method_of}
 use Rattle.position_iteration.specs.Standing.{iterated_out}
 use Rattle.position_iteration.specs.Stands.{StandsAfter}
-use Rattle.position_iteration.specs.declared.iteration.Iterated.{Iterated}
 use Rattle.work_memory.specs.Work.{StepMemory, TableMemory, cleared_steps}
-use Rattle.position_steps.specs.Opening.{opened_out}
-use Rattle.position_steps.specs.declared.opening.Opened.{Opened}
+use Rattle.refusals.specs.Told.{told}
+use Rattle.refusals.specs.declared.Refusal.{Refusal}
 
 -- by what was judged before step 0, flag, count and step are the definition's, the compact table stands where nothing was refused, and what the count alone uses is cleared
-pub record CountHeld (mode : Mode) (p : Problem) (opened : Opened) (limit : ℕ) (masses : List Float) (answer : Iterated) (jacobians : List Float) (links : List ℕ) (pending residual : List Float) (before after : StepMemory) : Type 0 where
-  pub answered : next (opened_out opened) (λ _. counting (method_of true p mode) limit) ≡ iterated_out answer limit pending residual
+pub record CountHeld (mode : Mode) (p : Problem) (opened : Result Unit Refusal) (limit : ℕ) (masses : List Float) (answer : Result (Option ℕ) Refusal) (jacobians : List Float) (links : List ℕ) (pending residual : List Float) (before after : StepMemory) : Type 0 where
+  pub answered : next (told opened) (λ _. counting (method_of true p mode) limit) ≡ iterated_out answer limit pending residual
   pub counted : StandsAfter p.table masses answer jacobians links
   pub memory : after ≡ cleared_steps before
 

@@ -1,23 +1,17 @@
 -- What is judged before step 0, as the code answers it.
-use Rattle.std.specs.Prelude.{ℕ, ◌+◌, ◌*◌, ◌≡◌, Bool, true, List, Float}
+use Rattle.std.specs.Prelude.{ℕ, ◌+◌, ◌*◌, ◌≡◌, Bool, true, List, Float, Result, Ok}
 use Rattle.kapitsa_joint.specs.Row.{scalars_of, words_of}
 use Rattle.joint_refusals.specs.Refusals.{opens_of, velocity_opens_of, passes20}
 use Rattle.rules.specs.Rules.{Rules}
 use Rattle.rules.specs.Rows.{rows_ruled}
-use Rattle.loops.specs.Run.{Run, going, ended}
 use Rattle.mass_operator.specs.Flat.{coefficients}
 use Rattle.kapitsa_joint.specs.Kind.{by_kind}
 use Rattle.kapitsa_joint.specs.declared.kind.Kind.{Kind}
-use Rattle.position_steps.specs.declared.opening.Opened.{Opened}
-use Rattle.position_steps.specs.declared.opening.Opened.TheVariants as opened
-
-abbrev pub opened_out : Opened → Run Unit ℕ
-opened_out opened.Done = going tt
-opened_out (opened.Refused number) = ended number
+use Rattle.refusals.specs.declared.Refusal.{Refusal}
 
 -- 28 has passed where nothing was refused: each row has a tolerance
-pub record OpenedRuled (answer : Opened) (rules : Rules) (words : List ℕ) (rows : ℕ) : Type 0 where
-  pub ruled : answer ≡ opened.Done → rows_ruled rules words rows ≡ true
+pub record OpenedRuled (answer : Result Unit Refusal) (rules : Rules) (words : List ℕ) (rows : ℕ) : Type 0 where
+  pub ruled : answer ≡ Ok tt → rows_ruled rules words rows ≡ true
 
 -- ---- over the lent lists, by kind
 

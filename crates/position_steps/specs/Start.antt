@@ -1,5 +1,5 @@
 -- What is judged in step 0, by what was judged before it, and what stands in the lent memory after it: the compact table is the system of the table.
-use Rattle.std.specs.Prelude.{ℕ, ◌≡◌, List, Float}
+use Rattle.std.specs.Prelude.{ℕ, ◌≡◌, List, Float, Result, Ok, Err}
 use Rattle.loops.specs.Run.{Run, going, ended, next}
 use Rattle.loops.specs.Tabulate.{tabulate}
 use Rattle.loops.specs.Cleared.{zeros, Free}
@@ -7,15 +7,14 @@ use Rattle.compact_table.specs.Compact.{Linked}
 use Rattle.recurrence.specs.Step.{Iterate}
 use Rattle.position.specs.Problem.{Problem}
 use Rattle.position.specs.Prepare.{rows_judged, diagonals, residuals}
-use Rattle.position.specs.declared.prepare.Begun.{Begun}
-use Rattle.position.specs.declared.prepare.Begun.TheVariants as begun
+use Rattle.refusals.specs.Number.{number_of}
+use Rattle.refusals.specs.Told.{told}
+use Rattle.refusals.specs.declared.Refusal.{Refusal}
 use Rattle.position_iteration.specs.Stands.{Stands}
-use Rattle.position_steps.specs.Opening.{opened_out}
-use Rattle.position_steps.specs.declared.opening.Opened.{Opened}
 
-abbrev pub start_out : Begun → List Float → List Float → Run Iterate ℕ
-start_out begun.Done pending residual = going (record { solution = pending; residual = residual })
-start_out (begun.Refused number) pending residual = ended number
+abbrev pub start_out : Result Unit Refusal → List Float → List Float → Run Iterate ℕ
+start_out (Ok _) pending residual = going (record { solution = pending; residual = residual })
+start_out (Err refusal) pending residual = ended (number_of refusal)
 
 -- the rows judged, and the step: no factor yet
 unfoldable pub step_zero_of : Problem → Run Iterate ℕ
@@ -27,9 +26,9 @@ pub record Started (p : Problem) (masses jacobians : List Float) (links : List �
   pub diagonal_is : diagonal ≡ diagonals p.table
 
 -- by what was judged before it; after a refusal all of it is left free: the count clears it
-pub record StartHeld (p : Problem) (opened : Opened) (masses : List Float) (answer : Begun) (jacobians : List Float) (links : List ℕ) (tolerances diagonal pending residual : List Float) : Type 0 where
-  pub answered : next (opened_out opened) (λ _. step_zero_of p) ≡ start_out answer pending residual
-  pub started : answer ≡ begun.Done → Started p masses jacobians links tolerances diagonal
+pub record StartHeld (p : Problem) (opened : Result Unit Refusal) (masses : List Float) (answer : Result Unit Refusal) (jacobians : List Float) (links : List ℕ) (tolerances diagonal pending residual : List Float) : Type 0 where
+  pub answered : next (told opened) (λ _. step_zero_of p) ≡ start_out answer pending residual
+  pub started : answer ≡ Ok tt → Started p masses jacobians links tolerances diagonal
 
 -- all that is written
 pub record StartFree (jacobians : List Float) (links : List ℕ) (tolerances diagonal pending residual : List Float) (jacobians₁ : List Float) (links₁ : List ℕ) (tolerances₁ diagonal₁ pending₁ residual₁ : List Float) : Type 0 where
@@ -41,5 +40,5 @@ pub record StartFree (jacobians : List Float) (links : List ℕ) (tolerances dia
   pub residual_free : Free residual residual₁
 
 -- where step 0 began, the compact table is linked
-pub record Linking (answer : Begun) (links : List ℕ) (n bodies : ℕ) : Type 0 where
-  pub linked : answer ≡ begun.Done → Linked links n bodies
+pub record Linking (answer : Result Unit Refusal) (links : List ℕ) (n bodies : ℕ) : Type 0 where
+  pub linked : answer ≡ Ok tt → Linked links n bodies

@@ -6,15 +6,15 @@ ghost use Rattle.solve_method.specs.Position.{kind_of};
 ghost use Rattle.position_steps.specs.Opening.{OpenedRuled};
 ghost use Rattle.position_steps.specs.Start.{StartHeld, StartFree};
 
-use crate::opening::Opened;
 use compact_table::gather;
 use kapitsa_joint::{Kind, is_velocity};
-use position::{Begun, begin, start_residual};
+use position::{begin, start_residual};
+use refusals::Refusal;
 use rules::gather_tolerances;
 
 // After a refusal all that is written is left free.
 pub fn start(
-    opened: Opened,
+    opened: Result<(), Refusal>,
     kind: Kind,
     numbers: &[f64],
     words: &[u32],
@@ -30,7 +30,7 @@ pub fn start(
     diagonal: &mut [f64],
     pending: &mut [f64],
     residual: &mut [f64],
-) -> Begun
+) -> Result<(), Refusal>
     requires numbers_len { (length numbers.now ≡ 27 * rows) × (length words.now ≡ 8 * rows) × (10 * bodies ≤ length masses.now) × (3 * length rule_tolerances.now ≤ length rule_words.now) }
     requires jacobians_len { (length jacobians.old ≡ 12 * rows) × (length links.old ≡ 2 * rows) × (length tolerances.old ≡ rows) × (length diagonal.old ≡ rows) × (length pending.old ≡ rows) × (length residual.old ≡ rows) }
     requires given_room { GivenRoom kind (length given.now) rows × OpenedRuled opened (rules_in rule_words.now rule_tolerances.now) words.now rows }
@@ -38,15 +38,10 @@ pub fn start(
         jacobians.new links.new tolerances.new diagonal.new pending.new residual.new }
     ensures start_free { StartFree jacobians.old links.old tolerances.old diagonal.old pending.old residual.old jacobians.new links.new tolerances.new diagonal.new pending.new residual.new }
 {
-    match opened {
-        Opened::Done => {}
-        Opened::Refused(number) => {
-            return Begun::Refused(number);
-        }
-    }
+    opened?;
     gather_tolerances(words, rule_words, rule_tolerances, tolerances);
     start_residual(kind, numbers, given, residual);
-    match begin(
+    begin(
         is_velocity(kind),
         numbers,
         words,
@@ -55,13 +50,8 @@ pub fn start(
         tolerances,
         diagonal,
         residual,
-    ) {
-        Begun::Done => {}
-        Begun::Refused(number) => {
-            return Begun::Refused(number);
-        }
-    }
+    )?;
     gather(numbers, words, diagonal.len(), jacobians, links);
     loops::clear(pending);
-    Begun::Done
+    Ok(())
 }

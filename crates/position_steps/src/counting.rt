@@ -9,17 +9,16 @@ ghost use Rattle.work_memory.specs.Lengths.{RowsRoom, WorkRoom};
 ghost use Rattle.position_steps.specs.Counting.{CountHeld, CountFree};
 
 use crate::beginning::start;
-use crate::opening::Opened;
 use crate::running::run_steps;
 use kapitsa_joint::{Kind, is_velocity};
 use loops::wide;
-use position_iteration::Iterated;
 use preconditioner::Mode;
+use refusals::Refusal;
 use work_memory::clear_steps;
 
 // The step counted stands in `pending` and `residual`; after a refusal these, the compact table and `body_impulses` are left free.
 pub fn count_steps(
-    opened: Opened,
+    opened: Result<(), Refusal>,
     kind: Kind,
     numbers: &[f64],
     words: &[u32],
@@ -43,7 +42,7 @@ pub fn count_steps(
     pattern: &mut [u32],
     order: &mut [u32],
     values: &mut [f64],
-) -> Iterated
+) -> Result<Option<u32>, Refusal>
     requires rows_room { RowsRoom rows bodies numbers.now words.now masses.now }
     requires work_room { WorkRoom mode rows bodies (work_memory jacobians.old links.old tolerances.old diagonal.old residual.old pending.old direction.old product.old body_impulses.old pattern.old order.old values.old) }
     requires rule_tolerances_in_bounds { 3 * length rule_tolerances.now ≤ length rule_words.now }

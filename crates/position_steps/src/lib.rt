@@ -9,4 +9,4 @@ pub mod opening; // opening.rt: what is judged before step 0
 pub mod ready; // ready.rt: what is judged of a row before step 0, at once
 
 pub use counting::count_steps;
-pub use opening::{Opened, open_table};
+pub use opening::open_table;

@@ -2,24 +2,20 @@
 ghost use Rattle.std.specs.Prelude.{◌≡◌, true, ◌*◌, ◌≤◌, length};
 ghost use Rattle.loops.specs.Judge.{judge};
 ghost use Rattle.loops.specs.Run.{going};
+ghost use Rattle.refusals.specs.Told.{told};
 ghost use Rattle.position.specs.Kinds.{GivenRoom};
 ghost use Rattle.rules.specs.Rows.{rules_in};
 ghost use Rattle.solve_method.specs.Method.{passes5, after_three};
 ghost use Rattle.solve_method.specs.Position.{steps_for};
-ghost use Rattle.position_steps.specs.Opening.{opens_in, given_fits, opened_out};
+ghost use Rattle.position_steps.specs.Opening.{opens_in, given_fits};
 
 use crate::ready::rows_ready;
 use joint_refusals::{masses_finite, residuals_finite, rows_open, velocity_rows_open, words_fit};
 use kapitsa_joint::Kind;
 use loops::wide;
 use preconditioner::shift_fits;
+use refusals::Refusal;
 use rules::{rows_ruled, rules_fit};
-
-#[derive(Clone, Copy)]
-pub enum Opened {
-    Done,
-    Refused(u32),
-}
 
 // 5: no rows open nothing.
 fn opens(kind: Kind, numbers: &[f64], words: &[u32], rows: u32, limit: u32) -> bool
@@ -63,33 +59,33 @@ fn open_in_order(
     limit: u32,
     shift: f64,
     placed: bool,
-) -> Opened
+) -> Result<(), Refusal>
     requires rows_in_bounds { (27 * rows ≤ length numbers.now) × (8 * rows ≤ length words.now) × (10 * bodies ≤ length masses.now) × (3 * length rule_tolerances.now ≤ length rule_words.now) }
     requires given_room { GivenRoom kind (length given.now) rows }
-    ensures { judge (after_three (steps_for kind rows bodies numbers.now words.now masses.now given.now (rules_in rule_words.now rule_tolerances.now) shift placed) limit) ≡ opened_out result }
+    ensures { judge (after_three (steps_for kind rows bodies numbers.now words.now masses.now given.now (rules_in rule_words.now rule_tolerances.now) shift placed) limit) ≡ told result }
 {
     if !shift_fits(shift) {
-        return Opened::Refused(25);
+        return Err(Refusal::Shift);
     }
     if !words_fit(words, wide(rows)) {
-        return Opened::Refused(4);
+        return Err(Refusal::Word);
     }
     if !rules_fit(rule_words, rule_tolerances) {
-        return Opened::Refused(27);
+        return Err(Refusal::Rule);
     }
     if !rows_ruled(words, rule_words, rule_tolerances, wide(rows)) {
-        return Opened::Refused(28);
+        return Err(Refusal::RulesOfRow);
     }
     if !opens(kind, numbers, words, rows, limit) {
-        return Opened::Refused(5);
+        return Err(Refusal::Opening);
     }
     if !(masses_finite(masses, wide(bodies)) & placed) {
-        return Opened::Refused(6);
+        return Err(Refusal::Mass);
     }
     if !given_fits(kind, given, rows) {
-        return Opened::Refused(20);
+        return Err(Refusal::Speed);
     }
-    Opened::Done
+    Ok(())
 }
 
 // Whether all pass, asked in the order that costs least; false too where there are no rows and the limit is 0.
@@ -154,10 +150,10 @@ pub fn open_table(
     limit: u32,
     shift: f64,
     placed: bool,
-) -> Opened
+) -> Result<(), Refusal>
     requires rows_in_bounds { (27 * rows ≤ length numbers.now) × (8 * rows ≤ length words.now) × (10 * bodies ≤ length masses.now) × (3 * length rule_tolerances.now ≤ length rule_words.now) }
     requires given_room { GivenRoom kind (length given.now) rows }
-    ensures { judge (after_three (steps_for kind rows bodies numbers.now words.now masses.now given.now (rules_in rule_words.now rule_tolerances.now) shift placed) limit) ≡ opened_out result }
+    ensures { judge (after_three (steps_for kind rows bodies numbers.now words.now masses.now given.now (rules_in rule_words.now rule_tolerances.now) shift placed) limit) ≡ told result }
 {
     if all_ready(
         kind,
@@ -173,7 +169,7 @@ pub fn open_table(
         shift,
         placed,
     ) {
-        return Opened::Done;
+        return Ok(());
     }
     open_in_order(
         kind,

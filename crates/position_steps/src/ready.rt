@@ -54,12 +54,5 @@ pub fn rows_ready(
     ensures { result ≡ every (row_ready kind (rules_in rule_words.now rule_tolerances.now) numbers.now words.now) rows }
 {
     let plain = rules_plain(rule_words, rule_tolerances);
-    let mut i = 0;
-    while i < rows {
-        if !row_ready_at(kind, plain, numbers, words, rule_words, rule_tolerances, i) {
-            return false;
-        }
-        i += 1;
-    }
-    true
+    (0..rows).all(|i| row_ready_at(kind, plain, numbers, words, rule_words, rule_tolerances, i))
 }

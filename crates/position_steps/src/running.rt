@@ -9,10 +9,11 @@ ghost use Rattle.position_iteration.specs.Standing.{Standing, iterated_out};
 ghost use Rattle.position_steps.specs.Start.{start_out, Linking};
 ghost use Rattle.position_steps.specs.Running.{stepping_by, following_of, RunFree};
 
-use position::{Begun, position_vector_converged};
-use position_iteration::{Iterated, iterate};
-use preconditioner::{Mode, Preconditioner, Prepared, build_preconditioner, refusal_of};
-use recurrence::{Scale, first};
+use position::position_vector_converged;
+use position_iteration::iterate;
+use preconditioner::{Mode, Preconditioner, build_preconditioner};
+use recurrence::first;
+use refusals::Refusal;
 
 // With the factor that stands there: the first direction, and the loop.
 fn step_on(
@@ -32,13 +33,13 @@ fn step_on(
     pending: &mut [f64],
     residual: &mut [f64],
     direction: &mut [f64],
-) -> Iterated
+) -> Result<Option<u32>, Refusal>
     requires standing { Standing preconditioner (length tolerances.now) bodies tolerances.now masses.now jacobians.now links.now record { diagonal = diagonal.now; pattern = pattern.now; order = order.now; values = values.now } }
     requires body_impulses_len { (length body_impulses.old ≡ 6 * bodies) × (length product.old ≡ length tolerances.now) × (length pending.old ≡ length tolerances.now) × (length residual.old ≡ length tolerances.now) × (length direction.old ≡ length tolerances.now) }
     ensures { stepping_by (z_in preconditioner (length tolerances.now) record { diagonal = diagonal.entry.now; pattern = pattern.now; order = order.now; values = values.now }) (compact_system (length tolerances.now) bodies jacobians.now links.now masses.now) (tolerances_in tolerances.now) limit record { solution = pending.old; residual = residual.old }
         ≡ iterated_out result limit pending.new residual.new }
 {
-    match first(
+    let s = first(
         preconditioner,
         diagonal,
         pattern,
@@ -47,33 +48,31 @@ fn step_on(
         residual,
         product,
         direction,
-    ) {
-        Scale::Value(s) => iterate(
-            tolerances,
-            preconditioner,
-            masses,
-            bodies,
-            jacobians,
-            links,
-            diagonal,
-            pattern,
-            order,
-            values,
-            s,
-            limit,
-            body_impulses,
-            product,
-            pending,
-            residual,
-            direction,
-        ),
-        Scale::Refused(number) => Iterated::Refused(number),
-    }
+    )?;
+    iterate(
+        tolerances,
+        preconditioner,
+        masses,
+        bodies,
+        jacobians,
+        links,
+        diagonal,
+        pattern,
+        order,
+        values,
+        s,
+        limit,
+        body_impulses,
+        product,
+        pending,
+        residual,
+        direction,
+    )
 }
 
 // From how step 0 began. After a refusal all that is written is left free.
 pub fn run_steps(
-    begun: Begun,
+    begun: Result<(), Refusal>,
     factor_first: bool,
     words: &[u32],
     tolerances: &[f64],
@@ -93,7 +92,7 @@ pub fn run_steps(
     pending: &mut [f64],
     residual: &mut [f64],
     direction: &mut [f64],
-) -> Iterated
+) -> Result<Option<u32>, Refusal>
     requires words_len { (length words.now ≡ 8 * rows) × (length tolerances.now ≡ rows) × (10 * bodies ≤ length masses.now) × (12 * rows ≤ length jacobians.now) × (2 * rows ≤ length links.now) }
     requires linking { Linking begun links.now rows bodies }
     requires roomy { Roomy mode rows record { diagonal = diagonal.now; pattern = pattern.old; order = order.old; values = values.old } }
@@ -102,24 +101,16 @@ pub fn run_steps(
         ≡ iterated_out result limit pending.new residual.new }
     ensures run_free { RunFree record { diagonal = diagonal.entry.now; pattern = pattern.old; order = order.old; values = values.old } record { diagonal = diagonal.exit.now; pattern = pattern.new; order = order.new; values = values.new } body_impulses.old product.old pending.old residual.old direction.old body_impulses.new product.new pending.new residual.new direction.new }
 {
-    match begun {
-        Begun::Done => {}
-        Begun::Refused(number) => {
-            return Iterated::Refused(number);
-        }
-    }
+    begun?;
     let meets = position_vector_converged(tolerances, residual);
     if meets & !factor_first {
-        return Iterated::Met(0);
+        return Ok(Some(0));
     }
-    let built = build_preconditioner(
+    let preconditioner = build_preconditioner(
         mode, words, jacobians, links, masses, rows, bodies, diagonal, pattern, order, values,
-    );
-    let Prepared::Done(preconditioner) = built else {
-        return Iterated::Refused(refusal_of(built));
-    };
+    )?;
     if meets {
-        return Iterated::Met(0);
+        return Ok(Some(0));
     }
     step_on(
         tolerances,

@@ -6,6 +6,7 @@ use mathlib.Core.List.{List}
 use native.Mathlib.Omega.{arith}
 use lib.ListN.{length}
 use lib.Ieee.{Float}
+use Rattle.std.specs.Prelude.{Result, Ok, Err}
 use Rattle.loops.specs.Run.{Run, going, ended, on, next, turns, check}
 use Rattle.loops.specs.Judge.{judged}
 use Rattle.loops.specs.Tabulate.{tabulate}
@@ -15,14 +16,13 @@ use Rattle.triangular.specs.Column.{Indexed}
 use Rattle.pairs.specs.Pattern.{starts_in, columns_in}
 use Rattle.loops.specs.Cleared.{zeros}
 use Rattle.incomplete_cholesky.specs.Build.{cholesky_run, build_out}
-use Rattle.incomplete_cholesky.specs.declared.build.Built.{Built}
-use Rattle.incomplete_cholesky.specs.declared.build.Built.TheVariants as factors
 use Rattle.block_factor.specs.Answers.{block_of}
 use Rattle.block_factor.specs.Solves.{block_solve_run}
 use Rattle.block_jacobi.specs.Runs.{owner_in, begins, run_length}
 use Rattle.block_jacobi.specs.Blocks.{block_in, put_block, put_stretch, stretch, block_turn, blocks_run, blocked_out, solve_turn, blocks_solve_run}
-use Rattle.block_jacobi.specs.declared.build.Blocked.{Blocked}
-use Rattle.block_jacobi.specs.declared.build.Blocked.TheVariants as blocks
+use Rattle.refusals.specs.Number.{number_of}
+use Rattle.refusals.specs.Told.{told}
+use Rattle.refusals.specs.declared.Refusal.{Refusal}
 use Rattle.block_jacobi.proofs.BlocksHeld.{kept_all, runs_fit}
 use Rattle.triangular.specs.Triangular.{or_sixteen}
 use Rattle.preconditioner.specs.Factor.{block_at, block_judged, factor_judged}
@@ -34,8 +34,6 @@ use Rattle.preconditioner.specs.declared.mode.Mode.{Mode}
 use Rattle.preconditioner.specs.declared.mode.Mode.TheVariants as modes
 use Rattle.preconditioner.specs.declared.apply.Preconditioner.{Preconditioner}
 use Rattle.preconditioner.specs.declared.apply.Preconditioner.TheVariants as built
-use Rattle.preconditioner.specs.declared.prepare.Prepared.{Prepared}
-use Rattle.preconditioner.specs.declared.prepare.Prepared.TheVariants as prepared
 
 -- ---- the judgement of the blocks is that of the loop which keeps them
 abbrev Kept : Type 0
@@ -71,44 +69,44 @@ module _ (s : System) (owner : ℕ → ℕ) (l : List Float) where
 
 -- ---- what is built: judged as the definition says, and there where it is not refused
 module _ (s : System) (owner : ℕ → ℕ) (before after : Memory) where
-  factor_answered : (shift : Float) (a : Built) → cholesky_run s (shifted shift before.diagonal) ≡ build_out a (factor_in s.rows after) after.diagonal → next (cholesky_run s (shifted shift before.diagonal)) (λ _. going tt) ≡ prepared_out (factor_prepared a)
-  factor_answered shift (factors.Done count) e = on_going _ _ _ e
-  factor_answered shift (factors.Refused n) e = on_ended _ _ _ e
+  factor_answered : (shift : Float) (a : Run ℕ ℕ) → cholesky_run s (shifted shift before.diagonal) ≡ build_out a (factor_in s.rows after) after.diagonal → next (cholesky_run s (shifted shift before.diagonal)) (λ _. going tt) ≡ prepared_out (factor_prepared a)
+  factor_answered shift (going count) e = on_going _ _ _ e
+  factor_answered shift (ended n) e = on_ended _ _ _ e
 
-  blocks_answered : (a : Blocked) → blocks_run s owner before.values ≡ blocked_out a after.values → judged (block_judged s owner) s.rows ≡ prepared_out (blocks_prepared a)
-  blocks_answered blocks.Done e = sym (blocks_judged s owner before.values) ∙ on_going _ _ _ e
-  blocks_answered (blocks.Refused n) e = sym (blocks_judged s owner before.values) ∙ on_ended _ _ _ e
+  blocks_answered : (a : Result Unit Refusal) → blocks_run s owner before.values ≡ blocked_out a after.values → judged (block_judged s owner) s.rows ≡ prepared_out (blocks_prepared (told a))
+  blocks_answered (Ok _) e = sym (blocks_judged s owner before.values) ∙ on_going _ _ _ e
+  blocks_answered (Err n) e = sym (blocks_judged s owner before.values) ∙ on_ended _ _ _ e
 
-  pub built_answered : (mode : Mode) (r : Prepared) → FactorBuilt s owner before after mode r → factor_judged mode s owner before.diagonal ≡ prepared_out r
+  pub built_answered : (mode : Mode) (r : Run Preconditioner ℕ) → FactorBuilt s owner before after mode r → factor_judged mode s owner before.diagonal ≡ prepared_out r
   unfolding factor_judged
-  built_answered modes.Diagonal (prepared.Done built.Diagonal) (built_diagonal e) = refl
-  built_answered modes.Diagonal (prepared.Done (built.IncompleteCholesky _)) none = elim none [ ]
-  built_answered modes.Diagonal (prepared.Done built.BlockJacobi) none = elim none [ ]
-  built_answered modes.Diagonal (prepared.Refused _) none = elim none [ ]
+  built_answered modes.Diagonal (going built.Diagonal) (built_diagonal e) = refl
+  built_answered modes.Diagonal (going (built.IncompleteCholesky _)) none = elim none [ ]
+  built_answered modes.Diagonal (going built.BlockJacobi) none = elim none [ ]
+  built_answered modes.Diagonal (ended _) none = elim none [ ]
   built_answered (modes.IncompleteCholesky _) r (built_factor shift a h _) = factor_answered shift a h.answered
   built_answered modes.BlockJacobi r (built_blocks a e q) = blocks_answered a e
 
   module _ (p : Preconditioner) (joints : owner_in (tabulate owner s.rows) ≡ owner) where
-    unlike : {R : Type 0} (n : ℕ) → ◌≡◌ {A = Prepared} (prepared.Refused n) (prepared.Done p) → R
+    unlike : {R : Type 0} (n : ℕ) → ◌≡◌ {A = Run Preconditioner ℕ} (ended n) (going p) → R
     unlike n e = absurd (let z : ◌≡◌ {A = ℕ} 0 1 = cc in omega arith)
 
-    factor_holds : (shift : Float) (a : Built) → factor_prepared a ≡ prepared.Done p → cholesky_run s (shifted shift before.diagonal) ≡ build_out a (factor_in s.rows after) after.diagonal → Holds s owner before.diagonal after (modes.IncompleteCholesky shift) p
-    factor_holds shift (factors.Done count) e h = let z : built.IncompleteCholesky count ≡ p = cc in rw (← z) (holds_factor shift count h)
-    factor_holds shift (factors.Refused n) e h = unlike n e
+    factor_holds : (shift : Float) (a : Run ℕ ℕ) → factor_prepared a ≡ going p → cholesky_run s (shifted shift before.diagonal) ≡ build_out a (factor_in s.rows after) after.diagonal → Holds s owner before.diagonal after (modes.IncompleteCholesky shift) p
+    factor_holds shift (going count) e h = let z : built.IncompleteCholesky count ≡ p = cc in rw (← z) (holds_factor shift count h)
+    factor_holds shift (ended n) e h = unlike n e
 
     gathered : after ≡ record { diagonal = before.diagonal; pattern = tabulate owner s.rows; order = before.order; values = after.values } → owner_in after.pattern ≡ owner
     gathered q = ap (λ (m : Memory). owner_in m.pattern) q ∙ joints
 
-    blocks_hold : (a : Blocked) → blocks_prepared a ≡ prepared.Done p → blocks_run s owner before.values ≡ blocked_out a after.values → owner_in after.pattern ≡ owner → 36 * s.rows ≤ length before.values → Holds s owner before.diagonal after modes.BlockJacobi p
+    blocks_hold : (a : Result Unit Refusal) → blocks_prepared (told a) ≡ going p → blocks_run s owner before.values ≡ blocked_out a after.values → owner_in after.pattern ≡ owner → 36 * s.rows ≤ length before.values → Holds s owner before.diagonal after modes.BlockJacobi p
     unfolding block_at
-    blocks_hold blocks.Done e h o room = let z : built.BlockJacobi ≡ p = cc in rw (← z) (holds_blocks o (kept_all s owner before.values room after.values h).blocks)
-    blocks_hold (blocks.Refused n) e h o room = unlike n e
+    blocks_hold (Ok _) e h o room = let z : built.BlockJacobi ≡ p = cc in rw (← z) (holds_blocks o (kept_all s owner before.values room after.values h).blocks)
+    blocks_hold (Err n) e h o room = unlike (number_of n) e
 
     block_room : Roomy modes.BlockJacobi s.rows before → 36 * s.rows ≤ length before.values
     unfolding values_room
     block_room r = omega (arith, r.values_long)
 
-    pub built_holds : (mode : Mode) (r : Prepared) → r ≡ prepared.Done p → Roomy mode s.rows before → FactorBuilt s owner before after mode r → Holds s owner before.diagonal after mode p
+    pub built_holds : (mode : Mode) (r : Run Preconditioner ℕ) → r ≡ going p → Roomy mode s.rows before → FactorBuilt s owner before after mode r → Holds s owner before.diagonal after mode p
     built_holds modes.Diagonal r e room (built_diagonal q) = let z : built.Diagonal ≡ p = cc in rw (← z) (holds_diagonal (ap (λ (m : Memory). m.diagonal) q))
     built_holds (modes.IncompleteCholesky _) r e room (built_factor shift a h _) = factor_holds shift a e h.answered
     built_holds modes.BlockJacobi r e room (built_blocks a h q) = blocks_hold a e h (gathered q) (block_room room)
@@ -118,25 +116,25 @@ module _ (s : System) (owner : ℕ → ℕ) (before after : Memory) where
       diagonal_ready : (mode : Mode) → Roomy mode s.rows before → p ≡ built.Diagonal → Ready p s.rows after
       diagonal_ready mode room e = record { long = ed ∙ room.diagonal_long; factor = λ count q. absurd (let z : ◌≡◌ {A = ℕ} 0 1 = cc in omega arith); blocks = λ q. absurd (let z : ◌≡◌ {A = ℕ} 0 1 = cc in omega arith) }
 
-      factor_ready : (shift : Float) (a : Built) → factor_prepared a ≡ prepared.Done p → Roomy (modes.IncompleteCholesky shift) s.rows before → ((count : ℕ) → a ≡ factors.Done count → Indexed (starts_in s.rows after.pattern) (columns_in s.rows after.pattern) after.order s.rows count) → Ready p s.rows after
+      factor_ready : (shift : Float) (a : Run ℕ ℕ) → factor_prepared a ≡ going p → Roomy (modes.IncompleteCholesky shift) s.rows before → ((count : ℕ) → a ≡ going count → Indexed (starts_in s.rows after.pattern) (columns_in s.rows after.pattern) after.order s.rows count) → Ready p s.rows after
       unfolding pattern_room order_room values_room
-      factor_ready shift (factors.Done c) e room h = record {
+      factor_ready shift (going c) e room h = record {
         long = ed ∙ room.diagonal_long;
         factor = λ count q. record { indexed = let z : c ≡ count = cc in rw (← z) (h c refl); pattern_long = omega (arith, ep, ev, room.pattern_long, room.values_long); order_long = omega (arith, eo, ev, room.order_long, room.values_long) };
         blocks = λ q. absurd (let z : ◌≡◌ {A = ℕ} 0 1 = cc in omega arith);
       }
-      factor_ready shift (factors.Refused n) e room h = unlike n e
+      factor_ready shift (ended n) e room h = unlike n e
 
-      blocks_ready : (a : Blocked) → blocks_prepared a ≡ prepared.Done p → Roomy modes.BlockJacobi s.rows before → blocks_run s owner before.values ≡ blocked_out a after.values → owner_in after.pattern ≡ owner → Ready p s.rows after
+      blocks_ready : (a : Result Unit Refusal) → blocks_prepared (told a) ≡ going p → Roomy modes.BlockJacobi s.rows before → blocks_run s owner before.values ≡ blocked_out a after.values → owner_in after.pattern ≡ owner → Ready p s.rows after
       unfolding pattern_room values_room
-      blocks_ready blocks.Done e room h o = record {
+      blocks_ready (Ok _) e room h o = record {
         long = ed ∙ room.diagonal_long;
         factor = λ count q. absurd (let z : ◌≡◌ {A = ℕ} 0 1 = cc in omega arith);
         blocks = λ q. record { fits = rw o (runs_fit s owner before.values (block_room room) after.values h); pattern_long = ep ∙ room.pattern_long; values_long = ev ∙ room.values_long };
       }
-      blocks_ready (blocks.Refused n) e room h o = unlike n e
+      blocks_ready (Err n) e room h o = unlike (number_of n) e
 
-      pub built_ready : (mode : Mode) (r : Prepared) → r ≡ prepared.Done p → Roomy mode s.rows before → FactorBuilt s owner before after mode r → Ready p s.rows after
+      pub built_ready : (mode : Mode) (r : Run Preconditioner ℕ) → r ≡ going p → Roomy mode s.rows before → FactorBuilt s owner before after mode r → Ready p s.rows after
       built_ready modes.Diagonal r e room (built_diagonal q) = diagonal_ready modes.Diagonal room (let z : built.Diagonal ≡ p = cc in sym z)
       built_ready (modes.IncompleteCholesky _) r e room (built_factor shift a h _) = factor_ready shift a e room h.indexed
       built_ready modes.BlockJacobi r e room (built_blocks a h q) = blocks_ready a e room h (gathered q)

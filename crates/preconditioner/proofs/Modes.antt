@@ -5,6 +5,7 @@ use mathlib.Core.List.{List}
 use native.Mathlib.Decide.{dec_lt}
 use native.Mathlib.Omega.{arith}
 use lib.ListN.{length, get_or, get_or-eq_default}
+use Rattle.std.specs.Prelude.{Result, Ok, Err}
 use Rattle.loops.specs.Tabulate.{tabulate}
 use Rattle.loops.proofs.Tabulate.{get_d_tabulate, length_tabulate}
 use lib.Ieee.{Float}
@@ -12,21 +13,19 @@ use Rattle.mass_operator.specs.System.{System, compact_system}
 use Rattle.pairs.specs.Pairs.{pattern_of, pair_count, pair_room}
 use Rattle.pairs.specs.Pattern.{starts_in, columns_in}
 use Rattle.incomplete_cholesky.specs.Build.{FactorHeld, FactorPast}
-use Rattle.incomplete_cholesky.specs.declared.build.Built.{Built}
-use Rattle.incomplete_cholesky.specs.declared.build.Built.TheVariants as factors
+use Rattle.loops.specs.Run.{Run, going}
+use Rattle.refusals.specs.declared.Refusal.{Refusal}
+use Rattle.refusals.specs.Told.{told}
 use Rattle.block_jacobi.specs.Runs.{owner_in}
 use Rattle.block_jacobi.specs.Blocks.{blocks_run, blocked_out}
-use Rattle.block_jacobi.specs.declared.build.Blocked.{Blocked}
-use Rattle.block_jacobi.specs.declared.build.Blocked.TheVariants as blocks
 use Rattle.preconditioner.specs.Mode.{mode_of}
 use Rattle.preconditioner.specs.Room.{Memory, Roomy, pattern_room, order_room, values_room}
 use Rattle.preconditioner.specs.Held.{FactorBuilt, built_diagonal, built_factor, built_blocks, factor_prepared, blocks_prepared, joints_in}
 use Rattle.preconditioner.specs.Shift.{shifted}
 use Rattle.preconditioner.specs.declared.mode.Mode.{Mode}
 use Rattle.preconditioner.specs.declared.mode.Mode.TheVariants as modes
+use Rattle.preconditioner.specs.declared.apply.Preconditioner.{Preconditioner}
 use Rattle.preconditioner.specs.declared.apply.Preconditioner.TheVariants as built
-use Rattle.preconditioner.specs.declared.prepare.Prepared.{Prepared}
-use Rattle.preconditioner.specs.declared.prepare.Prepared.TheVariants as prepared
 
 -- ---- `mode_of`
 pub mode_zero : (word : ℕ) (shift : Float) → word ≡ 0 → modes.Diagonal ≡ mode_of word shift
@@ -43,18 +42,18 @@ mode_more zero shift h g = absurd (h refl)
 mode_more (suc zero) shift h g = absurd (g refl)
 mode_more (suc (suc n)) shift h g = refl
 
--- ---- `factor_prepared`, `blocks_prepared`
-pub factor_done : (a : Built) (count : ℕ) → a ≡ factors.Done count → prepared.Done (built.IncompleteCholesky count) ≡ factor_prepared a
+-- ---- what the mode's own answer is prepared as
+pub factor_done : (a : Result ℕ Refusal) (count : ℕ) → a ≡ Ok count → going (built.IncompleteCholesky count) ≡ factor_prepared (told a)
 factor_done a count e = rw e
 
-pub factor_refused : (a : Built) (number : ℕ) → a ≡ factors.Refused number → prepared.Refused number ≡ factor_prepared a
-factor_refused a number e = rw e
+pub factor_refused : (a : Result ℕ Refusal) (x : Refusal) (r : Result Preconditioner Refusal) → a ≡ Err x → r ≡ Err x → told r ≡ factor_prepared (told a)
+factor_refused a x r e f = rw (e, f)
 
-pub blocks_done : (a : Blocked) → a ≡ blocks.Done → prepared.Done built.BlockJacobi ≡ blocks_prepared a
+pub blocks_done : (a : Result Unit Refusal) {x : Unit} → a ≡ Ok x → going built.BlockJacobi ≡ blocks_prepared (told a)
 blocks_done a e = rw e
 
-pub blocks_refused : (a : Blocked) (number : ℕ) → a ≡ blocks.Refused number → prepared.Refused number ≡ blocks_prepared a
-blocks_refused a number e = rw e
+pub blocks_refused : (a : Result Unit Refusal) (x : Refusal) (r : Result Preconditioner Refusal) → a ≡ Err x → r ≡ Err x → told r ≡ blocks_prepared (told a)
+blocks_refused a x r e f = rw (e, f)
 
 -- ---- `pattern_room`, `order_room`, `values_room`
 module _ (mode : Mode) (n : ℕ) where
@@ -87,10 +86,10 @@ module _ (mode : Mode) (n : ℕ) (m : Memory) (room : Roomy mode n m) where
 
 -- ---- `build_preconditioner`
 module _ (s : System) (owner : ℕ → ℕ) (mode : Mode) (before : Memory) where
-  pub mode_diagonal : mode ≡ modes.Diagonal → FactorBuilt s owner before before mode (prepared.Done built.Diagonal)
+  pub mode_diagonal : mode ≡ modes.Diagonal → FactorBuilt s owner before before mode (going built.Diagonal)
   mode_diagonal e = rw e (built_diagonal refl)
 
-  pub mode_factor : (after : Memory) (a : Built) (r : Prepared) (shift : Float) {diagonal : List Float} → mode ≡ modes.IncompleteCholesky shift → diagonal ≡ shifted shift before.diagonal
+  pub mode_factor : (after : Memory) (a : Run ℕ ℕ) (r : Run Preconditioner ℕ) (shift : Float) {diagonal : List Float} → mode ≡ modes.IncompleteCholesky shift → diagonal ≡ shifted shift before.diagonal
       → FactorHeld s diagonal a (starts_in s.rows after.pattern) (columns_in s.rows after.pattern) before.order after.order before.values after.values after.diagonal
       → FactorPast s.rows (pair_count (pattern_of s) s.rows) before.pattern after.pattern before.order after.order before.values after.values → r ≡ factor_prepared a → FactorBuilt s owner before after mode r
   mode_factor after a r shift e d h f t = rw (e, t) (built_factor shift a (rw (← d) h) f)
@@ -107,8 +106,8 @@ joints_are words n ew = fun_ext (λ i. at i (dec_lt i n))
     at i (no h) = beyond (tabulate (joints_in words) n) i (rw (length_tabulate (joints_in words) n) (omega arith)) ∙ sym (beyond words (8 * i + 6) (omega arith))
 
 -- k joints are gathered, and the blocks are built of as many rows
-pub mode_blocks : (words : List ℕ) (bodies : ℕ) (jacobians : List Float) (links : List ℕ) (masses : List Float) (k n m : ℕ) (mode : Mode) (before : Memory) (joints : List ℕ) (values : List Float) (a : Blocked) (r : Prepared) → length words ≡ 8 * n → k ≡ n → m ≡ n
-    → joints ≡ tabulate (joints_in words) k → mode ≡ modes.BlockJacobi → blocks_run (compact_system m bodies jacobians links masses) (owner_in joints) before.values ≡ blocked_out a values → r ≡ blocks_prepared a
+pub mode_blocks : (words : List ℕ) (bodies : ℕ) (jacobians : List Float) (links : List ℕ) (masses : List Float) (k n m : ℕ) (mode : Mode) (before : Memory) (joints : List ℕ) (values : List Float) (a : Result Unit Refusal) (r : Run Preconditioner ℕ) → length words ≡ 8 * n → k ≡ n → m ≡ n
+    → joints ≡ tabulate (joints_in words) k → mode ≡ modes.BlockJacobi → blocks_run (compact_system m bodies jacobians links masses) (owner_in joints) before.values ≡ blocked_out a values → r ≡ blocks_prepared (told a)
     → FactorBuilt (compact_system n bodies jacobians links masses) (joints_in words) before record { diagonal = before.diagonal; pattern = joints; order = before.order; values = values } mode r
 mode_blocks words bodies jacobians links masses k n m mode before joints values a r ew ek em ej e h t =
     let listed : joints ≡ tabulate (joints_in words) n = ej ∙ ap (tabulate (joints_in words)) ek in

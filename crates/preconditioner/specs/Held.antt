@@ -1,5 +1,5 @@
 -- What the lent memory holds of a mode's factor.
-use Rattle.std.specs.Prelude.{ℕ, ◌+◌, ◌*◌, ◌<◌, ◌≡◌, true, List, length, get_or, Float}
+use Rattle.std.specs.Prelude.{ℕ, ◌+◌, ◌*◌, ◌<◌, ◌≡◌, true, List, length, get_or, Float, Result}
 use Rattle.loops.specs.Run.{Run, going, ended}
 use Rattle.loops.specs.Tabulate.{tabulate}
 use Rattle.mass_operator.specs.System.{System}
@@ -10,12 +10,10 @@ use Rattle.triangular.specs.Triangular.{or_sixteen}
 use Rattle.pairs.specs.Pairs.{pattern_of, pair_count}
 use Rattle.pairs.specs.Pattern.{starts_in, columns_in}
 use Rattle.incomplete_cholesky.specs.Build.{cholesky_run, FactorHeld, FactorPast}
-use Rattle.incomplete_cholesky.specs.declared.build.Built.{Built}
-use Rattle.incomplete_cholesky.specs.declared.build.Built.TheVariants as factors
 use Rattle.block_jacobi.specs.Runs.{owner_in, begins, RunsFit}
 use Rattle.block_jacobi.specs.Blocks.{block_in, blocks_run, blocked_out}
-use Rattle.block_jacobi.specs.declared.build.Blocked.{Blocked}
-use Rattle.block_jacobi.specs.declared.build.Blocked.TheVariants as blocks
+use Rattle.refusals.specs.Told.{told}
+use Rattle.refusals.specs.declared.Refusal.{Refusal}
 use Rattle.preconditioner.specs.Factor.{block_at}
 use Rattle.preconditioner.specs.Apply.{preconditioned_run}
 use Rattle.preconditioner.specs.Room.{Memory}
@@ -24,8 +22,6 @@ use Rattle.preconditioner.specs.declared.mode.Mode.{Mode}
 use Rattle.preconditioner.specs.declared.mode.Mode.TheVariants as modes
 use Rattle.preconditioner.specs.declared.apply.Preconditioner.{Preconditioner}
 use Rattle.preconditioner.specs.declared.apply.Preconditioner.TheVariants as built
-use Rattle.preconditioner.specs.declared.prepare.Prepared.{Prepared}
-use Rattle.preconditioner.specs.declared.prepare.Prepared.TheVariants as prepared
 
 -- the factor's numbers of n rows
 abbrev pub factor_in : ℕ → Memory → Sparse
@@ -66,26 +62,22 @@ abbrev pub joints_in : List ℕ → ℕ → ℕ
 joints_in words i = get_or words (8 * i + 6) 0
 
 -- ---- what an answer tells
-abbrev pub prepared_out : Prepared → Run Unit ℕ
-prepared_out (prepared.Done p) = going tt
-prepared_out (prepared.Refused number) = ended number
+abbrev pub prepared_out : Run Preconditioner ℕ → Run Unit ℕ
+prepared_out (going p) = going tt
+prepared_out (ended number) = ended number
 
-abbrev pub refusal_of : Prepared → ℕ
-refusal_of (prepared.Done p) = 0
-refusal_of (prepared.Refused number) = number
+abbrev pub factor_prepared : Run ℕ ℕ → Run Preconditioner ℕ
+factor_prepared (going count) = going (built.IncompleteCholesky count)
+factor_prepared (ended number) = ended number
 
-abbrev pub factor_prepared : Built → Prepared
-factor_prepared (factors.Done count) = prepared.Done (built.IncompleteCholesky count)
-factor_prepared (factors.Refused number) = prepared.Refused number
-
-abbrev pub blocks_prepared : Blocked → Prepared
-blocks_prepared blocks.Done = prepared.Done built.BlockJacobi
-blocks_prepared (blocks.Refused number) = prepared.Refused number
+abbrev pub blocks_prepared : Run Unit ℕ → Run Preconditioner ℕ
+blocks_prepared (going _) = going built.BlockJacobi
+blocks_prepared (ended number) = ended number
 
 -- of an answer the memory before and after: what is not the mode's is untouched
-pub data FactorBuilt (s : System) (owner : ℕ → ℕ) (before after : Memory) : Mode → Prepared → Type 0 where
-  built_diagonal : after ≡ before → FactorBuilt s owner before after modes.Diagonal (prepared.Done built.Diagonal)
-  built_factor : (shift : Float) (answer : Built) → FactorHeld s (shifted shift before.diagonal) answer (starts_in s.rows after.pattern) (columns_in s.rows after.pattern) before.order after.order before.values after.values after.diagonal
+pub data FactorBuilt (s : System) (owner : ℕ → ℕ) (before after : Memory) : Mode → Run Preconditioner ℕ → Type 0 where
+  built_diagonal : after ≡ before → FactorBuilt s owner before after modes.Diagonal (going built.Diagonal)
+  built_factor : (shift : Float) (answer : Run ℕ ℕ) → FactorHeld s (shifted shift before.diagonal) answer (starts_in s.rows after.pattern) (columns_in s.rows after.pattern) before.order after.order before.values after.values after.diagonal
       → FactorPast s.rows (pair_count (pattern_of s) s.rows) before.pattern after.pattern before.order after.order before.values after.values → FactorBuilt s owner before after (modes.IncompleteCholesky shift) (factor_prepared answer)
-  built_blocks : (answer : Blocked) → blocks_run s owner before.values ≡ blocked_out answer after.values → after ≡ record { diagonal = before.diagonal; pattern = tabulate owner s.rows; order = before.order; values = after.values }
-      → FactorBuilt s owner before after modes.BlockJacobi (blocks_prepared answer)
+  built_blocks : (answer : Result Unit Refusal) → blocks_run s owner before.values ≡ blocked_out answer after.values → after ≡ record { diagonal = before.diagonal; pattern = tabulate owner s.rows; order = before.order; values = after.values }
+      → FactorBuilt s owner before after modes.BlockJacobi (blocks_prepared (told answer))

@@ -10,7 +10,7 @@ ghost use Rattle.preconditioner.specs.Apply.{diagonal_solve_of, preconditioned_r
 ghost use Rattle.preconditioner.specs.Held.{FactorReady, Ready};
 
 use block_jacobi::apply_block_jacobi_preconditioner;
-use triangular::{Solved, solve};
+use triangular::{Overflow, solve};
 
 // What was built: nothing beside the diagonal, a factor with so many places, or blocks.
 #[derive(Clone, Copy)]
@@ -24,10 +24,8 @@ fn diagonal_solve(residual: &[f64], diagonal: &[f64], output: &mut [f64])
     requires { (length residual.now ≡ length output.old) × (length diagonal.now ≡ length output.old) }
     ensures { output.new ≡ diagonal_solve_of residual.now diagonal.now }
 {
-    let mut i = 0;
-    while i < residual.len() {
+    for i in 0..residual.len() {
         output[i] = residual[i] / diagonal[i];
-        i += 1;
     }
 }
 
@@ -40,7 +38,7 @@ fn solve_factor(
     pivots: &[f64],
     residual: &[f64],
     output: &mut [f64],
-) -> Solved
+) -> Result<(), Overflow>
     requires factor_ready { FactorReady (length output.old) count record { diagonal = pivots.now; pattern = pattern.now; order = order.now; values = values.now } }
     requires pivots_len { (length pivots.now ≡ length output.old) × (length residual.now ≡ length output.old) }
     ensures { solve_run (numbers (starts_in (length output.old) pattern.now) (columns_in (length output.old) pattern.now) values.now) pivots.now residual.now output.old
@@ -68,7 +66,7 @@ pub fn apply_preconditioner(
     values: &[f64],
     residual: &[f64],
     output: &mut [f64],
-) -> Solved
+) -> Result<(), Overflow>
     requires ready { Ready preconditioner (length residual.now) record { diagonal = diagonal.now; pattern = pattern.now; order = order.now; values = values.now } }
     requires residual_len { length residual.now ≡ length output.old }
     ensures residual_value { preconditioned_run preconditioner diagonal.now (numbers (starts_in (length residual.now) pattern.now) (columns_in (length residual.now) pattern.now) values.now) (block_in values.now) (owner_in pattern.now) residual.now
@@ -79,7 +77,7 @@ pub fn apply_preconditioner(
     match preconditioner {
         Preconditioner::Diagonal => {
             diagonal_solve(residual, diagonal, output);
-            Solved::Done
+            Ok(())
         }
         Preconditioner::IncompleteCholesky(count) => {
             loops::clear(output);

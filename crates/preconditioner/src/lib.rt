@@ -11,6 +11,6 @@ pub mod shift; // shift.rt: the shift of mode 1's pivots, and refusal 25
 
 pub use apply::{Preconditioner, apply_preconditioner};
 pub use mode::{Mode, mode_of};
-pub use prepare::{Prepared, build_preconditioner, refusal_of};
+pub use prepare::build_preconditioner;
 pub use room::{order_room, pattern_room, values_room};
 pub use shift::shift_fits;

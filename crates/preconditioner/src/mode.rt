@@ -9,6 +9,7 @@ pub enum Mode {
     BlockJacobi,
 }
 
+#[tactic(auto, unfolding(crate::specs::Mode::mode_of))]
 pub fn mode_of(word: u32, shift: f64) -> Mode
     ensures { result ≡ mode_of word shift }
 {

@@ -6,9 +6,7 @@ pub fn gather_owners(words: &[u32], owners: &mut [u32])
     requires { 8 * length owners.old ≤ length words.now }
     ensures { owners.new ≡ tabulate (λ i. get_or words.now (8 * i + 6) 0) (length owners.old) }
 {
-    let mut i = 0;
-    while i < owners.len() {
+    for i in 0..owners.len() {
         owners[i] = words[8 * i + 6];
-        i += 1;
     }
 }

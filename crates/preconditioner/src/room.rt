@@ -6,6 +6,7 @@ use crate::mode::Mode;
 use loops::wide;
 use pairs::pair_room;
 
+#[tactic(auto, unfolding(crate::specs::Room::pattern_room))]
 pub fn pattern_room(mode: Mode, rows: u32) -> usize
     ensures { result ≡ pattern_room mode rows }
 {
@@ -16,6 +17,7 @@ pub fn pattern_room(mode: Mode, rows: u32) -> usize
     }
 }
 
+#[tactic(auto, unfolding(crate::specs::Room::order_room))]
 pub fn order_room(mode: Mode, rows: u32) -> usize
     ensures { result ≡ order_room mode rows }
 {
@@ -26,6 +28,7 @@ pub fn order_room(mode: Mode, rows: u32) -> usize
     }
 }
 
+#[tactic(auto, unfolding(crate::specs::Room::values_room))]
 pub fn values_room(mode: Mode, rows: u32) -> usize
     ensures { result ≡ values_room mode rows }
 {

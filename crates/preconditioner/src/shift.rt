@@ -7,14 +7,13 @@ pub fn shift_diagonal(diagonal: &mut [f64], shift: f64)
     ensures { diagonal.new ≡ shifted shift diagonal.old }
 {
     let scale = 1.0 + shift;
-    let mut i = 0;
-    while i < diagonal.len() {
+    for i in 0..diagonal.len() {
         diagonal[i] = diagonal[i] * scale;
-        i += 1;
     }
 }
 
 // Refusal 25: true where it does not apply.
+#[tactic(auto, unfolding(crate::specs::Shift::passes25))]
 pub fn shift_fits(shift: f64) -> bool
     ensures { result ≡ passes25 shift }
 {

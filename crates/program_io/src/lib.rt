@@ -7,46 +7,37 @@ ghost use Rattle.program_io.specs.Input.{Filled, IsPrefixLen};
 
 use std::io::{Error, Read};
 
-#[derive(Clone, Copy)]
-pub enum Input {
-    Read(usize),
-    Failed,
-}
-
 fn tell(rt: &HostRuntime, program: &[u8], what: &str, reason: Error) {
     let _ = rt.stderr().write_all(program);
     let _ = eprintln!(rt; ": {what}: {reason}");
 }
 
-// One read: how many bytes now stand at the front of the space, none where the input has ended. A read that fails is told.
-pub fn read_some(rt: &HostRuntime, program: &[u8], space: &mut [u8]) -> Input
+// One read: how many bytes now stand at the front of the space, 0 where the input has ended. A read that fails is told, and there is no number.
+pub fn read_some(rt: &HostRuntime, program: &[u8], space: &mut [u8]) -> Option<usize>
     ensures { Filled result space.new }
 {
     match rt.stdin().read(space) {
-        Ok(count) => Input::Read(count),
+        Ok(count) => Some(count),
         Err(reason) => {
             tell(rt, program, "standard input", reason);
-            Input::Failed
+            None
         }
     }
 }
 
 // Reads on until the space is full or the input ends.
-pub fn read_input(rt: &HostRuntime, program: &[u8], space: &mut [u8]) -> Input
+pub fn read_input(rt: &HostRuntime, program: &[u8], space: &mut [u8]) -> Option<usize>
     ensures { Filled result space.new }
 {
     let mut done = 0;
     while done < space.len() {
-        let read = read_some(rt, program, &mut space[done..]);
-        let Input::Read(more) = read else {
-            return Input::Failed;
-        };
+        let more = read_some(rt, program, &mut space[done..])?;
         if more == 0 {
-            return Input::Read(done);
+            break;
         }
         done += more;
     }
-    Input::Read(done)
+    Some(done)
 }
 
 // Writes all of the text and answers true. Where not all of it is taken, this is told.

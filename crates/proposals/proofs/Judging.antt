@@ -1,5 +1,5 @@
 -- The ways through the commit, and which number is answered exactly where. Assumes nothing.
-use Prim.Native.Nat.{ℕ, zero, suc, ◌*◌, ◌<◌, ◌≤◌}
+use Prim.Native.Nat.{ℕ, ◌*◌, ◌<◌, ◌≤◌}
 use mathlib.Core.Path.{◌≡◌, refl, sym, ap, subst, ◌∙◌}
 use mathlib.Core.Bool.{Bool, true, false, not, ◌&&◌, true≢false, false≢true}
 use mathlib.Core.List.{List, [], ◌∷◌}
@@ -16,7 +16,11 @@ use Rattle.loops.proofs.Every.{every_iff, every_false}
 use Rattle.loops.proofs.Inverse.{saw_bool}
 use Rattle.loops.proofs.Judge.{judge_going}
 use Rattle.position_delivery.specs.Delivery.{gained_after}
-use Rattle.proposals.specs.Commit.{rows_in, count_in, mark_in, commit_lent, bits_now, bits_then, same_multipliers, commit_tests, numbered, Committing, committing_by, committing, Moved, Committed}
+use Rattle.std.specs.Prelude.{Result, Ok, Err, IsErrAnd}
+use Rattle.refusals.specs.Told.{told}
+use Rattle.refusals.specs.declared.Refusal.{Refusal}
+use Rattle.refusals.proofs.Again.{told_again}
+use Rattle.proposals.specs.Commit.{rows_in, count_in, mark_in, commit_lent, bits_now, bits_then, same_multipliers, commit_tests, number_in, Committing, committing_by, committing, Moved, Committed}
 
 -- ---- what has passed refusal 3
 module _ (rows numbers : ℕ) (words : List ℕ) (solution started : ℕ) {b : Bool} (e : b ≡ commit_lent rows numbers words solution started) (h : not b ≡ false) where
@@ -31,31 +35,31 @@ module _ (rows numbers : ℕ) (words : List ℕ) (solution started : ℕ) {b : B
 
 -- ---- the answer of three tests, by each of them
 module _ (numbers : List Float) (words : List ℕ) (solution : List Float) where
-  abbrev told : Bool → Bool → Bool → Committing
-  told a b c = committing_by (judge ((3, a) ∷ (29, b) ∷ (30, c) ∷ [])) numbers words solution
+  abbrev committing_of : Bool → Bool → Bool → Committing
+  committing_of a b c = committing_by (judge ((3, a) ∷ (29, b) ∷ (30, c) ∷ [])) numbers words solution
 
-  told_0 : (a b c : Bool) → ((told a b c).number ≡ 0) ↔ AllPass ((3, a) ∷ (29, b) ∷ (30, c) ∷ [])
+  told_0 : (a b c : Bool) → ((committing_of a b c).number ≡ 0) ↔ AllPass ((3, a) ∷ (29, b) ∷ (30, c) ∷ [])
   unfolding committing_by judge test check on AllPass
   told_0 true true true = (λ e. (refl, (refl, (refl, tt))), λ p. refl)
   told_0 true true false = (λ e. absurd (omega arith), λ p. absurd (false≢true p.1.1.0))
   told_0 true false c = (λ e. absurd (omega arith), λ p. absurd (false≢true p.1.0))
   told_0 false b c = (λ e. absurd (omega arith), λ p. absurd (false≢true p.0))
 
-  told_3 : (a b c : Bool) → ((told a b c).number ≡ 3) ↔ (a ≡ false)
+  told_3 : (a b c : Bool) → ((committing_of a b c).number ≡ 3) ↔ (a ≡ false)
   unfolding committing_by judge test check on
   told_3 true true true = (λ e. absurd (omega arith), λ e. absurd (true≢false e))
   told_3 true true false = (λ e. absurd (omega arith), λ e. absurd (true≢false e))
   told_3 true false c = (λ e. absurd (omega arith), λ e. absurd (true≢false e))
   told_3 false b c = (λ e. refl, λ e. refl)
 
-  told_29 : (a b c : Bool) → ((told a b c).number ≡ 29) ↔ ((a ≡ true) × (b ≡ false))
+  told_29 : (a b c : Bool) → ((committing_of a b c).number ≡ 29) ↔ ((a ≡ true) × (b ≡ false))
   unfolding committing_by judge test check on
   told_29 true true true = (λ e. absurd (omega arith), λ e. absurd (true≢false e.1))
   told_29 true true false = (λ e. absurd (omega arith), λ e. absurd (true≢false e.1))
   told_29 true false c = (λ e. (refl, refl), λ e. refl)
   told_29 false b c = (λ e. absurd (omega arith), λ e. absurd (false≢true e.0))
 
-  told_30 : (a b c : Bool) → ((told a b c).number ≡ 30) ↔ ((a ≡ true) × (b ≡ true) × (c ≡ false))
+  told_30 : (a b c : Bool) → ((committing_of a b c).number ≡ 30) ↔ ((a ≡ true) × (b ≡ true) × (c ≡ false))
   unfolding committing_by judge test check on
   told_30 true true true = (λ e. absurd (omega arith), λ e. absurd (true≢false e.2))
   told_30 true true false = (λ e. (refl, refl, refl), λ e. refl)
@@ -82,7 +86,7 @@ module _ (numbers : List Float) (rows : ℕ) (words : List ℕ) (started : List 
   abbrev kept_numbers_lem : Bool
   kept_numbers_lem = same_multipliers numbers started (length started)
 
-  -- a row whose bits differ is told, and one that is told differs
+  -- a row whose bits differ is committing_of, and one that is committing_of differs
   differs : (kept_numbers_lem ≡ false) ↔ ((i : ℕ) × (i < length started) × ¬ (bits_now numbers i ≡ bits_then started i))
   unfolding same_multipliers
   differs = (λ h. let (i, l, e) = every_false _ (length started) h in (i, l, eqb-false (bits_now numbers i) (bits_then started i) e), λ (i, l, d). back i l d (saw_bool kept_numbers_lem))
@@ -117,10 +121,10 @@ module _ (numbers : List Float) (rows : ℕ) (words : List ℕ) (solution starte
   unfolding commit_tests
   committed_of_lem after e = subst (λ (c : Committing). Committed numbers rows words solution started c) e made
     where
-      twice : ((told numbers words solution lent clear same).number ≡ 29) ↔ ((lent ≡ true) × ¬ (mark_in words ≡ 0))
+      twice : ((committing_of numbers words solution lent clear same).number ≡ 29) ↔ ((lent ≡ true) × ¬ (mark_in words ≡ 0))
       twice = let (there, back) = told_29 numbers words solution lent clear same in (λ h. let (l, m) = there h in (l, (unmarked (mark_in words)).0 m), λ (l, m). back (l, (unmarked (mark_in words)).1 m))
 
-      moved : ((told numbers words solution lent clear same).number ≡ 30) ↔ ((lent ≡ true) × (mark_in words ≡ 0) × Moved numbers rows words started)
+      moved : ((committing_of numbers words solution lent clear same).number ≡ 30) ↔ ((lent ≡ true) × (mark_in words ≡ 0) × Moved numbers rows words started)
       moved = let (there, back) = told_30 numbers words solution lent clear same in (
         λ h. let (l, m, d) = there h in (l, eqb-true (mark_in words) 0 m, (moved_is numbers rows words started).0 d),
         λ (l, m, d). back (l, eq-eqb (mark_in words) 0 m, (moved_is numbers rows words started).1 d),
@@ -130,19 +134,14 @@ module _ (numbers : List Float) (rows : ℕ) (words : List ℕ) (solution starte
       made = record { answered = refl; done = told_0 numbers words solution lent clear same; unfit = told_3 numbers words solution lent clear same; twice = twice; moved = moved; kept = told_kept numbers words solution (judge (commit_tests numbers rows words solution started)) }
 
   -- ---- the ways of `commit_proposal`; r is what the tests answered
-  module _ {r : ℕ} (judged : judge (commit_tests numbers rows words solution started) ≡ numbered r) where
-    pub committed_refused : (r ≡ 0 → ⊥) → Committed numbers rows words solution started (record { number = r; numbers = numbers; words = words })
-    unfolding committing_by numbered
-    committed_refused z = committed_of_lem (record { number = r; numbers = numbers; words = words }) (by r judged z)
-      where
-        by : (k : ℕ) → judge (commit_tests numbers rows words solution started) ≡ numbered k → (k ≡ 0 → ⊥) → committing numbers rows words solution started ≡ record { number = k; numbers = numbers; words = words }
-        by zero e z = absurd (z refl)
-        by (suc k) e z = ap (λ (x : Run Unit ℕ). committing_by x numbers words solution) e
+  module _ {r : Result Unit Refusal} (judged : judge (commit_tests numbers rows words solution started) ≡ told r) where
+    pub committed_refused : (e : Refusal) (b : Result Unit Refusal) → r ≡ Err e → IsErrAnd b (λ y. y ≡ e) → Committed numbers rows words solution started (record { number = number_in (told b); numbers = numbers; words = words })
+    unfolding committing_by
+    committed_refused e b q h = committed_of_lem _ (ap (λ (x : Run Unit ℕ). committing_by x numbers words solution) (judged ∙ ap told q) ∙ rw (told_again b e h))
 
-    module _ (z : r ≡ 0) where
+    module _ (z : r ≡ Ok tt) where
       passed : judge (commit_tests numbers rows words solution started) ≡ going tt
-      unfolding numbered
-      passed = judged ∙ rw z
+      passed = judged ∙ ap told z
 
       pub passed_lengths : (length words ≡ 4) × (27 * length solution ≤ length numbers)
       unfolding commit_tests AllPass
@@ -155,7 +154,3 @@ module _ (numbers : List Float) (rows : ℕ) (words : List ℕ) (solution starte
       pub committed_done : {numbersAfter : List Float} {wordsAfter : List ℕ} → numbersAfter ≡ gained_after 24 (count_in words) numbers solution → wordsAfter ≡ set words 3 1 → Committed numbers rows words solution started (record { number = 0; numbers = numbersAfter; words = wordsAfter })
       unfolding committing_by
       committed_done en ew = committed_of_lem _ (ap (λ (x : Run Unit ℕ). committing_by x numbers words solution) passed ∙ rw (en, ew))
-
--- ---- a turn of `same_multipliers`
-pub bits_tested : (numbers started : List Float) (i a b : ℕ) → a ≡ bits_now numbers i → b ≡ bits_then started i → eqb a b ≡ eqb (bits_now numbers i) (bits_then started i)
-bits_tested numbers started i a b ea eb = rw (ea, eb)

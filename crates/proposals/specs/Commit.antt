@@ -1,5 +1,5 @@
 -- Document 02, l: "a commit writes the new multipliers and marks the proposal"; "Errors: 29, the proposal bears the mark; 30, a multiplier or the row count is not what the proposal started from, bits compared; 29 first, and neither writes".
-use Rattle.std.specs.Prelude.{ℕ, zero, suc, ◌*◌, ◌<◌, ◌≡◌, Bool, true, false, ◌&&◌, List, [], ◌∷◌, ◌⊎◌, ◌↔◌, eqb, leb, get_or, set, length, Float}
+use Rattle.std.specs.Prelude.{ℕ, ◌*◌, ◌<◌, ◌≡◌, Bool, true, false, ◌&&◌, List, [], ◌∷◌, ◌⊎◌, ◌↔◌, eqb, leb, get_or, set, length, Float}
 use Rattle.std.specs.Float.{nan, binary64}
 use Rattle.std.specs.Float.Ieee.{to_bits}
 use Rattle.loops.specs.Run.{Run, going, ended}
@@ -41,9 +41,9 @@ commit_tests numbers rows words solution started =
     ∷ []
 
 -- 0, or the number that a job is turned back with
-unfoldable pub numbered : ℕ → Run Unit ℕ
-numbered zero = going tt
-numbered (suc k) = ended (suc k)
+abbrev pub number_in : Run Unit ℕ → ℕ
+number_in (going _) = 0
+number_in (ended number) = number
 
 -- the answer, the rows' numbers and the proposal's words
 pub record Committing : Type 0 where

@@ -1,7 +1,6 @@
 -- Laws of the recurrence: the vectors that its loops make, the ways through its functions, what tests imply one another, and that its parts are a step.
 pub mod Tested
 pub mod Sums
-pub mod Ways
 pub mod Together
 pub mod Turns
 pub mod OnePass

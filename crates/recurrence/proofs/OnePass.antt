@@ -1,15 +1,12 @@
 -- Mode 0's pass over the rows makes what the definitions make one after the other: the step's solution and residual, its z, and s. Assumes nothing.
-use Prim.Native.Nat.{ℕ, zero, suc, ◌+◌, ◌<◌, ◌≤◌}
-use mathlib.Core.Path.{◌≡◌, refl, sym, ap, ◌∙◌}
-use mathlib.Core.Bool.{Bool, true, false, ◌&&◌}
+use Prim.Native.Nat.{ℕ, zero, suc, ◌+◌, ◌*◌, ◌<◌, ◌≤◌}
+use mathlib.Core.Path.{◌≡◌, refl, sym, subst, ap, ◌∙◌}
+use mathlib.Core.Bool.{Bool, true, false}
 use mathlib.Core.List.{List}
 use native.Mathlib.Numerals.{add-one}
 use native.Mathlib.Omega.{arith}
-use native.Mathlib.Nat.{ne_of_gt}
-use lib.ListN.{length, get_or, set}
-use lib.Seq.{get_or-set_other}
-use lib.Ieee.{Float, nan, binary64, add, sub, mul, div}
-use lib.Ieee.Scale.{finite}
+use lib.ListN.{length, get_or}
+use lib.Ieee.{Float, nan, binary64, sub, mul, div}
 use Rattle.loops.specs.Run.{Run, going, ended, on, next, check}
 use Rattle.loops.specs.Judge.{test}
 use Rattle.loops.specs.Cleared.{plus_zero}
@@ -24,44 +21,13 @@ use Rattle.recurrence.specs.Vectors.{dot_to, dot_product_of, plus_scaled, less_s
 use Rattle.recurrence.specs.Step.{Iterate}
 use Rattle.recurrence.specs.Parts.{moved_of, with_diagonal}
 use Rattle.recurrence.specs.Pass.{Pass, row_of}
-use Rattle.recurrence.specs.Answers.{scale_out, diagonal_out}
-use Rattle.recurrence.specs.declared.ratio.Scale.{Scale}
-use Rattle.recurrence.specs.declared.ratio.Scale.TheVariants as scales
+use Rattle.recurrence.specs.Answers.{diagonal_out}
+use Rattle.refusals.specs.Told.{told}
+use Rattle.refusals.specs.declared.Refusal.{Refusal}
+use Rattle.std.specs.Prelude.{Result, Ok, Err}
 use Rattle.recurrence.proofs.Tested.{Tested, tested_none, tested_more, tested_end}
 use Rattle.recurrence.proofs.Sums.{gains, loses, gained, lost}
 use Rattle.recurrence.proofs.Turns.{advance_bad, advance_is}
-
--- ---- a row
-pub in_each : {i n x r p y d : ℕ} → i < n → x ≡ n → r ≡ n → p ≡ n → y ≡ n → d ≡ n → (i < x) × (i < r) × (i < p) × (i < y) × (i < d)
-in_each l ex er ep ey ed = (omega arith, omega arith, omega arith, omega arith, omega arith)
-
-pub one_row : (a : Float) (y d : List Float) (i : ℕ) (x r p : List Float) (all b : Bool) (s : Float) → b ≡ finite (add binary64 (get_or x i nan) (mul binary64 a (get_or y i nan)))
-    → row_of a y d i (record { solution = x; residual = r; product = p; all = all; sum = s })
-    ≡ record {
-      solution = set x i (add binary64 (get_or x i nan) (mul binary64 a (get_or y i nan)));
-      residual = set r i (sub binary64 (get_or r i nan) (mul binary64 a (get_or p i nan)));
-      product = set p i (div binary64 (sub binary64 (get_or r i nan) (mul binary64 a (get_or p i nan))) (get_or d i nan));
-      all = all && b;
-      sum = add binary64 s (mul binary64 (sub binary64 (get_or r i nan) (mul binary64 a (get_or p i nan))) (div binary64 (sub binary64 (get_or r i nan) (mul binary64 a (get_or p i nan))) (get_or d i nan)));
-    }
-unfolding row_of
-one_row a y d i x r p all b s eb = rw eb
-
--- ---- two rows, the second read before the first is written
-pub two_rows : (a : Float) (y d : List Float) (i : ℕ) (x r p : List Float) (all b c : Bool) (s : Float) → b ≡ finite (add binary64 (get_or x i nan) (mul binary64 a (get_or y i nan))) → c ≡ finite (add binary64 (get_or x (i + 1) nan) (mul binary64 a (get_or y (i + 1) nan)))
-    → row_of a y d (i + 1) (row_of a y d i (record { solution = x; residual = r; product = p; all = all; sum = s }))
-    ≡ record {
-      solution = set (set x i (add binary64 (get_or x i nan) (mul binary64 a (get_or y i nan)))) (i + 1) (add binary64 (get_or x (i + 1) nan) (mul binary64 a (get_or y (i + 1) nan)));
-      residual = set (set r i (sub binary64 (get_or r i nan) (mul binary64 a (get_or p i nan)))) (i + 1) (sub binary64 (get_or r (i + 1) nan) (mul binary64 a (get_or p (i + 1) nan)));
-      product = set (set p i (div binary64 (sub binary64 (get_or r i nan) (mul binary64 a (get_or p i nan))) (get_or d i nan))) (i + 1) (div binary64 (sub binary64 (get_or r (i + 1) nan) (mul binary64 a (get_or p (i + 1) nan))) (get_or d (i + 1) nan));
-      all = (all && b) && c;
-      sum = add binary64 (add binary64 s (mul binary64 (sub binary64 (get_or r i nan) (mul binary64 a (get_or p i nan))) (div binary64 (sub binary64 (get_or r i nan) (mul binary64 a (get_or p i nan))) (get_or d i nan)))) (mul binary64 (sub binary64 (get_or r (i + 1) nan) (mul binary64 a (get_or p (i + 1) nan))) (div binary64 (sub binary64 (get_or r (i + 1) nan) (mul binary64 a (get_or p (i + 1) nan))) (get_or d (i + 1) nan)));
-    }
-unfolding row_of
-two_rows a y d i x r p all b c s eb ec = rw (other x _, other r _, other p _, eb, ec)
-  where
-    other : (l : List Float) (v : Float) → get_or (set l i v) (i + 1) nan ≡ get_or l (i + 1) nan
-    other l v = get_or-set_other l i (i + 1) v nan (ne_of_gt (omega arith))
 
 -- ---- the loop: of n rows i are passed
 pub record Passing (a : Float) (y d : List Float) (first : Pass) (n i : ℕ) (p : Pass) : Type 0 where
@@ -77,10 +43,14 @@ module _ {a : Float} {y d : List Float} {first : Pass} {n : ℕ} where
   unfolding count
   passing_one {i} h l e = record { within = omega arith; led = rw (add-one, h.led) e }
 
-  pub passing_two : {i : ℕ} {p q : Pass} → Passing a y d first n i p → i + 1 < n → row_of a y d (i + 1) (row_of a y d i p) ≡ q → Passing a y d first n (i + 2) q
-  passing_two {i} h l e =
-      let two : (i + 1) + 1 ≡ i + 2 = omega arith in
-      rw two at (passing_one (passing_one h (omega arith) refl) l e)
+  pub passing_pair : (k : ℕ) {p q : Pass} → Passing a y d first n (2 * k) p → 2 * k + 1 < n → row_of a y d (2 * k + 1) (row_of a y d (2 * k) p) ≡ q → Passing a y d first n (2 * (k + 1)) q
+  passing_pair k {p} {q} h l e =
+      let two : (2 * k + 1) + 1 ≡ 2 * (k + 1) = omega arith in
+      subst (λ (i : ℕ). Passing a y d first n i q) two (passing_one (passing_one h (omega arith) refl) l e)
+
+  -- the last of an odd number of rows
+  pub passing_last : {i j : ℕ} {p q : Pass} → Passing a y d first n i p → i ≡ j × j < n → row_of a y d j p ≡ q → Passing a y d first n (j + 1) q
+  passing_last {i} {j} {p} h l e = passing_one (subst (λ (k : ℕ). Passing a y d first n k p) l.0 h) l.1 e
 
 -- ---- what it leaves: a step of length a along y, from solution x₀ and residual r₀ with product p₀, by the diagonal d
 -- what a turn makes of the product that stands at k: z
@@ -166,17 +136,17 @@ module _ (a : Float) (y d x₀ r₀ p₀ : List Float) (er : length r₀ ≡ len
     passed_is : p.all ≡ true → step ≡ going (record { solution = p.solution; residual = p.residual }, p.product, p.sum)
     passed_is t = on_going _ _ _ (advance_is x₀ r₀ y p₀ a p.solution p.all solved (tested_end m.solution_made (omega arith)) p.residual made_r (rw t)) ∙ rw (made_s, made_z)
 
-    passed_told : (q : Scale) → next (test p.all 16) (λ _. going p.sum) ≡ scale_out q → step ≡ diagonal_out q p.solution p.residual p.product
+    passed_told : (q : Result Float Refusal) → next (test p.all 16) (λ _. going p.sum) ≡ told q → step ≡ diagonal_out q p.solution p.residual p.product
     unfolding test check on
     passed_told q h = by p.all refl q h
       where
-        by : (b : Bool) → p.all ≡ b → (q : Scale) → next (test b 16) (λ _. going p.sum) ≡ scale_out q → step ≡ diagonal_out q p.solution p.residual p.product
-        by true e (scales.Value s) g = passed_is e ∙ ap (λ (v : Float). going (record { solution = p.solution; residual = p.residual }, p.product, v)) (going_inj g)
-        by true e (scales.Refused n) g = absurd (apart _ refl g)
-        by false e (scales.Value s) g = absurd (apart _ g refl)
-        by false e (scales.Refused n) g = passed_bad e ∙ ap ended (ended_inj g)
+        by : (b : Bool) → p.all ≡ b → (q : Result Float Refusal) → next (test b 16) (λ _. going p.sum) ≡ told q → step ≡ diagonal_out q p.solution p.residual p.product
+        by true e (Ok s) g = passed_is e ∙ ap (λ (v : Float). going (record { solution = p.solution; residual = p.residual }, p.product, v)) (going_inj g)
+        by true e (Err n) g = absurd (apart _ refl g)
+        by false e (Ok s) g = absurd (apart _ g refl)
+        by false e (Err n) g = passed_bad e ∙ ap ended (ended_inj g)
 
-  pub one_pass : (i : ℕ) (p : Pass) (q : Scale) → Passing a y d first (length x₀) i p → length x₀ ≤ i → next (test p.all 16) (λ _. going p.sum) ≡ scale_out q
+  pub one_pass : (i : ℕ) (p : Pass) (q : Result Float Refusal) → Passing a y d first (length x₀) i p → length x₀ ≤ i → next (test p.all 16) (λ _. going p.sum) ≡ told q
       → next (moved_of record { solution = x₀; residual = r₀ } y p₀ a) (with_diagonal d) ≡ diagonal_out q p.solution p.residual p.product
   one_pass i p q l h g =
       let e : i ≡ length x₀ = omega (arith, l.within) in

@@ -1,5 +1,5 @@
 -- What the answers of the recurrence tell, and what its vectors then hold.
-use Rattle.std.specs.Prelude.{ℕ, ◌≡◌, Bool, true, false, List, Float}
+use Rattle.std.specs.Prelude.{ℕ, ◌≡◌, List, Float, Result, Ok, Err}
 use Rattle.loops.specs.Run.{Run, going, ended, on}
 use Rattle.loops.specs.Cleared.{Free}
 use Rattle.mass_operator.specs.System.{System}
@@ -7,27 +7,23 @@ use Rattle.mass_operator.specs.Operator.{response_at}
 use Rattle.mass_operator.specs.Flat.{coefficients, product_of}
 use Rattle.mass_operator.specs.Lent.{Paired}
 use Rattle.recurrence.specs.Step.{Iterate, Carried}
-use Rattle.recurrence.specs.declared.ratio.Scale.{Scale}
-use Rattle.recurrence.specs.declared.ratio.Scale.TheVariants as scales
+use Rattle.refusals.specs.Number.{number_of}
+use Rattle.refusals.specs.declared.Refusal.{Refusal}
 
-abbrev pub scale_out : Scale → Run Float ℕ
-scale_out (scales.Value x) = going x
-scale_out (scales.Refused number) = ended number
-
--- the answer is whether the solution is finite
-abbrev pub advanced_out : Bool → List Float → List Float → Run Iterate ℕ
-advanced_out true solution residual = going (record { solution = solution; residual = residual })
-advanced_out false solution residual = ended 16
+-- the step, or the refusal of a solution that is not finite
+abbrev pub advanced_out : Result Unit Refusal → List Float → List Float → Run Iterate ℕ
+advanced_out (Ok _) solution residual = going (record { solution = solution; residual = residual })
+advanced_out (Err refusal) solution residual = ended (number_of refusal)
 
 -- the answer is s, and z stands beside the step
-abbrev pub diagonal_out : Scale → List Float → List Float → List Float → Run (Iterate × List Float × Float) ℕ
-diagonal_out (scales.Value s) solution residual z = going (record { solution = solution; residual = residual }, z, s)
-diagonal_out (scales.Refused number) solution residual z = ended number
+abbrev pub diagonal_out : Result Float Refusal → List Float → List Float → List Float → Run (Iterate × List Float × Float) ℕ
+diagonal_out (Ok s) solution residual z = going (record { solution = solution; residual = residual }, z, s)
+diagonal_out (Err refusal) solution residual z = ended (number_of refusal)
 
 -- the answer is s
-abbrev pub carried_out : Scale → List Float → Run Carried ℕ
-carried_out (scales.Value s) direction = going (record { direction = direction; s = s })
-carried_out (scales.Refused number) direction = ended number
+abbrev pub carried_out : Result Float Refusal → List Float → Run Carried ℕ
+carried_out (Ok s) direction = going (record { direction = direction; s = s })
+carried_out (Err refusal) direction = ended (number_of refusal)
 
 -- ---- the vectors that these tell nothing of
 

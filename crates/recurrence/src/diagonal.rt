@@ -5,9 +5,10 @@ ghost use Rattle.loops.specs.Run.{going, next};
 ghost use Rattle.loops.specs.Judge.{test};
 ghost use Rattle.recurrence.specs.Parts.{moved_of, with_diagonal};
 ghost use Rattle.recurrence.specs.Pass.{row_of, pass_out};
-ghost use Rattle.recurrence.specs.Answers.{scale_out, diagonal_out, DiagonalLeft};
+ghost use Rattle.recurrence.specs.Answers.{diagonal_out, DiagonalLeft};
+ghost use Rattle.refusals.specs.Told.{told};
 
-use crate::ratio::Scale;
+use refusals::Refusal;
 
 // Of the rows passed: whether their solution is finite, and their share of s.
 #[derive(Clone, Copy)]
@@ -16,6 +17,7 @@ pub struct Passed {
     pub sum: f64,
 }
 
+#[tactic(auto, unfolding(crate::specs::Pass::row_of))]
 fn update_row(
     solution: &mut [f64],
     residual: &mut [f64],
@@ -43,6 +45,7 @@ fn update_row(
 }
 
 // Rows i and i + 1. Both are read before one is written, so that the machine makes their numbers together, two by one division.
+#[tactic(auto, unfolding(crate::specs::Pass::row_of))]
 fn update_two(
     solution: &mut [f64],
     residual: &mut [f64],
@@ -77,13 +80,13 @@ fn update_two(
 }
 
 // s, once all rows are passed.
-fn passed_product(passed: Passed) -> Scale
-    ensures { next (test passed.all 16) (λ _. going passed.sum) ≡ scale_out result }
+fn passed_product(passed: Passed) -> Result<f64, Refusal>
+    ensures { next (test passed.all 16) (λ _. going passed.sum) ≡ told result }
 {
     if !passed.all {
-        return Scale::Refused(16);
+        return Err(Refusal::Step);
     }
-    Scale::Value(passed.sum)
+    Ok(passed.sum)
 }
 
 // The answer is the new s, not tested yet. After a refusal solution, residual and product are left free.
@@ -94,7 +97,7 @@ pub fn advance_diagonal(
     product: &mut [f64],
     solution: &mut [f64],
     residual: &mut [f64],
-) -> Scale
+) -> Result<f64, Refusal>
     requires { (length residual.old ≡ length solution.old) × (length product.old ≡ length solution.old) × (length direction.now ≡ length solution.old) × (length diagonal.now ≡ length solution.old) }
     ensures diagonal_value { next (moved_of record { solution = solution.entry.now; residual = residual.old } direction.now product.old alpha) (with_diagonal diagonal.now)
         ≡ diagonal_out result solution.exit.now residual.new product.new }
@@ -105,16 +108,28 @@ pub fn advance_diagonal(
         all: true,
         sum: 0.0,
     };
-    let mut i = 0;
-    while i + 1 < n {
+    for pair in 0..n / 2 {
         passed = update_two(
-            solution, residual, product, alpha, direction, diagonal, i, passed,
+            solution,
+            residual,
+            product,
+            alpha,
+            direction,
+            diagonal,
+            2 * pair,
+            passed,
         );
-        i += 2;
     }
-    if i < n {
+    if n % 2 == 1 {
         let last = update_row(
-            solution, residual, product, alpha, direction, diagonal, i, passed,
+            solution,
+            residual,
+            product,
+            alpha,
+            direction,
+            diagonal,
+            n - 1,
+            passed,
         );
         return passed_product(last);
     }

@@ -5,15 +5,20 @@ ghost use Rattle.preconditioner.specs.Held.{Ready, z_run, z_in};
 ghost use Rattle.recurrence.specs.Step.{product_fit, first_from, beta_of, turned_of, renew_from};
 ghost use Rattle.recurrence.specs.Parts.{next_from};
 ghost use Rattle.recurrence.specs.Vectors.{dot_product_of};
-ghost use Rattle.recurrence.specs.Answers.{scale_out, carried_out, CarriedLeft};
+ghost use Rattle.recurrence.specs.Answers.{carried_out, CarriedLeft};
 
-use crate::ratio::{Scale, beta, fit_product};
+use crate::ratio::{beta, fit_product};
 use crate::vector::{dot_product, update_direction};
 use preconditioner::{Preconditioner, apply_preconditioner};
-use triangular::Solved;
+use refusals::Refusal;
 
 // s of a residual and its z, which is the direction at first.
-fn first_direction(residual: &[f64], preconditioned: &[f64], direction: &mut [f64]) -> Scale
+#[tactic(auto, unfolding(crate::specs::Step::first_from, loops::specs::Run::on))]
+fn first_direction(
+    residual: &[f64],
+    preconditioned: &[f64],
+    direction: &mut [f64],
+) -> Result<f64, Refusal>
     requires { (length preconditioned.now ≡ length residual.now) × (length direction.old ≡ length residual.now) }
     ensures { first_from (going preconditioned.now) residual.now ≡ carried_out result direction.new }
 {
@@ -26,38 +31,34 @@ fn turn_direction(
     next_residual_product: f64,
     preconditioned: &[f64],
     direction: &mut [f64],
-) -> Scale
+) -> Result<f64, Refusal>
     requires { length preconditioned.now ≡ length direction.old }
     ensures { next (beta_of next_residual_product residual_product) (turned_of preconditioned.now direction.old next_residual_product) ≡ carried_out result direction.new }
 {
-    match beta(next_residual_product, residual_product) {
-        Scale::Value(scale) => {
-            if !update_direction(direction, preconditioned, scale) {
-                return Scale::Refused(16);
-            }
-            Scale::Value(next_residual_product)
-        }
-        Scale::Refused(number) => Scale::Refused(number),
+    let scale = beta(next_residual_product, residual_product)?;
+    if !update_direction(direction, preconditioned, scale) {
+        return Err(Refusal::Step);
     }
+    Ok(next_residual_product)
 }
 
 // The direction after a step that missed, from z and its s.
+#[tactic(auto, unfolding(crate::specs::Parts::next_from, loops::specs::Run::on))]
 pub fn next_direction(
     next_residual_product: f64,
     residual_product: f64,
     preconditioned: &[f64],
     direction: &mut [f64],
-) -> Scale
+) -> Result<f64, Refusal>
     requires { length preconditioned.now ≡ length direction.old }
     ensures { next_from preconditioned.now record { direction = direction.entry.now; s = residual_product } next_residual_product ≡ carried_out result direction.exit.now }
 {
-    match fit_product(next_residual_product) {
-        Scale::Value(s) => turn_direction(residual_product, s, preconditioned, direction),
-        Scale::Refused(number) => Scale::Refused(number),
-    }
+    let s = fit_product(next_residual_product)?;
+    turn_direction(residual_product, s, preconditioned, direction)
 }
 
 // z, s and direction of step 0. After a refusal the direction is left free.
+#[tactic(auto, unfolding(crate::specs::Step::first_from, crate::specs::Answers::standing, loops::specs::Run::on))]
 pub fn first(
     preconditioner: Preconditioner,
     diagonal: &[f64],
@@ -67,7 +68,7 @@ pub fn first(
     residual: &[f64],
     preconditioned: &mut [f64],
     direction: &mut [f64],
-) -> Scale
+) -> Result<f64, Refusal>
     requires ready { Ready preconditioner (length residual.now) record { diagonal = diagonal.now; pattern = pattern.now; order = order.now; values = values.now } }
     requires preconditioned_len { (length preconditioned.old ≡ length residual.now) × (length direction.old ≡ length residual.now) }
     ensures residual_value { first_from (z_in preconditioner (length residual.now) record { diagonal = diagonal.entry.now; pattern = pattern.now; order = order.now; values = values.now } residual.now) residual.now
@@ -75,7 +76,7 @@ pub fn first(
     ensures carried_left { CarriedLeft (z_run preconditioner (length residual.now) record { diagonal = diagonal.entry.now; pattern = pattern.now; order = order.now; values = values.now } residual.now)
         preconditioned.new direction.old direction.new }
 {
-    let Solved::Done = apply_preconditioner(
+    apply_preconditioner(
         preconditioner,
         diagonal,
         pattern,
@@ -83,13 +84,12 @@ pub fn first(
         values,
         residual,
         preconditioned,
-    ) else {
-        return Scale::Refused(16);
-    };
+    )?;
     first_direction(residual, preconditioned, direction)
 }
 
 // z, s and direction of a later step. After a refusal the direction is left free.
+#[tactic(auto, unfolding(crate::specs::Step::renew_from, crate::specs::Parts::next_from, crate::specs::Answers::standing, loops::specs::Run::on))]
 pub fn renew(
     preconditioner: Preconditioner,
     diagonal: &[f64],
@@ -100,7 +100,7 @@ pub fn renew(
     residual_product: f64,
     preconditioned: &mut [f64],
     direction: &mut [f64],
-) -> Scale
+) -> Result<f64, Refusal>
     requires ready { Ready preconditioner (length residual.now) record { diagonal = diagonal.now; pattern = pattern.now; order = order.now; values = values.now } }
     requires preconditioned_len { (length preconditioned.old ≡ length residual.now) × (length direction.old ≡ length residual.now) }
     ensures residual_product_value { renew_from (z_in preconditioner (length residual.now) record { diagonal = diagonal.entry.now; pattern = pattern.now; order = order.now; values = values.now } residual.now) residual.now record { direction = direction.entry.now; s = residual_product }
@@ -108,7 +108,7 @@ pub fn renew(
     ensures carried_left { CarriedLeft (z_run preconditioner (length residual.now) record { diagonal = diagonal.entry.now; pattern = pattern.now; order = order.now; values = values.now } residual.now)
         preconditioned.new direction.old direction.new }
 {
-    let Solved::Done = apply_preconditioner(
+    apply_preconditioner(
         preconditioner,
         diagonal,
         pattern,
@@ -116,9 +116,7 @@ pub fn renew(
         values,
         residual,
         preconditioned,
-    ) else {
-        return Scale::Refused(16);
-    };
+    )?;
     let s = dot_product(residual, preconditioned);
     next_direction(s, residual_product, preconditioned, direction)
 }

@@ -4,15 +4,14 @@ ghost use Rattle.mass_operator.specs.Applied.{all_finite_of};
 ghost use Rattle.recurrence.specs.Vectors.{dot_product_of, plus_scaled, less_scaled};
 
 // checked_dot_product of pcg.rs, untested.
+#[tactic(auto, unfolding(mass_operator::specs::Dot::dot_to, mass_operator::specs::Dot::dot_product_of))]
 pub fn dot_product(left: &[f64], right: &[f64]) -> f64
     requires { length left.now ≡ length right.now }
     ensures { result ≡ dot_product_of left.now right.now }
 {
     let mut sum = 0.0;
-    let mut i = 0;
-    while i < left.len() {
+    for i in 0..left.len() {
         sum = sum + left[i] * right[i];
-        i += 1;
     }
     sum
 }
@@ -24,12 +23,10 @@ pub fn scaled_add(out: &mut [f64], scale: f64, vector: &[f64]) -> bool
     ensures value { result ≡ all_finite_of out.new }
 {
     let mut all = true;
-    let mut i = 0;
-    while i < out.len() {
+    for i in 0..out.len() {
         let next = out[i] + scale * vector[i];
         out[i] = next;
         all = all & binary64::is_finite(next);
-        i += 1;
     }
     all
 }
@@ -39,10 +36,8 @@ pub fn scaled_subtract(out: &mut [f64], scale: f64, vector: &[f64])
     requires { length vector.now ≡ length out.old }
     ensures { out.new ≡ less_scaled out.old scale vector.now }
 {
-    let mut i = 0;
-    while i < out.len() {
+    for i in 0..out.len() {
         out[i] = out[i] - scale * vector[i];
-        i += 1;
     }
 }
 
@@ -53,12 +48,10 @@ pub fn update_direction(direction: &mut [f64], preconditioned: &[f64], scale: f6
     ensures value { result ≡ all_finite_of direction.new }
 {
     let mut all = true;
-    let mut i = 0;
-    while i < direction.len() {
+    for i in 0..direction.len() {
         let next = preconditioned[i] + scale * direction[i];
         direction[i] = next;
         all = all & binary64::is_finite(next);
-        i += 1;
     }
     all
 }

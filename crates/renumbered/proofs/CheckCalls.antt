@@ -8,9 +8,7 @@ use lib.Ieee.{Float}
 use Rattle.loops.proofs.Tabulate.{tabulate_same}
 use Rattle.kapitsa_joint.specs.declared.maxima.Maxima.{Maxima}
 use Rattle.check_range.specs.Closing.{Closing}
-use Rattle.check_answer.specs.Answer.{check_of, named_by, CheckMeaning}
-use Rattle.check_answer.specs.declared.CheckAnswer.{CheckAnswer}
-use Rattle.check_answer.specs.declared.CheckAnswer.TheVariants.{Closed, Open, Refused}
+use Rattle.check_answer.specs.Answer.{check_of, named_by, CheckMeaning, CheckAnswer}
 use Rattle.check_work.specs.Work.{CheckMemory}
 use Rattle.closing_check.specs.Checked.{Checked}
 use Rattle.check_alone.specs.Checked.{AloneHeld}
@@ -20,20 +18,22 @@ use Rattle.renumbered.specs.Renumber.{Renumbering, InRange}
 use Rattle.renumbered.specs.Lists.{LentJob, table_in, check_in, Long, renumbered_job}
 use Rattle.renumbered.specs.Calls.{VerdictsAlike, MarginsAlike}
 use Rattle.renumbered.proofs.Lists.{check_three, renumbers_job}
+use Rattle.check_answer.specs.declared.Verdict.TheVariants.{Closed, Open}
+use Rattle.loops.specs.Run.{going, ended}
 
 -- ---- the rule of each row, where there is a verdict
-named_alike : (c d : Closing) (named named' : List ℕ) (answer : CheckAnswer) → ((n : ℕ) → answer ≡ Refused n → ⊥) → d.table.rows ≡ c.table.rows → ((i : ℕ) → i < c.table.rows → d.rule i ≡ c.rule i) → named_by answer d named' ≡ named_by answer c named
-named_alike c d named named' (Closed g) v e h = rw e (tabulate_same d.rule c.rule c.table.rows h)
-named_alike c d named named' (Open g) v e h = rw e (tabulate_same d.rule c.rule c.table.rows h)
-named_alike c d named named' (Refused n) v e h = absurd (v n refl)
+named_alike : (c d : Closing) (named named' : List ℕ) (answer : CheckAnswer) → ((n : ℕ) → answer ≡ ended n → ⊥) → d.table.rows ≡ c.table.rows → ((i : ℕ) → i < c.table.rows → d.rule i ≡ c.rule i) → named_by answer d named' ≡ named_by answer c named
+named_alike c d named named' (going (Closed g)) v e h = rw e (tabulate_same d.rule c.rule c.table.rows h)
+named_alike c d named named' (going (Open g)) v e h = rw e (tabulate_same d.rule c.rule c.table.rows h)
+named_alike c d named named' (ended n) v e h = absurd (v n refl)
 
-named_kept : (c : Closing) (named : List ℕ) (answer : CheckAnswer) (n : ℕ) → answer ≡ Refused n → named_by answer c named ≡ named
-named_kept c named (Closed g) n e = absurd (let z : ◌≡◌ {A = ℕ} 0 1 = cc in omega arith)
-named_kept c named (Open g) n e = absurd (let z : ◌≡◌ {A = ℕ} 0 1 = cc in omega arith)
-named_kept c named (Refused m) n e = refl
+named_kept : (c : Closing) (named : List ℕ) (answer : CheckAnswer) (n : ℕ) → answer ≡ ended n → named_by answer c named ≡ named
+named_kept c named (going (Closed g)) n e = absurd (let z : ◌≡◌ {A = ℕ} 0 1 = cc in omega arith)
+named_kept c named (going (Open g)) n e = absurd (let z : ◌≡◌ {A = ℕ} 0 1 = cc in omega arith)
+named_kept c named (ended m) n e = refl
 
 -- a verdict is given only where 3 passes
-fitted : (fits : Bool) (c : Closing) (answer : CheckAnswer) → answer ≡ check_of fits c → ((n : ℕ) → answer ≡ Refused n → ⊥) → fits ≡ true
+fitted : (fits : Bool) (c : Closing) (answer : CheckAnswer) → answer ≡ check_of fits c → ((n : ℕ) → answer ≡ ended n → ⊥) → fits ≡ true
 fitted true c answer e v = refl
 fitted false c answer e v = absurd (v 3 (e ∙ check_three c))
 
@@ -69,10 +69,10 @@ module _ (p q : ℕ → ℕ) (j : LentJob) (r : Renumbering j.bodies p q) (insid
     told_alike : answer ≡ check_of fits old → answer' ≡ check_of fits new → CheckMeaning fits old answer → MarginsTold fits old answer rows margins rowsAfter marginsAfter → MarginsTold fits new answer' rows' margins' rowsAfter' marginsAfter' → MarginsAlike answer rowsAfter rowsAfter' marginsAfter marginsAfter'
     told_alike x y means t t' = record { listed = listing }
       where
-        listing : (g : Maxima) → answer ≡ Closed g → (rowsAfter' ≡ rowsAfter) × (marginsAfter' ≡ marginsAfter)
+        listing : (g : Maxima) → answer ≡ going (Closed g) → (rowsAfter' ≡ rowsAfter) × (marginsAfter' ≡ marginsAfter)
         listing g e =
             let job = renumbers_job p q j r inside fits long in
-            let v : (n : ℕ) → answer ≡ Refused n → ⊥ = λ n f. let z : ◌≡◌ {A = ℕ} 0 1 = cc in omega arith in
+            let v : (n : ℕ) → answer ≡ ended n → ⊥ = λ n f. let z : ◌≡◌ {A = ℕ} 0 1 = cc in omega arith in
             let (a, b) = t.answered g e in
             let (a', b') = t'.answered g (y ∙ job.checks listed ∙ sym x ∙ e) in
             let (c, d) = (job.measures (fitted fits old answer x v) listed).margins (all_sized means v) in

@@ -15,7 +15,6 @@ use Rattle.kapitsa_joint.specs.declared.kind.Kind.TheVariants as kinds
 use Rattle.joint_refusals.specs.Counts.{counts_fit}
 use Rattle.preconditioner.specs.declared.mode.Mode.{Mode}
 use Rattle.position_delivery.specs.Outcome.{Lent}
-use Rattle.position_delivery.specs.declared.answer.PositionPcg.{PositionPcg}
 use Rattle.work_memory.specs.Lengths.{table_fits}
 use Rattle.work_memory.proofs.Lengths.{table_lengths_lem}
 use Rattle.solve_by_rules.specs.Ruled.{rules_lent, centres_lent, beside_lent}
@@ -23,7 +22,6 @@ use Rattle.own_memory.specs.Job.{job_fits, JobSolved}
 use Rattle.check_refusals.specs.Refusals.{beside_of, table_lengths}
 use Rattle.check_refusals.specs.declared.fit.TableLengths.{TableLengths}
 use Rattle.check_refusals.proofs.Fitting.{given_of}
-use Rattle.check_answer.specs.declared.CheckAnswer.{CheckAnswer}
 use Rattle.check_alone.specs.Checked.{AloneHeld}
 use Rattle.closing_margins.specs.Held.{margins_lent, MarginsAlone}
 use Rattle.renumbered.specs.Renumber.{Renumbering, InRange}
@@ -33,7 +31,10 @@ use Rattle.renumbered.specs.Calls.{solve_fits, check_fits, SolvedAlike, Verdicts
 use Rattle.renumbered.proofs.Along.{along_long}
 use Rattle.renumbered.proofs.Words.{words_kept}
 use Rattle.renumbered.proofs.Calls.{jobs_alike}
+use Rattle.loops.specs.Run.{Run}
+use Rattle.position_delivery.specs.declared.answer.PositionPcgResult.{PositionPcgResult}
 use Rattle.renumbered.proofs.CheckCalls.{alone_alike, margins_alone_alike}
+use Rattle.check_answer.specs.Answer.{CheckAnswer}
 
 -- ---- 3 of a solve
 beside_long : (kind : Kind) (rows bodies centres newCentres residual : ℕ) → beside_lent kind rows bodies centres newCentres residual ≡ true → kind ≡ kinds.Position → centres ≡ 3 * bodies
@@ -98,7 +99,7 @@ both_long b fits j l = record {
 -- ---- the calls. ' is that of the renumbered job; what takes the answer is as long in both
 module _ (p q : ℕ → ℕ) (j : LentJob) (r : Renumbering j.bodies p q) (inside : InRange (table_in j)) where
   -- `solve_position`, `solve_small_position`, `solve_velocity`, in every mode
-  pub solve_entries : (mode solution impulses newCentres names : ℕ) (shift : Float) (way : Mode) (limit place : ℕ) (before after before' after' : Lent) (named namedAfter named' namedAfter' : List ℕ) (answer answer' : PositionPcg)
+  pub solve_entries : (mode solution impulses newCentres names : ℕ) (shift : Float) (way : Mode) (limit place : ℕ) (before after before' after' : Lent) (named namedAfter named' namedAfter' : List ℕ) (answer answer' : Run PositionPcgResult ℕ)
       → JobSolved (solve_fits j mode solution impulses newCentres names) j.rules (solve_in j shift) way limit place j.rows before after named namedAfter answer
       → JobSolved (solve_fits (renumbered_job p q j) mode solution impulses newCentres names) j.rules (solve_in (renumbered_job p q j) shift) way limit place j.rows before' after' named' namedAfter' answer'
       → SolvedAlike q before after before' after' named namedAfter named' namedAfter' answer answer'

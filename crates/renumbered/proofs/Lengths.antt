@@ -5,7 +5,7 @@ use mathlib.Core.Bool.{Bool}
 use lib.ListN.{length, length-replicate}
 use lib.Ieee.{Float}
 use Rattle.loops.specs.Cleared.{plus_zero}
-use Rattle.loops.specs.Run.{going}
+use Rattle.loops.specs.Run.{going, Run}
 use Rattle.loops.proofs.Inverse.{going_inj, next_going}
 use Rattle.kapitsa_joint.specs.Table.{Table}
 use Rattle.kapitsa_joint.specs.Centre.{Centres}
@@ -17,8 +17,6 @@ use Rattle.recurrence.specs.Step.{Iterate}
 use Rattle.position.specs.Problem.{Problem}
 use Rattle.solve_method.specs.Method.{Delivered, finish_of, method_of}
 use Rattle.position_delivery.specs.Outcome.{Lent, MeaningAt}
-use Rattle.position_delivery.specs.declared.answer.PositionPcg.{PositionPcg}
-use Rattle.position_delivery.specs.declared.answer.PositionPcg.TheVariants as answers
 use Rattle.position_delivery.specs.declared.answer.PositionPcgResult.{PositionPcgResult}
 
 -- what is delivered of any step
@@ -35,9 +33,9 @@ finish_long t accumulated c (suc k) v f e =
     (ap (λ (x : Delivered). length x.impulses) d ∙ flat_length _ t.bodies, ap (λ (x : Delivered). length x.centres) d ∙ flat_centres_long _)
 
 -- by what an accepted answer means
-pub accepted_long : (fits : Bool) (s : Problem) (mode : Mode) (limit place n : ℕ) (before after : Lent) (answer : PositionPcg) (r : PositionPcgResult) → MeaningAt (method_of fits s mode) limit place n before answer after → answer ≡ answers.Accepted r
+pub accepted_long : (fits : Bool) (s : Problem) (mode : Mode) (limit place n : ℕ) (before after : Lent) (answer : Run PositionPcgResult ℕ) (r : PositionPcgResult) → MeaningAt (method_of fits s mode) limit place n before answer after → answer ≡ going r
     → (length after.impulses ≡ 6 * s.table.bodies) × (length after.centres ≡ 3 * s.centres.bodies)
 accepted_long fits s mode limit place n before after answer r m e =
-    let a = subst (λ (x : PositionPcg). MeaningAt (method_of fits s mode) limit place n before x after) e m in
+    let a = subst (λ (x : Run PositionPcgResult ℕ). MeaningAt (method_of fits s mode) limit place n before x after) e m in
     let (i, c) = finish_long s.table s.accumulated s.centres r.iterations a.step a.delivered a.accepted.finished in
     (ap (λ (l : Lent). length l.impulses) a.lent_is ∙ i, ap (λ (l : Lent). length l.centres) a.lent_is ∙ c)

@@ -29,7 +29,6 @@ use Rattle.check_range.specs.Closing.{Closing, closing_for}
 use Rattle.check_measure.specs.Verdict.{reach}
 use Rattle.margins_list.specs.Margins.{dimension_word}
 use Rattle.check_answer.specs.Answer.{check_of}
-use Rattle.check_answer.specs.declared.CheckAnswer.TheVariants.{Refused}
 use Rattle.theorems.specs.Below.{AgreeBelow, TablesAlike, ClosingsAgree}
 use Rattle.theorems.proofs.Tables.{BodiesBelow}
 use Rattle.theorems.proofs.Tables as below
@@ -52,7 +51,7 @@ pub solve_three : (x : Problem) (mode : Mode) (limit : ℕ) → solve (method_of
 unfolding solve opening_of judge test check on
 solve_three x mode limit = refl
 
-pub check_three : (c : Closing) → check_of false c ≡ Refused 3
+pub check_three : (c : Closing) → check_of false c ≡ ended 3
 unfolding check_of judge test check on
 check_three c = refl
 

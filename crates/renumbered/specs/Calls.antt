@@ -6,18 +6,17 @@ use Rattle.steps.specs.Alike.{delivering}
 use Rattle.steps.specs.Solve.{solve}
 use Rattle.solve_method.specs.Method.{method_of}
 use Rattle.position_delivery.specs.Outcome.{Lent}
-use Rattle.position_delivery.specs.declared.answer.PositionPcg.{PositionPcg}
-use Rattle.position_delivery.specs.declared.answer.PositionPcg.TheVariants as answers
 use Rattle.position_delivery.specs.declared.answer.PositionPcgResult.{PositionPcgResult}
-use Rattle.check_answer.specs.Answer.{check_of}
-use Rattle.check_answer.specs.declared.CheckAnswer.{CheckAnswer}
-use Rattle.check_answer.specs.declared.CheckAnswer.TheVariants.{Closed, Refused}
+use Rattle.check_answer.specs.Answer.{check_of, CheckAnswer}
 use Rattle.kapitsa_joint.specs.Kind.{by_kind}
 use Rattle.check_refusals.specs.Refusals.{given_fits, table_lengths}
 use Rattle.own_memory.specs.Job.{job_fits}
 use Rattle.renumbered.specs.Moved.{moved_impulses, moved_centres, moved}
 use Rattle.renumbered.specs.Lists.{LentJob, solve_in, check_in, renumbered_job}
+use Rattle.loops.specs.Run.{Run, going, ended}
 use Rattle.renumbered.specs.Claims.{CheckedAlike}
+use Rattle.check_answer.specs.declared.Verdict.TheVariants.{Closed}
+use Rattle.loops.specs.Run.{going, ended}
 
 -- ---- of the definitions; `fits` is whether 3 passes, and 3 judges both alike
 pub record RenumbersJob (p q : ℕ → ℕ) (fits : Bool) (j : LentJob) : Type 0 where
@@ -44,16 +43,16 @@ pub record LentAlike (q : ℕ → ℕ) (old new : Lent) : Type 0 where
   pub impulses : new.impulses ≡ moved_impulses q old.impulses
   pub centres : new.centres ≡ moved_centres q old.centres
 
-pub record SolvedAlike (q : ℕ → ℕ) (before after before' after' : Lent) (named namedAfter named' namedAfter' : List ℕ) (answer answer' : PositionPcg) : Type 0 where
+pub record SolvedAlike (q : ℕ → ℕ) (before after before' after' : Lent) (named namedAfter named' namedAfter' : List ℕ) (answer answer' : Run PositionPcgResult ℕ) : Type 0 where
   pub answered : answer' ≡ answer  -- refusal, or flag, count and residuals
-  pub accepted : (r : PositionPcgResult) → answer ≡ answers.Accepted r → before'.numbers ≡ before.numbers → LentAlike q after after' × (namedAfter' ≡ namedAfter)
-  pub refused : (n : ℕ) → answer ≡ answers.Refused n → (after ≡ before) × (after' ≡ before') × (namedAfter ≡ named) × (namedAfter' ≡ named')
+  pub accepted : (r : PositionPcgResult) → answer ≡ going r → before'.numbers ≡ before.numbers → LentAlike q after after' × (namedAfter' ≡ namedAfter)
+  pub refused : (n : ℕ) → answer ≡ ended n → (after ≡ before) × (after' ≡ before') × (namedAfter ≡ named) × (namedAfter' ≡ named')
 
 -- ---- of two calls of a check, and of two that list the margins
 pub record VerdictsAlike (named namedAfter named' namedAfter' : List ℕ) (answer answer' : CheckAnswer) : Type 0 where
   pub answered : answer' ≡ answer  -- refusal, or verdict and measured gap
-  pub given : ((n : ℕ) → answer ≡ Refused n → ⊥) → namedAfter' ≡ namedAfter
-  pub refused : (n : ℕ) → answer ≡ Refused n → (namedAfter ≡ named) × (namedAfter' ≡ named')
+  pub given : ((n : ℕ) → answer ≡ ended n → ⊥) → namedAfter' ≡ namedAfter
+  pub refused : (n : ℕ) → answer ≡ ended n → (namedAfter ≡ named) × (namedAfter' ≡ named')
 
 pub record MarginsAlike (answer : CheckAnswer) (rows rows' : List ℕ) (margins margins' : List Float) : Type 0 where
-  pub listed : (g : Maxima) → answer ≡ Closed g → (rows' ≡ rows) × (margins' ≡ margins)
+  pub listed : (g : Maxima) → answer ≡ going (Closed g) → (rows' ≡ rows) × (margins' ≡ margins)

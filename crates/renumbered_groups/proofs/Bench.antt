@@ -5,6 +5,7 @@ use mathlib.Core.Bool.{Bool, true}
 use mathlib.Core.List.{List}
 use native.Mathlib.Omega.{arith}
 use lib.ListN.{length, get_or}
+use Rattle.loops.specs.Run.{Run, going, ended}
 use Rattle.loops.specs.Judge.{AllPass}
 use Rattle.loops.proofs.Inverse.{apart, ended_inj}
 use Rattle.loops.proofs.Judge.{judge_going}
@@ -18,8 +19,6 @@ use Rattle.group_step.specs.Bench.{Bench, Lending, bench_table, bench_problem}
 use Rattle.group_step.specs.Group.{GroupSolved}
 use Rattle.groups_solve.specs.Judged.{whole_tests, grouping_out}
 use Rattle.groups_solve.specs.Solved.{BenchSolved, GroupsSolved}
-use Rattle.groups_solve.specs.declared.grouping.Grouping.{Grouping}
-use Rattle.groups_solve.specs.declared.grouping.Grouping.TheVariants.{Groups, Refused}
 use Rattle.renumbered.specs.Renumber.{Renumbering, InRange}
 use Rattle.renumbered.specs.Lists.{LentJob, Long}
 use Rattle.renumbered.proofs.Along.{along_at}
@@ -80,20 +79,20 @@ module _ (p q : ℕ → ℕ) (b : Bench) (r : Renumbering b.bodies p q) (before 
 
   module _ (fits : Bool) (long : Long fits (job_of b before.table.numbers)) where
     -- 3 passes where there are groups
-    fitted : (answer : Grouping) (count : ℕ) → GroupsSolved fits b before after answer → answer ≡ Groups count → fits ≡ true
+    fitted : (answer : Run ℕ ℕ) (count : ℕ) → GroupsSolved fits b before after answer → answer ≡ going count → fits ≡ true
     unfolding AllPass
     fitted answer count x e = ((judge_going (whole_tests fits (bench_problem b before.table.numbers))).0 (x.answered ∙ ap grouping_out e)).0
 
-    answered : (answer answer' : Grouping) → GroupsSolved fits b before after answer → GroupsSolved fits (renumbered_bench p q b) (same_numbers before other) after' answer' → answer' ≡ answer
+    answered : (answer answer' : Run ℕ ℕ) → GroupsSolved fits b before after answer → GroupsSolved fits (renumbered_bench p q b) (same_numbers before other) after' answer' → answer' ≡ answer
     answered answer answer' x y = go answer answer' x y (sym y.answered ∙ whole_same p q b before.table.numbers r inside fits (long_here fits (job_of b before.table.numbers) long) ∙ x.answered)
       where
-        go : (a a' : Grouping) → GroupsSolved fits b before after a → GroupsSolved fits (renumbered_bench p q b) (same_numbers before other) after' a' → grouping_out a' ≡ grouping_out a → a' ≡ a
-        go (Groups c) (Groups c') x y e = ap Groups (counts (long_here fits (job_of b before.table.numbers) long (fitted (Groups c) c x refl)) c c' (x.solved c refl) (y.solved c' refl))
-        go (Groups c) (Refused n') x y e = absurd (apart _ e refl)
-        go (Refused n) (Groups c') x y e = absurd (apart _ (sym e) refl)
-        go (Refused n) (Refused n') x y e = ap Refused (ended_inj e)
+        go : (a a' : Run ℕ ℕ) → GroupsSolved fits b before after a → GroupsSolved fits (renumbered_bench p q b) (same_numbers before other) after' a' → grouping_out a' ≡ grouping_out a → a' ≡ a
+        go (going c) (going c') x y e = ap going (counts (long_here fits (job_of b before.table.numbers) long (fitted (going c) c x refl)) c c' (x.solved c refl) (y.solved c' refl))
+        go (going c) (ended n') x y e = absurd (apart _ e refl)
+        go (ended n) (going c') x y e = absurd (apart _ (sym e) refl)
+        go (ended n) (ended n') x y e = ap ended (ended_inj e)
 
-    pub groups_alike : (answer answer' : Grouping) (x : GroupsSolved fits b before after answer) → GroupsSolved fits (renumbered_bench p q b) (same_numbers before other) after' answer' → GroupsAlike p fits b before after after' answer answer' x
+    pub groups_alike : (answer answer' : Run ℕ ℕ) (x : GroupsSolved fits b before after answer) → GroupsSolved fits (renumbered_bench p q b) (same_numbers before other) after' answer' → GroupsAlike p fits b before after after' answer answer' x
     groups_alike answer answer' x y = record {
       answered = answered answer answer' x y;
       solved = λ count e. bench_alike (long_here fits (job_of b before.table.numbers) long (fitted answer count x e)) count count (x.solved count e) (y.solved count (answered answer answer' x y ∙ e));

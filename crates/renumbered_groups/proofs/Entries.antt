@@ -3,11 +3,11 @@ use Prim.Native.Nat.{ℕ}
 use mathlib.Core.Path.{◌≡◌, subst}
 use mathlib.Core.Bool.{Bool, ◌&&◌}
 use lib.ListN.{length}
+use Rattle.loops.specs.Run.{Run}
 use Rattle.loops.proofs.Both.{both}
 use Rattle.group_step.specs.Bench.{Bench, Lending, bench_table}
 use Rattle.groups_solve.specs.Judged.{groups_lent}
 use Rattle.groups_solve.specs.Solved.{SameLengths, GroupsSolved}
-use Rattle.groups_solve.specs.declared.grouping.Grouping.{Grouping}
 use Rattle.renumbered.specs.Renumber.{Renumbering, InRange}
 use Rattle.renumbered.specs.Lists.{LentJob, Long}
 use Rattle.renumbered.specs.Calls.{solve_fits}
@@ -28,7 +28,7 @@ module _ (p q : ℕ → ℕ) (b : Bench) (r : Renumbering b.bodies p q) (before 
   fits_kept : groups_fit (renumbered_bench p q b) (same_numbers before other) ≡ groups_fit b before
   fits_kept = rw (same.solution, same.impulses, same.centres, same.rules, same.groups, same.answers, same.maxima, solve_fits_kept (job_of b before.table.numbers) b.mode (length before.table.solution) (length before.table.impulses) (length before.table.centres) (length before.rules) p q)
 
-  pub groups_entries : (answer answer' : Grouping) (x : GroupsSolved (groups_fit b before) b before after answer) → GroupsSolved (groups_fit (renumbered_bench p q b) (same_numbers before other)) (renumbered_bench p q b) (same_numbers before other) after' answer' → GroupsAlike p (groups_fit b before) b before after after' answer answer' x
+  pub groups_entries : (answer answer' : Run ℕ ℕ) (x : GroupsSolved (groups_fit b before) b before after answer) → GroupsSolved (groups_fit (renumbered_bench p q b) (same_numbers before other)) (renumbered_bench p q b) (same_numbers before other) after' answer' → GroupsAlike p (groups_fit b before) b before after after' answer answer' x
   groups_entries answer answer' x y =
       let fits = solve_fits (job_of b before.table.numbers) b.mode (length before.table.solution) (length before.table.impulses) (length before.table.centres) (length before.rules) in
       let lent = groups_lent b.rows (length before.groups) (length before.answers) (length before.maxima) in

@@ -13,8 +13,6 @@ use Rattle.kapitsa_joint.specs.declared.kind.Kind.TheVariants as kinds
 use Rattle.preconditioner.specs.Mode.{mode_of}
 use Rattle.solve_method.specs.Position.{solve_for}
 use Rattle.position_delivery.specs.Outcome.{Lent}
-use Rattle.position_delivery.specs.declared.answer.PositionPcg.{PositionPcg}
-use Rattle.position_delivery.specs.declared.answer.PositionPcg.TheVariants as answers
 use Rattle.position_delivery.specs.declared.answer.PositionPcgResult.{PositionPcgResult}
 use Rattle.own_memory.specs.Job.{JobSolved}
 use Rattle.group_table.specs.Pick.{pick_rows}
@@ -29,6 +27,7 @@ use Rattle.renumbered.proofs.Lengths.{accepted_long}
 use Rattle.renumbered.proofs.Calls.{jobs_alike}
 use Rattle.renumbered_groups.specs.Bench.{renumbered_bench, job_of, group_job}
 use Rattle.renumbered_groups.specs.Claims.{BodyAlike, AcceptedAlike, GroupAlike, same_numbers}
+use Rattle.loops.specs.Run.{Run, going}
 use Rattle.renumbered_groups.proofs.Picked.{Below, pick_renumbered, group_inside, group_long}
 
 -- how many bodies have a centre
@@ -69,7 +68,7 @@ module _ (p q : ℕ → ℕ) (b : Bench) (r : Renumbering b.bodies p q) (g : ℕ
   told (suc (suc zero)) h = y.told.flag ∙ ap flag_of alike.answered ∙ sym x.told.flag
   told (suc (suc (suc c))) h = absurd (omega arith)
 
-  module _ (a : PositionPcgResult) (e : x.answer ≡ answers.Accepted a) where
+  module _ (a : PositionPcgResult) (e : x.answer ≡ going a) where
     same : LentAlike q left left'
     same = (alike.accepted a e refl).0
 
@@ -93,8 +92,8 @@ module _ (p q : ℕ → ℕ) (b : Bench) (r : Renumbering b.bodies p q) (g : ℕ
       numbers = same.numbers;
       solution = same.solution;
       rules = (alike.accepted a e refl).1;
-      linear = y.told.linear ∙ ap (λ (z : PositionPcg). linear_of z (get_or other.maxima (2 * g) nan)) (alike.answered ∙ e) ∙ sym (x.told.linear ∙ ap (λ (z : PositionPcg). linear_of z (get_or before.maxima (2 * g) nan)) e);
-      angular = y.told.angular ∙ ap (λ (z : PositionPcg). angular_of z (get_or other.maxima (2 * g + 1) nan)) (alike.answered ∙ e) ∙ sym (x.told.angular ∙ ap (λ (z : PositionPcg). angular_of z (get_or before.maxima (2 * g + 1) nan)) e);
+      linear = y.told.linear ∙ ap (λ (z : Run PositionPcgResult ℕ). linear_of z (get_or other.maxima (2 * g) nan)) (alike.answered ∙ e) ∙ sym (x.told.linear ∙ ap (λ (z : Run PositionPcgResult ℕ). linear_of z (get_or before.maxima (2 * g) nan)) e);
+      angular = y.told.angular ∙ ap (λ (z : Run PositionPcgResult ℕ). angular_of z (get_or other.maxima (2 * g + 1) nan)) (alike.answered ∙ e) ∙ sym (x.told.angular ∙ ap (λ (z : Run PositionPcgResult ℕ). angular_of z (get_or before.maxima (2 * g + 1) nan)) e);
       bodies = body_alike;
     }
 

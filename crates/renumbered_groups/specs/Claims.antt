@@ -1,16 +1,13 @@
 -- Document 02, n, of groups: two calls, ' that of the bench with its bodies under new numbers.
 use Rattle.std.specs.Prelude.{ℕ, ◌+◌, ◌*◌, ◌<◌, ◌≡◌, Bool, List, get_or}
 use Rattle.std.specs.Float.{nan}
+use Rattle.loops.specs.Run.{Run, going}
 use Rattle.kapitsa_joint.specs.Kind.{placed_of}
-use Rattle.position_delivery.specs.declared.answer.PositionPcg.{PositionPcg}
-use Rattle.position_delivery.specs.declared.answer.PositionPcg.TheVariants as answers
 use Rattle.position_delivery.specs.declared.answer.PositionPcgResult.{PositionPcgResult}
 use Rattle.groups.specs.Together.{links_of, joins_of, Member, Apart}
 use Rattle.group_table.specs.Pick.{rows_of, pick_rows}
 use Rattle.group_step.specs.Bench.{Bench, Lending, bench_table}
 use Rattle.groups_solve.specs.Solved.{BenchSolved, GroupsSolved}
-use Rattle.groups_solve.specs.declared.grouping.Grouping.{Grouping}
-use Rattle.groups_solve.specs.declared.grouping.Grouping.TheVariants.{Groups}
 
 -- other memory lent for the answer, with the same rows' numbers
 abbrev pub same_numbers : Lending → Lending → Lending
@@ -37,9 +34,9 @@ pub record AcceptedAlike (p : ℕ → ℕ) (b : Bench) (mine : ℕ → Type 0) (
   pub bodies : (body : ℕ) → body < b.bodies → mine body → BodyAlike p b after after' body
 
 -- of group g, whose bodies are `mine`: three words are told, its refusal or 0, its count and its flag; `answer` is what the first call answers of it
-pub record GroupAlike (p : ℕ → ℕ) (b : Bench) (mine : ℕ → Type 0) (g : ℕ) (rows : List ℕ) (after after' : Lending) (answer : PositionPcg) : Type 0 where
+pub record GroupAlike (p : ℕ → ℕ) (b : Bench) (mine : ℕ → Type 0) (g : ℕ) (rows : List ℕ) (after after' : Lending) (answer : Run PositionPcgResult ℕ) : Type 0 where
   pub told : (c : ℕ) → c < 3 → get_or after'.answers (3 * g + c) 0 ≡ get_or after.answers (3 * g + c) 0
-  pub accepted : (r : PositionPcgResult) → answer ≡ answers.Accepted r → AcceptedAlike p b mine g rows after after'
+  pub accepted : (r : PositionPcgResult) → answer ≡ going r → AcceptedAlike p b mine g rows after after'
 
 -- where the whole table's tests pass, by what the first call promises: the same group numbers, each group alike, and the bodies that are in none
 pub record BenchAlike (p : ℕ → ℕ) (b : Bench) (before after after' : Lending) (count : ℕ) (s : BenchSolved b before after count) : Type 0 where
@@ -47,6 +44,6 @@ pub record BenchAlike (p : ℕ → ℕ) (b : Bench) (before after after' : Lendi
   pub each : (g : ℕ) (h : g < count) → GroupAlike p b (Member (links_of (bench_table b before.table.numbers)) (joins_of (bench_table b before.table.numbers)) b.rows after.groups g) g (rows_of after.groups g b.rows) after after' (s.each g h).answer
   pub apart : (body : ℕ) → body < b.bodies → Apart (links_of (bench_table b before.table.numbers)) (joins_of (bench_table b before.table.numbers)) b.rows body → BodyAlike p b after after' body
 
-pub record GroupsAlike (p : ℕ → ℕ) (fits : Bool) (b : Bench) (before after after' : Lending) (answer answer' : Grouping) (s : GroupsSolved fits b before after answer) : Type 0 where
+pub record GroupsAlike (p : ℕ → ℕ) (fits : Bool) (b : Bench) (before after after' : Lending) (answer answer' : Run ℕ ℕ) (s : GroupsSolved fits b before after answer) : Type 0 where
   pub answered : answer' ≡ answer  -- how many groups there are, or the whole table's refusal
-  pub solved : (count : ℕ) (e : answer ≡ Groups count) → BenchAlike p b before after after' count (s.solved count e)
+  pub solved : (count : ℕ) (e : answer ≡ going count) → BenchAlike p b before after after' count (s.solved count e)

@@ -1,4 +1,4 @@
--- The search for the first and for the only rule that applies; the ruleset `searches` closes the needs of `first_rule`, `one_rule` and `only_rule`. Assumes nothing.
+-- The search for the first and for the only rule that applies; the ruleset `searches` closes the needs of `one_rule` and `only_rule`. Assumes nothing.
 use Prim.Native.Nat.{ℕ, ◌+◌, ◌<◌, ◌≤◌}
 use mathlib.Core.Path.{◌≡◌, sym, ◌∙◌}
 use mathlib.Core.Bool.{Bool, true, false, true≢false}
@@ -16,26 +16,6 @@ pub record Passed (p : ℕ → Bool) (n start r : ℕ) : Type 0 where
   pub none : (q : ℕ) → start ≤ q → q < r → p q ≡ false
 
 module _ {p : ℕ → Bool} {n : ℕ} where
-  pub passed_none : {start : ℕ} → start ≤ n → Passed p n start start
-  passed_none l = record { from = omega arith; within = l; none = λ q a b. absurd (omega arith) }
-
-  pub passed_more : {start r : ℕ} {b : Bool} → Passed p n start r → r < n → b ≡ p r → b ≡ false → Passed p n start (r + 1)
-  passed_more {start} {r} h l e f = record {
-    from = let q = h.from in omega arith;
-    within = omega arith;
-    none = λ q a c. go q a (equal_or_less q r (omega arith));
-  }
-    where
-      go : (q : ℕ) → start ≤ q → (q ≡ r) ⊎ (q < r) → p q ≡ false
-      go q a (inl s) = rw s (sym e ∙ f)
-      go q a (inr s) = h.none q a s
-
-  pub first_here : {start r : ℕ} {b : Bool} → Passed p n start r → r < n → b ≡ p r → b ≡ true → First p n start r
-  first_here h l e f = record { from = h.from; within = h.within; none = h.none; hit = λ _. sym e ∙ f }
-
-  pub first_end : {start r : ℕ} → Passed p n start r → n ≤ r → First p n start n
-  first_end h l = record { from = let a = h.from in let b = h.within in omega arith; within = omega arith; none = λ q a b. h.none q a (omega arith); hit = λ q. absurd (omega arith) }
-
   -- ---- none at all, a second, or one only
   pub found_none : {r : ℕ} → First p n 0 r → n ≤ r → n ≡ only_below p n
   found_none f l = sym (only_none p n (λ q o. let b = o.below in true≢false (sym o.holds ∙ f.none q (omega arith) (omega arith))))
@@ -65,4 +45,4 @@ module _ {p : ℕ → Bool} {n : ℕ} where
       go (inl b) = only.alone r b (f.hit b)
       go (inr b) = absurd (true≢false (sym only.holds ∙ f.none (only_below p n) (omega arith) (omega arith)))
 
-pub ruleset searches = (passed_none, passed_more, first_here, first_end, found_none, found_second, found_one, found_only, loops)
+pub ruleset searches = (found_none, found_second, found_one, found_only, loops)

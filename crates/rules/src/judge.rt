@@ -28,14 +28,7 @@ pub fn rules_fit(words: &[u32], tolerances: &[f64]) -> bool
     requires { 3 * length tolerances.now ≤ length words.now }
     ensures { result ≡ passes27 (rules_in words.now tolerances.now) }
 {
-    let mut r = 0;
-    while r < tolerances.len() {
-        if !rule_fits(words, tolerances, r) {
-            return false;
-        }
-        r += 1;
-    }
-    true
+    (0..tolerances.len()).all(|r| rule_fits(words, tolerances, r))
 }
 
 // Whether each of the first rows is under one rule and no second.
@@ -48,18 +41,13 @@ pub fn rows_ruled(
     requires { (8 * rows ≤ length row_words.now) × (3 * length rule_tolerances.now ≤ length rule_words.now) }
     ensures { result ≡ rows_ruled (rules_in rule_words.now rule_tolerances.now) row_words.now rows }
 {
-    let mut i = 0;
-    while i < rows {
-        let r = one_rule(
+    (0..rows).all(|i| {
+        let rule = one_rule(
             rule_words,
             rule_tolerances,
             row_words[8 * i + 1],
             row_words[8 * i],
         );
-        if r >= rule_tolerances.len() {
-            return false;
-        }
-        i += 1;
-    }
-    true
+        rule < rule_tolerances.len()
+    })
 }

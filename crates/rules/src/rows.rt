@@ -61,10 +61,8 @@ pub fn gather_tolerances(
     ensures { tolerances.new ≡ tabulate (tolerance_in (rules_in rule_words.now rule_tolerances.now) row_words.now) (length tolerances.old) }
 {
     let plain = rules_plain(rule_words, rule_tolerances);
-    let mut i = 0;
-    while i < tolerances.len() {
+    for i in 0..tolerances.len() {
         tolerances[i] = ruled_tolerance(plain, row_words, rule_words, rule_tolerances, i);
-        i += 1;
     }
 }
 
@@ -77,8 +75,7 @@ pub fn name_rules(
     requires { (8 * length rule_numbers.old ≤ length row_words.now) × (3 * length rule_tolerances.now ≤ length rule_words.now) × (length rule_tolerances.now ≤ 64) }
     ensures { rule_numbers.new ≡ tabulate (rule_in (rules_in rule_words.now rule_tolerances.now) row_words.now) (length rule_numbers.old) }
 {
-    let mut i = 0;
-    while i < rule_numbers.len() {
+    for i in 0..rule_numbers.len() {
         let r = one_rule(
             rule_words,
             rule_tolerances,
@@ -86,7 +83,6 @@ pub fn name_rules(
             row_words[8 * i],
         );
         rule_numbers[i] = r as u32;
-        i += 1;
     }
 }
 
@@ -124,9 +120,7 @@ pub fn name_only_rules(
     ensures { rule_numbers.new ≡ tabulate (rule_in (rules_in rule_words.now rule_tolerances.now) row_words.now) (length rule_numbers.old) }
 {
     let plain = rules_plain(rule_words, rule_tolerances);
-    let mut i = 0;
-    while i < rule_numbers.len() {
+    for i in 0..rule_numbers.len() {
         rule_numbers[i] = ruled_number(plain, row_words, rule_words, rule_tolerances, i);
-        i += 1;
     }
 }

@@ -16,12 +16,10 @@ fn first_rule(words: &[u32], tolerances: &[f64], dimension: u32, key: u32, start
     requires { (start ≤ length tolerances.now) × (3 * length tolerances.now ≤ length words.now) }
     ensures { First (applies (rules_in words.now tolerances.now) dimension key) (length tolerances.now) start result }
 {
-    let mut r = start;
-    while r < tolerances.len() {
+    for r in start..tolerances.len() {
         if applies_to(words, tolerances, dimension, key, r) {
             return r;
         }
-        r += 1;
     }
     tolerances.len()
 }

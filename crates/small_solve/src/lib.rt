@@ -3,6 +3,7 @@
 #![tactic(auto)]
 
 ghost use Rattle.std.specs.Prelude.{◌≡◌, true, ◌≤◌, length};
+ghost use Rattle.refusals.specs.Told.{told};
 ghost use Rattle.rules.specs.Rows.{rules_in};
 ghost use Rattle.kapitsa_joint.specs.declared.kind.Kind.TheVariants.{Position};
 ghost use Rattle.preconditioner.specs.Mode.{mode_of};
@@ -12,8 +13,9 @@ ghost use Rattle.own_memory.specs.Job.{job_fits, JobSolved, FactorRoom};
 use kapitsa_joint::Kind;
 use own_memory::job_fits;
 use pcg::solve_position_pcg_prepared;
-use position_delivery::PositionPcg;
+use position_delivery::PositionPcgResult;
 use preconditioner::{Mode, order_room, pattern_room, values_room};
+use refusals::Refusal;
 
 // With memory for the compact table and the vectors.
 fn with_vectors(
@@ -35,11 +37,11 @@ fn with_vectors(
     pattern: &mut [u32],
     order: &mut [u32],
     values: &mut [f64],
-) -> PositionPcg
+) -> Result<PositionPcgResult, Refusal>
     requires rule_numbers_value { job_fits Position rows bodies mode (length numbers.old) (length words.now) (length masses.now) (length solution.old) (length impulses.old) (length centres.now) (length new_centres.old) (length rule_words.now) (length rule_tolerances.now) (length rule_numbers.old) 0 ≡ true }
     requires rows_bound { (rows ≤ 128) × (bodies ≤ 64) }
     requires factor_room { FactorRoom mode rows (length pattern.old) (length order.old) (length values.old) }
-    ensures { JobSolved true (rules_in rule_words.now rule_tolerances.now) (position_of rows bodies numbers.entry.now words.now masses.now centres.now (rules_in rule_words.now rule_tolerances.now) shift) (mode_of mode shift) limit 24 rows record { numbers = numbers.entry.now; solution = solution.old; impulses = impulses.old; centres = new_centres.old } record { numbers = numbers.exit.now; solution = solution.new; impulses = impulses.new; centres = new_centres.new } rule_numbers.old rule_numbers.new result }
+    ensures { JobSolved true (rules_in rule_words.now rule_tolerances.now) (position_of rows bodies numbers.entry.now words.now masses.now centres.now (rules_in rule_words.now rule_tolerances.now) shift) (mode_of mode shift) limit 24 rows record { numbers = numbers.entry.now; solution = solution.old; impulses = impulses.old; centres = new_centres.old } record { numbers = numbers.exit.now; solution = solution.new; impulses = impulses.new; centres = new_centres.new } rule_numbers.old rule_numbers.new (told result) }
 {
     let mut jacobians: [f64; 1536] = [0.0; 1536];
     let mut links: [u32; 256] = [0; 256];
@@ -103,11 +105,11 @@ fn with_factor(
     impulses: &mut [f64],
     new_centres: &mut [f64],
     rule_numbers: &mut [u32],
-) -> PositionPcg
+) -> Result<PositionPcgResult, Refusal>
     requires rule_numbers_value { job_fits Position rows bodies mode (length numbers.old) (length words.now) (length masses.now) (length solution.old) (length impulses.old) (length centres.now) (length new_centres.old) (length rule_words.now) (length rule_tolerances.now) (length rule_numbers.old) 0 ≡ true }
     requires rows_bound { (rows ≤ 128) × (bodies ≤ 64) }
     requires mode_value { mode ≡ 1 }
-    ensures { JobSolved true (rules_in rule_words.now rule_tolerances.now) (position_of rows bodies numbers.entry.now words.now masses.now centres.now (rules_in rule_words.now rule_tolerances.now) shift) (mode_of mode shift) limit 24 rows record { numbers = numbers.entry.now; solution = solution.old; impulses = impulses.old; centres = new_centres.old } record { numbers = numbers.exit.now; solution = solution.new; impulses = impulses.new; centres = new_centres.new } rule_numbers.old rule_numbers.new result }
+    ensures { JobSolved true (rules_in rule_words.now rule_tolerances.now) (position_of rows bodies numbers.entry.now words.now masses.now centres.now (rules_in rule_words.now rule_tolerances.now) shift) (mode_of mode shift) limit 24 rows record { numbers = numbers.entry.now; solution = solution.old; impulses = impulses.old; centres = new_centres.old } record { numbers = numbers.exit.now; solution = solution.new; impulses = impulses.new; centres = new_centres.new } rule_numbers.old rule_numbers.new (told result) }
 {
     let mut pattern: [u32; 8257] = [0; 8257];
     let mut order: [u32; 16384] = [0; 16384];
@@ -154,11 +156,11 @@ fn with_blocks(
     impulses: &mut [f64],
     new_centres: &mut [f64],
     rule_numbers: &mut [u32],
-) -> PositionPcg
+) -> Result<PositionPcgResult, Refusal>
     requires rule_numbers_value { job_fits Position rows bodies mode (length numbers.old) (length words.now) (length masses.now) (length solution.old) (length impulses.old) (length centres.now) (length new_centres.old) (length rule_words.now) (length rule_tolerances.now) (length rule_numbers.old) 0 ≡ true }
     requires rows_bound { (rows ≤ 128) × (bodies ≤ 64) }
     requires mode_value { mode ≡ 2 }
-    ensures { JobSolved true (rules_in rule_words.now rule_tolerances.now) (position_of rows bodies numbers.entry.now words.now masses.now centres.now (rules_in rule_words.now rule_tolerances.now) shift) (mode_of mode shift) limit 24 rows record { numbers = numbers.entry.now; solution = solution.old; impulses = impulses.old; centres = new_centres.old } record { numbers = numbers.exit.now; solution = solution.new; impulses = impulses.new; centres = new_centres.new } rule_numbers.old rule_numbers.new result }
+    ensures { JobSolved true (rules_in rule_words.now rule_tolerances.now) (position_of rows bodies numbers.entry.now words.now masses.now centres.now (rules_in rule_words.now rule_tolerances.now) shift) (mode_of mode shift) limit 24 rows record { numbers = numbers.entry.now; solution = solution.old; impulses = impulses.old; centres = new_centres.old } record { numbers = numbers.exit.now; solution = solution.new; impulses = impulses.new; centres = new_centres.new } rule_numbers.old rule_numbers.new (told result) }
 {
     let mut pattern: [u32; 128] = [0; 128];
     let mut order: [u32; 0] = [0; 0];
@@ -204,11 +206,11 @@ fn with_diagonal(
     impulses: &mut [f64],
     new_centres: &mut [f64],
     rule_numbers: &mut [u32],
-) -> PositionPcg
+) -> Result<PositionPcgResult, Refusal>
     requires rule_numbers_value { job_fits Position rows bodies mode (length numbers.old) (length words.now) (length masses.now) (length solution.old) (length impulses.old) (length centres.now) (length new_centres.old) (length rule_words.now) (length rule_tolerances.now) (length rule_numbers.old) 0 ≡ true }
     requires rows_bound { (rows ≤ 128) × (bodies ≤ 64) }
     requires mode_value { mode ≡ 0 }
-    ensures { JobSolved true (rules_in rule_words.now rule_tolerances.now) (position_of rows bodies numbers.entry.now words.now masses.now centres.now (rules_in rule_words.now rule_tolerances.now) shift) (mode_of mode shift) limit 24 rows record { numbers = numbers.entry.now; solution = solution.old; impulses = impulses.old; centres = new_centres.old } record { numbers = numbers.exit.now; solution = solution.new; impulses = impulses.new; centres = new_centres.new } rule_numbers.old rule_numbers.new result }
+    ensures { JobSolved true (rules_in rule_words.now rule_tolerances.now) (position_of rows bodies numbers.entry.now words.now masses.now centres.now (rules_in rule_words.now rule_tolerances.now) shift) (mode_of mode shift) limit 24 rows record { numbers = numbers.entry.now; solution = solution.old; impulses = impulses.old; centres = new_centres.old } record { numbers = numbers.exit.now; solution = solution.new; impulses = impulses.new; centres = new_centres.new } rule_numbers.old rule_numbers.new (told result) }
 {
     let mut pattern: [u32; 0] = [0; 0];
     let mut order: [u32; 0] = [0; 0];
@@ -252,9 +254,9 @@ pub fn solve_small_position(
     impulses: &mut [f64],
     new_centres: &mut [f64],
     rule_numbers: &mut [u32],
-) -> PositionPcg
+) -> Result<PositionPcgResult, Refusal>
     requires { (rows ≤ 128) × (bodies ≤ 64) }
-    ensures { JobSolved (job_fits Position rows bodies mode (length numbers.entry.now) (length words.now) (length masses.now) (length solution.old) (length impulses.old) (length centres.now) (length new_centres.old) (length rule_words.now) (length rule_tolerances.now) (length rule_numbers.old) 0) (rules_in rule_words.now rule_tolerances.now) (position_of rows bodies numbers.entry.now words.now masses.now centres.now (rules_in rule_words.now rule_tolerances.now) shift) (mode_of mode shift) limit 24 rows record { numbers = numbers.entry.now; solution = solution.old; impulses = impulses.old; centres = new_centres.old } record { numbers = numbers.exit.now; solution = solution.new; impulses = impulses.new; centres = new_centres.new } rule_numbers.old rule_numbers.new result }
+    ensures { JobSolved (job_fits Position rows bodies mode (length numbers.entry.now) (length words.now) (length masses.now) (length solution.old) (length impulses.old) (length centres.now) (length new_centres.old) (length rule_words.now) (length rule_tolerances.now) (length rule_numbers.old) 0) (rules_in rule_words.now rule_tolerances.now) (position_of rows bodies numbers.entry.now words.now masses.now centres.now (rules_in rule_words.now rule_tolerances.now) shift) (mode_of mode shift) limit 24 rows record { numbers = numbers.entry.now; solution = solution.old; impulses = impulses.old; centres = new_centres.old } record { numbers = numbers.exit.now; solution = solution.new; impulses = impulses.new; centres = new_centres.new } rule_numbers.old rule_numbers.new (told result) }
 {
     if !job_fits(
         Kind::Position,
@@ -273,7 +275,7 @@ pub fn solve_small_position(
         rule_numbers.len(),
         0,
     ) {
-        return PositionPcg::Refused(3);
+        return Err(Refusal::Length);
     }
     if mode == 0 {
         return with_diagonal(

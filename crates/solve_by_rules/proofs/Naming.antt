@@ -29,8 +29,6 @@ use Rattle.solve_method.specs.Method.{opening_of, opening_tests, method_of}
 use Rattle.solve_method.specs.Position.{solve_for}
 use Rattle.position_delivery.specs.Delivery.{CommitRoom, committed_by}
 use Rattle.position_delivery.specs.Outcome.{Lent, Outcome, proposal_of, outcome_at}
-use Rattle.position_delivery.specs.declared.answer.PositionPcg.{PositionPcg}
-use Rattle.position_delivery.specs.declared.answer.PositionPcg.TheVariants as answers
 use Rattle.position_delivery.specs.declared.answer.PositionPcgResult.{PositionPcgResult}
 use Rattle.steps.specs.Solve.{solve}
 use Rattle.work_memory.specs.Work.{WorkMemory}
@@ -39,18 +37,18 @@ use Rattle.solve_by_rules.specs.Ruled.{rules_lent, residual_lent, centres_lent, 
 use Rattle.solve_by_rules.proofs.Entry.{solve_apart, solved_three}
 
 -- ---- an accepted answer has passed what is judged before step 0
-module _ (fits : Bool) (p : Problem) (mode : Mode) (limit place n : ℕ) (before after : Lent) {answer : PositionPcg} (answered : outcome_at place n before (solve (method_of fits p mode) limit) ≡ record { answer = answer; lent = after }) (r : PositionPcgResult)
-    (accepted : answer ≡ answers.Accepted r) where
+module _ (fits : Bool) (p : Problem) (mode : Mode) (limit place n : ℕ) (before after : Lent) {answer : Run PositionPcgResult ℕ} (answered : outcome_at place n before (solve (method_of fits p mode) limit) ≡ record { answer = answer; lent = after }) (r : PositionPcgResult)
+    (accepted : answer ≡ going r) where
   accepted_opens : opening_of fits p limit ≡ going tt
   unfolding proposal_of solve on
   accepted_opens = go (opening_of fits p limit) refl
     where
-      told : (outcome_at place n before (solve (method_of fits p mode) limit)).answer ≡ answers.Accepted r
+      told : (outcome_at place n before (solve (method_of fits p mode) limit)).answer ≡ going r
       told = ap (λ (o : Outcome). o.answer) answered ∙ accepted
 
       go : (o : Run Unit ℕ) → opening_of fits p limit ≡ o → opening_of fits p limit ≡ going tt
       go (going u) e = e
-      go (ended k) e = absurd (let h : answers.Refused k ≡ answers.Accepted r = rw e at told in let z : ◌≡◌ {A = ℕ} 0 1 = cc in omega arith)
+      go (ended k) e = absurd (let h : ended k ≡ going r = rw e at told in let z : ◌≡◌ {A = ℕ} 0 1 = cc in omega arith)
 
   pub accepted_tests : AllPass (opening_tests fits p limit)
   unfolding opening_of
@@ -92,7 +90,7 @@ module _ (kind : Kind) (rows words tolerances numbers bodies centres newCentres 
   lent_numbers = eqb-true numbers rows lent_parts.1
 
 -- ---- what takes the rules has the rows' words beside it
-pub naming_room : (fits : Bool) (p : Problem) (mode : Mode) (limit place n : ℕ) (before after : Lent) {answer : PositionPcg} {work workAfter : WorkMemory} {numbers words : ℕ} → SolveHeld fits p mode limit place n before after answer work workAfter
+pub naming_room : (fits : Bool) (p : Problem) (mode : Mode) (limit place n : ℕ) (before after : Lent) {answer : Run PositionPcgResult ℕ} {work workAfter : WorkMemory} {numbers words : ℕ} → SolveHeld fits p mode limit place n before after answer work workAfter
     → (fits ≡ true → words ≡ 8 * n) → numbers ≡ n → NamingRoom answer numbers words
 unfolding AllPass
 naming_room fits p mode limit place n before after held long e = record {
@@ -100,9 +98,9 @@ naming_room fits p mode limit place n before after held long e = record {
 }
 
 -- and each row is under one rule and no second
-module _ (kind : Kind) (s : Rules) (rows bodies : ℕ) (numbers : List Float) (words : List ℕ) (masses centres given : List Float) (shift : Float) (mode : Mode) (limit : ℕ) (before : Lent) {fits : Bool} {after : Lent} {answer : PositionPcg} {work workAfter : WorkMemory}
+module _ (kind : Kind) (s : Rules) (rows bodies : ℕ) (numbers : List Float) (words : List ℕ) (masses centres given : List Float) (shift : Float) (mode : Mode) (limit : ℕ) (before : Lent) {fits : Bool} {after : Lent} {answer : Run PositionPcgResult ℕ} {work workAfter : WorkMemory}
     (held : SolveHeld fits (solve_for kind rows bodies numbers words masses centres given s shift) mode limit (place_of kind) rows before after answer work workAfter) where
-  passed : (r : PositionPcgResult) → answer ≡ answers.Accepted r → AllPass (opening_tests fits (solve_for kind rows bodies numbers words masses centres given s shift) limit)
+  passed : (r : PositionPcgResult) → answer ≡ going r → AllPass (opening_tests fits (solve_for kind rows bodies numbers words masses centres given s shift) limit)
   passed r c = accepted_tests fits (solve_for kind rows bodies numbers words masses centres given s shift) mode limit (place_of kind) rows before after held.answered r c
 
   pub naming_ruled : {k : ℕ} → (fits ≡ true → length words ≡ 8 * rows) → k ≡ rows → NamingRuled answer s words k
@@ -117,7 +115,7 @@ within : (kind : Kind) {place : ℕ} → place ≡ place_of kind → place < 27
 within kinds.Position e = omega arith
 within kinds.Velocity e = omega arith
 
-pub commit_room : (kind : Kind) (fits : Bool) (p : Problem) (mode : Mode) (limit n : ℕ) (before after : Lent) {answer : PositionPcg} {work workAfter : WorkMemory} {place solution numbers : ℕ} → SolveHeld fits p mode limit (place_of kind) n before after answer work workAfter
+pub commit_room : (kind : Kind) (fits : Bool) (p : Problem) (mode : Mode) (limit n : ℕ) (before after : Lent) {answer : Run PositionPcgResult ℕ} {work workAfter : WorkMemory} {place solution numbers : ℕ} → SolveHeld fits p mode limit (place_of kind) n before after answer work workAfter
     → place ≡ place_of kind → (fits ≡ true → numbers ≡ 27 * n) → (fits ≡ true → solution ≡ n) → CommitRoom place answer solution numbers
 unfolding AllPass
 commit_room kind fits p mode limit n before after held e rows long = record {
@@ -125,7 +123,7 @@ commit_room kind fits p mode limit n before after held e rows long = record {
   room = λ r a. let f = (accepted_tests fits p mode limit (place_of kind) n before after held.answered r a).0 in let w = rows f in let l = long f in omega arith;
 }
 
-pub committed_held : (kind : Kind) (numbers : List Float) {fits : Bool} {p : Problem} {mode : Mode} {limit n place : ℕ} {before : Lent} {numbersAfter solution impulses centres : List Float} {answer : PositionPcg} {work workAfter : WorkMemory} → place ≡ place_of kind → numbersAfter ≡ committed_by place answer numbers solution
+pub committed_held : (kind : Kind) (numbers : List Float) {fits : Bool} {p : Problem} {mode : Mode} {limit n place : ℕ} {before : Lent} {numbersAfter solution impulses centres : List Float} {answer : Run PositionPcgResult ℕ} {work workAfter : WorkMemory} → place ≡ place_of kind → numbersAfter ≡ committed_by place answer numbers solution
     → SolveHeld fits p mode limit (place_of kind) n before (record { numbers = committed_by (place_of kind) answer numbers solution; solution = solution; impulses = impulses; centres = centres }) answer work workAfter
     → SolveHeld fits p mode limit (place_of kind) n before (record { numbers = numbersAfter; solution = solution; impulses = impulses; centres = centres }) answer work workAfter
 committed_held kind numbers e h held = rw (h, e) held
@@ -138,7 +136,7 @@ module _ (kind : Kind) (s : Rules) (rows bodies : ℕ) (numbers : List Float) (w
   abbrev p : Problem
   p = solve_for kind rows bodies numbers words masses centres given s shift
 
-  pub ruled_three : not b ≡ true → SolveRuled (a && q) s p mode limit (place_of kind) rows before before named named (answers.Refused 3) work work
+  pub ruled_three : not b ≡ true → SolveRuled (a && q) s p mode limit (place_of kind) rows before before named named (ended 3) work work
   ruled_three h =
       let none : a ≡ false = sym e ∙ not-true b h in
       record {
@@ -147,8 +145,8 @@ module _ (kind : Kind) (s : Rules) (rows bodies : ℕ) (numbers : List Float) (w
         ruled = λ r c. absurd (let z : ◌≡◌ {A = ℕ} 0 1 = cc in omega arith);
       }
 
-  module _ {after : Lent} {answer : PositionPcg} {workAfter : WorkMemory} (h : not b ≡ false) (held : SolveHeld q p mode limit (place_of kind) rows before after answer work workAfter) where
-    each_ruled : (r : PositionPcgResult) → answer ≡ answers.Accepted r → Ruled s t
+  module _ {after : Lent} {answer : Run PositionPcgResult ℕ} {workAfter : WorkMemory} (h : not b ≡ false) (held : SolveHeld q p mode limit (place_of kind) rows before after answer work workAfter) where
+    each_ruled : (r : PositionPcgResult) → answer ≡ going r → Ruled s t
     unfolding AllPass
     each_ruled r c = (passes_28 s t).0 (accepted_tests q p mode limit (place_of kind) rows before after held.answered r c).1.1.1.1.0
 
@@ -159,9 +157,9 @@ module _ (kind : Kind) (s : Rules) (rows bodies : ℕ) (numbers : List Float) (w
         rw passed (record { held = held; named = l ∙ ap (λ (k : ℕ). named_by answer (rule_in s words) k named) en; ruled = each_ruled })
 
 -- ---- `name_accepted`, `name_ruled`
-module _ (a : PositionPcg) (rule : ℕ → ℕ) (n : ℕ) (before : List ℕ) where
-  pub named_accepted : {r : PositionPcgResult} {l : List ℕ} → a ≡ answers.Accepted r → l ≡ tabulate rule n → l ≡ named_by a rule n before
+module _ (a : Run PositionPcgResult ℕ) (rule : ℕ → ℕ) (n : ℕ) (before : List ℕ) where
+  pub named_accepted : {r : PositionPcgResult} {l : List ℕ} → a ≡ going r → l ≡ tabulate rule n → l ≡ named_by a rule n before
   named_accepted e h = rw e h
 
-  pub named_refused : {k : ℕ} → a ≡ answers.Refused k → before ≡ named_by a rule n before
+  pub named_refused : {k : ℕ} → a ≡ ended k → before ≡ named_by a rule n before
   named_refused e = rw e

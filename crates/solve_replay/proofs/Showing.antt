@@ -13,14 +13,13 @@ use Rattle.kapitsa_joint.specs.declared.kind.Kind.{Kind}
 use Rattle.kapitsa_joint.specs.declared.tolerance.JointTolerance.{JointTolerance}
 use Rattle.rules.specs.Rules.{two_rules}
 use Rattle.position_delivery.specs.Outcome.{Lent, Outcome}
-use Rattle.position_delivery.specs.declared.answer.PositionPcg.{PositionPcg}
-use Rattle.position_delivery.specs.declared.answer.PositionPcg.TheVariants as answers
 use Rattle.position_delivery.specs.declared.answer.PositionPcgResult.{PositionPcgResult}
 use Rattle.packed_list.specs.Packed.{group_of}
 use Rattle.solve_replay.specs.Job.{header_of, doubles_of, row_numbers, row_words}
 use Rattle.solve_replay.specs.Compare.{same_doubles, kept_numbers, same_answers}
 use Rattle.solve_replay.specs.Seen.{row_group, mass_group, beside_size, beside_group, centre_group, answer_group, impulse_group, flag_of, same_result, accepted_seen, refused_seen, outcome_seen, tolerance_in, centres_of, solved_of, solved_seen, marked, table_seen, malformed_in, job_seen, TableRead}
 use Rattle.solve_replay.specs.declared.header.Header.{Header}
+use Rattle.loops.specs.Run.{Run, going, ended}
 use Rattle.solve_replay.specs.declared.answer.Seen.{Seen}
 
 -- ---- the groups, one straight after the other
@@ -55,20 +54,20 @@ accepted_shown kind list at h rows r l ep e f g ef es et eu ev ek =
     rw (ef, es, et, eu, ev, ek, ep, words_of e, words_of p, words_of q, end_of q)
 
 -- ---- `solved_seen`
-module _ (kind : Kind) (list : List ℕ) (at : ℕ) (h : Header) (rows words : List ℕ) (masses centres beside : List Float) (before : Lent) (tolerance : JointTolerance) (named : ℕ) (answer : PositionPcg) (after : Lent) (r : Seen)
+module _ (kind : Kind) (list : List ℕ) (at : ℕ) (h : Header) (rows words : List ℕ) (masses centres beside : List Float) (before : Lent) (tolerance : JointTolerance) (named : ℕ) (answer : Run PositionPcgResult ℕ) (after : Lent) (r : Seen)
     (t : tolerance ≡ tolerance_in h) (l : named ≡ h.rows) (p : centres ≡ centres_of kind h.bodies beside) (e : solved_of kind h (two_rules tolerance) named words masses centres beside before ≡ record { answer = answer; lent = after }) where
   shown : outcome_seen kind list at h rows answer after ≡ solved_seen kind list at h rows words masses beside before
   unfolding solved_seen
   shown = ap (λ (o : Outcome). outcome_seen kind list at h rows o.answer o.lent)
       (sym e ∙ ap (λ (k : ℕ). solved_of kind h (two_rules tolerance) k words masses centres beside before) l ∙ ap (λ (x : JointTolerance). solved_of kind h (two_rules x) h.rows words masses centres beside before) t ∙ ap (λ (c : List Float). solved_of kind h (two_rules (tolerance_in h)) h.rows words masses c beside before) p)
 
-  pub solved_accepted : (result : PositionPcgResult) → answer ≡ answers.Accepted result → r ≡ accepted_seen kind list at h rows result after → r ≡ solved_seen kind list at h rows words masses beside before
+  pub solved_accepted : (result : PositionPcgResult) → answer ≡ going result → r ≡ accepted_seen kind list at h rows result after → r ≡ solved_seen kind list at h rows words masses beside before
   unfolding outcome_seen
-  solved_accepted result a q = q ∙ ap (λ (x : PositionPcg). outcome_seen kind list at h rows x after) (sym a) ∙ shown
+  solved_accepted result a q = q ∙ ap (λ (x : Run PositionPcgResult ℕ). outcome_seen kind list at h rows x after) (sym a) ∙ shown
 
-  pub solved_refused : (number : ℕ) → answer ≡ answers.Refused number → r ≡ refused_seen kind list at h rows number after → r ≡ solved_seen kind list at h rows words masses beside before
+  pub solved_refused : (number : ℕ) → answer ≡ ended number → r ≡ refused_seen kind list at h rows number after → r ≡ solved_seen kind list at h rows words masses beside before
   unfolding outcome_seen
-  solved_refused number a q = q ∙ ap (λ (x : PositionPcg). outcome_seen kind list at h rows x after) (sym a) ∙ shown
+  solved_refused number a q = q ∙ ap (λ (x : Run PositionPcgResult ℕ). outcome_seen kind list at h rows x after) (sym a) ∙ shown
 
 -- ---- `read_table`
 pub table_read : (kind : Kind) {list : List ℕ} {at n b massesAt besideAt end : ℕ} {rows massWords besideWords : List ℕ} {i : ℕ} {numbers : List Float} {j : ℕ} {words : List ℕ} {k : ℕ} {masses : List Float} {l : ℕ} {beside : List Float}

@@ -12,14 +12,13 @@ use Rattle.loops.specs.Cleared.{plus_zero}
 use Rattle.solve_method.specs.Position.{solve_for}
 use Rattle.solve_method.specs.Method.{method_of}
 use Rattle.position_delivery.specs.Outcome.{Lent, Outcome, outcome_at}
-use Rattle.position_delivery.specs.declared.answer.PositionPcg.{PositionPcg}
-use Rattle.position_delivery.specs.declared.answer.PositionPcg.TheVariants as answers
 use Rattle.position_delivery.specs.declared.answer.PositionPcgResult.{PositionPcgResult}
 use Rattle.own_memory.specs.Job.{job_fits}
 use Rattle.packed_list.specs.Packed.{group_of}
 use Rattle.solve_replay.specs.Job.{header_of, doubles_of, row_numbers, row_words}
 use Rattle.solve_replay.specs.Compare.{same_doubles, kept_numbers, same_answers, unwritten_of}
 use Rattle.solve_replay.specs.declared.header.Header.{Header}
+use Rattle.loops.specs.Run.{Run, going, ended}
 use Rattle.solve_replay.specs.declared.answer.Seen.{Seen}
 
 -- the groups of a job with n rows and b bodies, each with the place after it
@@ -70,9 +69,9 @@ unfoldable pub refused_seen : Kind → List ℕ → ℕ → Header → List ℕ 
 refused_seen kind list at h rows number l =
     record { outcome = 0; same = ((((eqb h.refusal number && kept_numbers (place_of kind) false l.numbers rows) && unwritten_of l.solution) && unwritten_of l.impulses) && unwritten_of l.centres) && leb at (length list); end = at }
 
-unfoldable pub outcome_seen : Kind → List ℕ → ℕ → Header → List ℕ → PositionPcg → Lent → Seen
-outcome_seen kind list at h rows (answers.Accepted r) l = accepted_seen kind list at h rows r l
-outcome_seen kind list at h rows (answers.Refused number) l = refused_seen kind list at h rows number l
+unfoldable pub outcome_seen : Kind → List ℕ → ℕ → Header → List ℕ → Run PositionPcgResult ℕ → Lent → Seen
+outcome_seen kind list at h rows (going r) l = accepted_seen kind list at h rows r l
+outcome_seen kind list at h rows (ended number) l = refused_seen kind list at h rows number l
 
 -- ---- the job
 abbrev pub tolerance_in : Header → JointTolerance

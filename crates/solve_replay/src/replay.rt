@@ -12,7 +12,6 @@ use crate::room::{
 use crate::table::read_table;
 use kapitsa_joint::{JointTolerance, Kind, placed_of};
 use loops::wide;
-use position_delivery::PositionPcg;
 use position_solve::solve_table;
 
 fn tolerance_in(header: Header) -> JointTolerance
@@ -66,7 +65,7 @@ fn solved_seen(
         &mut rule_numbers[..n],
     );
     match answer {
-        PositionPcg::Accepted(result) => {
+        Ok(result) => {
             accepted_seen(
                 kind,
                 list,
@@ -80,13 +79,13 @@ fn solved_seen(
                 new_centres,
             )
         }
-        PositionPcg::Refused(number) => {
+        Err(refusal) => {
             refused_seen(
                 kind,
                 list,
                 at,
                 header,
-                number,
+                refusal.number(),
                 rows,
                 numbers,
                 solution,

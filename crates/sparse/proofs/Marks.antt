@@ -12,19 +12,17 @@ use lib.Seq.{get_or-set_same, get_or-set_other}
 use lib.Ieee.{Float, nan, binary64, sub, mul, div}
 use lib.Ieee.Scale.{finite}
 use borrow.Author.Tests.{lt-ltb, le-ltb, eq-eqb, ne_eqb}
+use Rattle.std.specs.Prelude.{Result, Ok, Err}
 use Rattle.loops.specs.Run.{Run, going, ended, on}
 use Rattle.loops.proofs.Loop.{check_pass, check_fail, on_going, on_ended}
 use Rattle.binary64.specs.Answer.{root_of}
 use Rattle.sparse.specs.Triangle.{Sparse, put}
 use Rattle.sparse.specs.Count.{count}
 use Rattle.sparse.specs.Cholesky.{less, less_turn, reduced_of, quotient_of, factored, column_of, column_turn, factors_run, squares_of, reduced_run, fit, root_value, Factor, pivot_of, row_turn}
-use Rattle.sparse.specs.Kept.{Rising, start, Row, numbers}
+use Rattle.sparse.specs.Kept.{start, Row, numbers}
 use Rattle.sparse.specs.Marks.{AtMost, Marked, less_at}
 use Rattle.sparse.specs.Answers.{column_out, reduced_out, factor_out}
-use Rattle.sparse.specs.declared.cholesky.Factored.{Factored}
-use Rattle.sparse.specs.declared.cholesky.Factored.TheVariants.{Done, Refused}
-use Rattle.sparse.specs.declared.cholesky.Remainder.{Remainder}
-use Rattle.sparse.specs.declared.cholesky.Remainder.TheVariants as remainders
+use Rattle.sparse.specs.declared.cholesky.Unfit.{Unfit}
 use Rattle.sparse.proofs.Hop.{plain, Skips, Hops, rising_le, hop_more, turns_same}
 use Rattle.sparse.proofs.Rows.{numbers_some, numbers_none, numbers_set}
 
@@ -68,37 +66,10 @@ marked_more columns marks marks' a p j m h l ej em lt e = rw (e, em) (record {
         by_place (yes u) = e (sym eq ∙ rw u (sym ej))
         by_place (no u) = (h.miss k b (omega (arith, get_or-set_other marks j k (p + 1) 0 e))).nowhere q p1 (omega arith) eq
 
--- ---- places are u32, indices usize
-pub read_at : (X : Type 0) (l : List X) (d : X) (w p : ℕ) → w ≡ p → get_or l w d ≡ get_or l p d
-read_at X l d w p e = rw e
-
-pub column_at : (l : List ℕ) (r w p : ℕ) → r ≡ get_or l w 0 → w ≡ p → r ≡ get_or l p 0
-column_at l r w p h e = rw e at h
-
-pub write_at : (X : Type 0) (l : List X) (x : X) (w p : ℕ) → w ≡ p → set l w x ≡ set l p x
-write_at X l x w p e = rw e
-
-pub most_of : (marks : List ℕ) (n k first : ℕ) → AtMost marks n → first < get_or marks k 0 → get_or marks k 0 - 1 < n
-most_of marks n k first h l = omega (arith, h.most k)
-
--- the two ways through `less_at`
-module _ (v : Float) (columns : List ℕ) (values : List Float) (marks : List ℕ) (first q k : ℕ) where
-  pub less_hit : (x y : Float) → x ≡ get_or values (get_or marks k 0 - 1) nan → y ≡ get_or values q nan → first < get_or marks k 0 → k ≡ get_or columns q 0
-      → sub binary64 v (mul binary64 x y) ≡ less_at v columns values marks first q
-  unfolding less_at
-  less_hit x y g h t e = rw (← e, lt-ltb first (get_or marks k 0) t, g, h)
-
-  pub less_miss : get_or marks k 0 ≤ first → k ≡ get_or columns q 0 → v ≡ less_at v columns values marks first q
-  unfolding less_at
-  less_miss t e = rw (← e, le-ltb first (get_or marks k 0) t)
-
 less_none : (x : Option Float) (v : Float) → less x none v ≡ v
 unfolding less
 less_none none v = refl
 less_none (some x) v = refl
-
-pub rising_below : {l : List ℕ} {a b n : ℕ} (p r : ℕ) → Rising l a b n → a ≤ p → p < b → r ≡ get_or l p 0 → r < n
-rising_below p r h p1 p2 e = rw e (h.below p p1 p2)
 
 -- ---- a row of the pattern
 module _ {starts columns : List ℕ} {i a b : ℕ} (row : Row starts columns i a b) where
@@ -221,11 +192,11 @@ pub written_there : {starts columns : List ℕ} {i a b : ℕ} → Row starts col
 written_there row values values' p x p1 p2 l e = let h : get_or values' p nan ≡ x = rw e (get_or-set_same values p x nan (omega (arith, row.inside))) in rw h e
 
 -- the ways through a turn of `factor_row`
-module _ {f : Run Sparse Sparse} (r : Factored) (L : Sparse) (called : f ≡ column_out r L) where
-  pub turn_on : r ≡ Done → f ≡ going L
+module _ {f : Run Sparse Sparse} (r : Result Unit Unfit) (L : Sparse) (called : f ≡ column_out r L) where
+  pub turn_on : {x : Unit} → r ≡ Ok x → f ≡ going L
   turn_on told = called ∙ rw told
 
-  pub turn_out : r ≡ Refused → f ≡ ended L
+  pub turn_out : {u : Unfit} → r ≡ Err u → f ≡ ended L
   turn_out told = called ∙ rw told
 
 -- the ways through `factor_row`
@@ -249,12 +220,12 @@ row_reduced pivots i L = go (factors_run pivots i L)
     go (going M) = refl
     go (ended M) = refl
 
-module _ (pivots : List Float) (i : ℕ) (L L' : Sparse) (r : Remainder) (called : reduced_run pivots i L ≡ reduced_out r L') where
-  pub row_refused : r ≡ remainders.Refused → row_turn i (L, pivots) ≡ ended (L', pivots)
+module _ (pivots : List Float) (i : ℕ) (L L' : Sparse) (r : Result Float Unfit) (called : reduced_run pivots i L ≡ reduced_out r L') where
+  pub row_refused : {u : Unfit} → r ≡ Err u → row_turn i (L, pivots) ≡ ended (L', pivots)
   unfolding on
   row_refused told = row_reduced pivots i L ∙ rw (called, told)
 
-  module _ (x : Float) (t : Bool) (told : r ≡ remainders.Rest x) (et : t ≡ fit x) where
+  module _ (x : Float) (t : Bool) (told : r ≡ Ok x) (et : t ≡ fit x) where
     pub row_unfit : not t ≡ true → row_turn i (L, pivots) ≡ ended (L', pivots)
     unfolding on pivot_of
     row_unfit h = row_reduced pivots i L ∙ rw (called, told) (check_fail _ _ _ et h refl)
@@ -264,11 +235,11 @@ module _ (pivots : List Float) (i : ℕ) (L L' : Sparse) (r : Remainder) (called
     row_on y h ey = row_reduced pivots i L ∙ rw (called, told, ← ey) (check_pass _ _ _ et h refl)
 
 -- the ways through a turn of `factor`
-module _ {f : Run Factor Factor} (r : Factored) (L : Sparse) (pivots : List Float) (called : f ≡ factor_out r L pivots) where
-  pub rows_on : r ≡ Done → f ≡ going (L, pivots)
+module _ {f : Run Factor Factor} (r : Result Unit Unfit) (L : Sparse) (pivots : List Float) (called : f ≡ factor_out r L pivots) where
+  pub rows_on : {x : Unit} → r ≡ Ok x → f ≡ going (L, pivots)
   rows_on told = called ∙ rw told
 
-  pub rows_out : r ≡ Refused → f ≡ ended (L, pivots)
+  pub rows_out : {u : Unfit} → r ≡ Err u → f ≡ ended (L, pivots)
   rows_out told = called ∙ rw told
 
 pub most_clear : (marks : List ℕ) (b : ℕ) → AtMost marks 0 → AtMost marks b

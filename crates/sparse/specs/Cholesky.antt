@@ -8,8 +8,6 @@ use Rattle.std.specs.Float.Ieee.Scale.{finite}
 use Rattle.loops.specs.Run.{Run, going, ended, on, turns, check}
 use Rattle.binary64.specs.Order.{min_positive}
 use Rattle.binary64.specs.Answer.{root_of}
-use Rattle.binary64.specs.declared.square_root.RootAnswer.{RootAnswer}
-use Rattle.binary64.specs.declared.square_root.RootAnswer.TheVariants as answers
 use Rattle.sparse.specs.Count.{count}
 use Rattle.sparse.specs.Triangle.{Sparse, put}
 
@@ -64,9 +62,9 @@ unfoldable pub fit : Float → Bool
 fit x = finite x && not (le x min_positive)
 
 -- "then the root"; refusal 19 is never met at a pivot that is fit (proofs/Fit.antt)
-unfoldable pub root_value : RootAnswer → Float
-root_value (answers.Value y) = y
-root_value (answers.Refused n) = nan
+unfoldable pub root_value : Run Float ℕ → Float
+root_value (going y) = y
+root_value (ended n) = nan
 
 abbrev pub Factor : Type 0
 Factor = Sparse × List Float

@@ -2,36 +2,33 @@
 ghost use Rattle.std.specs.Prelude.{◌≡◌, ◌+◌, ◌<◌, ◌≤◌, length, get_or, set, true};
 ghost use Rattle.std.specs.Float.{nan};
 ghost use Rattle.binary64.specs.Answer.{root_of};
+ghost use Rattle.refusals.specs.declared.Refusal.TheVariants.{Pivot};
 ghost use Rattle.sparse.specs.Cholesky.{reduced_of, fit, root_value, column_turn, reduced_run, row_turn, factor_run, or_thirteen};
 ghost use Rattle.sparse.specs.Kept.{start, Kept, Row, numbers};
 ghost use Rattle.sparse.specs.Marks.{AtMost, Marked, less_at};
 ghost use Rattle.sparse.specs.Answers.{column_out, reduced_out, factor_out, factored_out, FactorFree};
 
 use crate::places::{column, earlier, number, row, write};
-use binary64::RootAnswer;
+use refusals::Refusal;
 
-#[derive(Clone, Copy)]
-pub enum Factored {
-    Done,
-    Refused,
-}
+// A factor is not finite, or a pivot is not fit: refusal 13.
+#[derive(Clone, Copy, Debug, PartialEq, Eq)]
+pub struct Unfit;
 
-// Of a row whose factors are made: its diagonal less each squared factor.
-#[derive(Clone, Copy)]
-pub enum Remainder {
-    Rest(f64),
-    Refused,
+impl From<Unfit> for Refusal {
+    ghost from_gives = { λ _ refusal. refusal ≡ Pivot };
+
+    fn from(_unfit: Unfit) -> Refusal {
+        Refusal::Pivot
+    }
 }
 
 // Finite and above MIN.
+#[tactic(auto, unfolding(crate::specs::Cholesky::fit))]
 pub fn is_fit(x: f64) -> bool
     ensures { result ≡ fit x }
 {
-    if binary64::is_finite(x) {
-        !(x <= binary64::MIN_POSITIVE)
-    } else {
-        false
-    }
+    binary64::is_finite(x) && !(x <= binary64::MIN_POSITIVE)
 }
 
 // The root of a pivot that is fit, where refusal 19 cannot be met.
@@ -39,13 +36,11 @@ pub fn pivot_root(x: f64) -> f64
     requires { fit x ≡ true }
     ensures { result ≡ root_value (root_of x) }
 {
-    let RootAnswer::Value(root) = binary64::root(x) else {
-        return x;
-    };
-    root
+    binary64::root(x).unwrap_or(x)
 }
 
 // `value` less the product of the factors in column `columns[q]`, of the row that has it at `q` and of the row that is marked from `first` on
+#[tactic(auto, unfolding(crate::specs::Marks::less_at))]
 fn less_at(value: f64, columns: &[u32], values: &[f64], marks: &[u32], first: u32, q: u32) -> f64
     requires q_in_bounds { q < length columns.now }
     requires q_in_bounds_2 { q < length values.now }
@@ -85,12 +80,9 @@ fn reduced(
     ensures { result ≡ reduced_of (numbers starts.now columns.now values.now) i j value }
 {
     let other = row(starts, columns, j);
-    let stop = other.end;
     let mut rest = value;
-    let mut q = other.first;
-    while q < stop {
+    for q in other.first..other.end {
         rest = less_at(rest, columns, values, marks, first, q);
-        q += 1;
     }
     rest
 }
@@ -107,7 +99,7 @@ fn factor_at(
     end: u32,
     p: u32,
     mark: u32,
-) -> Factored
+) -> Result<(), Unfit>
     requires row { Row starts.now columns.now i first end }
     requires values_len { length values.old ≡ length columns.now }
     requires starts_len { length starts.now ≡ length marks.old + 1 }
@@ -128,9 +120,9 @@ fn factor_at(
     write(values, p, factor);
     marks[j] = mark;
     if !binary64::is_finite(factor) {
-        return Factored::Refused;
+        return Err(Unfit);
     }
-    Factored::Done
+    Ok(())
 }
 
 // The factors of row `i`, and its diagonal less their squares: each is subtracted when it is made.
@@ -141,7 +133,7 @@ fn factor_row(
     pivots: &[f64],
     marks: &mut [u32],
     i: usize,
-) -> Remainder
+) -> Result<f64, Unfit>
     requires kept { Kept starts.now columns.now }
     requires values_len { length values.old ≡ length columns.now }
     requires starts_len { length starts.now ≡ length marks.old + 1 }
@@ -156,19 +148,15 @@ fn factor_row(
     let first = row.first;
     let end = row.end;
     let mut rest = pivots[i];
-    let mut p = first;
-    while p < end {
+    for p in first..end {
         let mark = p + 1;
-        let Factored::Done = factor_at(
+        factor_at(
             starts, columns, values, pivots, marks, i, first, end, p, mark,
-        ) else {
-            return Remainder::Refused;
-        };
+        )?;
         let factor = number(values, p);
         rest = rest - factor * factor;
-        p = mark;
     }
-    Remainder::Rest(rest)
+    Ok(rest)
 }
 
 // row `i`: its diagonal stands in `pivots[i]`, and its pivot takes that place
@@ -179,7 +167,7 @@ fn row_at(
     pivots: &mut [f64],
     marks: &mut [u32],
     i: usize,
-) -> Factored
+) -> Result<(), Unfit>
     requires kept { Kept starts.now columns.now }
     requires values_len { length values.old ≡ length columns.now }
     requires starts_len { length starts.now ≡ length marks.old + 1 }
@@ -190,15 +178,13 @@ fn row_at(
         ≡ factor_out result (numbers starts.now columns.now values.new) pivots.new }
     ensures at_most_2 { AtMost marks.new (start starts.now (i + 1)) }
 {
-    let Remainder::Rest(rest) = factor_row(starts, columns, values, pivots, marks, i) else {
-        return Factored::Refused;
-    };
+    let rest = factor_row(starts, columns, values, pivots, marks, i)?;
     if !is_fit(rest) {
-        return Factored::Refused;
+        return Err(Unfit);
     }
     let pivot = pivot_root(rest);
     pivots[i] = pivot;
-    Factored::Done
+    Ok(())
 }
 
 // Incomplete Cholesky: `values` has the pair values at entry and the factors at exit, `pivots` the diagonal at entry and that of the factor at exit.
@@ -208,7 +194,7 @@ pub fn factor(
     values: &mut [f64],
     pivots: &mut [f64],
     marks: &mut [u32],
-) -> Factored
+) -> Result<(), Refusal>
     requires kept { Kept starts.now columns.now }
     requires values_len { length values.old ≡ length columns.now }
     requires starts_len { length starts.now ≡ length pivots.old + 1 }
@@ -221,12 +207,8 @@ pub fn factor(
     ensures factor_free { FactorFree (start starts.now (length pivots.old)) values.old values.new marks.old marks.new }
 {
     let n = pivots.len();
-    let mut i = 0;
-    while i < n {
-        let Factored::Done = row_at(starts, columns, values, pivots, marks, i) else {
-            return Factored::Refused;
-        };
-        i += 1;
+    for i in 0..n {
+        row_at(starts, columns, values, pivots, marks, i)?;
     }
-    Factored::Done
+    Ok(())
 }

@@ -5,5 +5,5 @@
 pub mod cholesky; // cholesky.rt: factors and pivots
 pub mod places; // places.rt: reading and writing one place, and the stretch of a row
 
-pub use cholesky::{Factored, factor, is_fit, pivot_root};
+pub use cholesky::{Unfit, factor, is_fit, pivot_root};
 pub use places::{Stretch, earlier, number, put, row, write};

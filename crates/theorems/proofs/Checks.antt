@@ -18,9 +18,7 @@ use Rattle.check_range.specs.Range.{mass_in_range, row_in_range, table_in_range}
 use Rattle.check_measure.specs.Verdict.{size_of_row, size_of_mass, sizes_of, value_of, size_of, reach, closes, largest_reaches}
 use Rattle.check_refusals.specs.Judged.{table_tests, judgements}
 use Rattle.check_refusals.proofs.Judgement.{passed_7}
-use Rattle.check_answer.specs.Answer.{verdict_of, check_of}
-use Rattle.check_answer.specs.declared.CheckAnswer.{CheckAnswer}
-use Rattle.check_answer.specs.declared.CheckAnswer.TheVariants.{Refused}
+use Rattle.check_answer.specs.Answer.{verdict_of, check_of, CheckAnswer}
 use Rattle.theorems.specs.Below.{ClosingsAgree}
 use Rattle.theorems.proofs.Tables.{BodiesBelow, table_with, fours, sixes, sevens, systems_agree, valid_below}
 use Rattle.theorems.proofs.Systems.{SystemsAgree, value_same}
@@ -36,7 +34,7 @@ sizes_agree s jacobian mass w = record {
 }
 
 -- an answer that is given only where nothing is refused
-on_same : (r : Run Unit ℕ) (x y : CheckAnswer) → (r ≡ going tt → x ≡ y) → on r (λ _. x) Refused ≡ on r (λ _. y) Refused
+on_same : (r : Run Unit ℕ) (x y : CheckAnswer) → (r ≡ going tt → x ≡ y) → on r (λ _. x) ended ≡ on r (λ _. y) ended
 unfolding on
 on_same (going tt) x y e = e refl
 on_same (ended k) x y e = refl

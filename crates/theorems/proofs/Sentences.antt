@@ -51,9 +51,7 @@ use Rattle.solve_method.specs.Position.{shift_tests, placed_problem, shifted_pro
 use Rattle.solve_method.specs.Counting.{counted_of}
 use Rattle.solve_method.specs.Method.{owner_of, Delivered, passes5, opening_of, factor_here, begin_of, maxima_in, finish_of, method_of}
 use Rattle.check_range.specs.Closing.{closing_of, speeds_of}
-use Rattle.check_answer.specs.Answer.{check_of}
-use Rattle.check_answer.specs.declared.CheckAnswer.{CheckAnswer}
-use Rattle.check_answer.specs.declared.CheckAnswer.TheVariants.{Refused}
+use Rattle.check_answer.specs.Answer.{check_of, CheckAnswer}
 use Rattle.theorems.proofs.Centres.{centres_of}
 
 -- ---- "No rows, and no refusal 1 to 4 or 6: accepted, converged, count 0, whatever the limit."; and no 25 or 27, "in a job without rows too"
@@ -142,11 +140,11 @@ module _ (t : Table) (rules : Rules) (four : passes4 t ≡ true) where
     pub odd_not_moved : (shift : Float) (residual : ℕ → Float) (mode : Mode) (limit : ℕ) → passes25 shift ≡ true → solve (method_of true (moving_problem t (ruled_by rules t) shift residual) mode) limit ≡ ended 27
     odd_not_moved shift residual mode limit p = odd_refused (velocity_problem t (ruled_by rules t).row residual) rules shift true no_centres mode limit four p odd
 
-    pub odd_not_checked : (listed : ℕ → Float) (placed : Bool) → check_of true (closing_of t listed rules placed) ≡ Refused 27
+    pub odd_not_checked : (listed : ℕ → Float) (placed : Bool) → check_of true (closing_of t listed rules placed) ≡ ended 27
     unfolding check_of judge test check on
     odd_not_checked listed placed = rw (four, odd)
 
-    pub odd_speeds : (listed residual : ℕ → Float) → check_of true (speeds_of t listed rules residual) ≡ Refused 27
+    pub odd_speeds : (listed residual : ℕ → Float) → check_of true (speeds_of t listed rules residual) ≡ ended 27
     unfolding check_of judge test check on
     odd_speeds listed residual = rw (four, odd)
 
@@ -157,11 +155,11 @@ module _ (t : Table) (rules : Rules) (four : passes4 t ≡ true) where
     pub stray_not_moved : (shift : Float) (residual : ℕ → Float) (mode : Mode) (limit : ℕ) → passes25 shift ≡ true → solve (method_of true (moving_problem t (ruled_by rules t) shift residual) mode) limit ≡ ended 28
     stray_not_moved shift residual mode limit p = stray_refused (velocity_problem t (ruled_by rules t).row residual) rules shift true no_centres mode limit four p fit stray
 
-    pub stray_not_checked : (listed : ℕ → Float) (placed : Bool) → check_of true (closing_of t listed rules placed) ≡ Refused 28
+    pub stray_not_checked : (listed : ℕ → Float) (placed : Bool) → check_of true (closing_of t listed rules placed) ≡ ended 28
     unfolding check_of judge test check on
     stray_not_checked listed placed = rw (four, fit, stray)
 
-    pub stray_speeds : (listed residual : ℕ → Float) → check_of true (speeds_of t listed rules residual) ≡ Refused 28
+    pub stray_speeds : (listed residual : ℕ → Float) → check_of true (speeds_of t listed rules residual) ≡ ended 28
     unfolding check_of judge test check on
     stray_speeds listed residual = rw (four, fit, stray)
 
@@ -171,7 +169,7 @@ module _ (t : Table) (rules : Rules) (four : passes4 t ≡ true) where
     unfolding solve opening_of judge test check on
     residual_refused shift mode limit p five = rw (p, four, fit, each, five, six, twenty)
 
-    pub residual_unchecked : (listed : ℕ → Float) → check_of true (speeds_of t listed rules residual) ≡ Refused 20
+    pub residual_unchecked : (listed : ℕ → Float) → check_of true (speeds_of t listed rules residual) ≡ ended 20
     unfolding check_of judge test check on
     residual_unchecked listed = rw (four, fit, each, six, twenty)
 
@@ -180,22 +178,22 @@ module _ (t : Table) (listed : ℕ → Float) (rules : Rules) where
   abbrev answer : Bool → Bool → CheckAnswer
   answer fits placed = check_of fits (closing_of t listed rules placed)
 
-  pub centres_refused : passes4 t ≡ true → passes27 rules ≡ true → passes28 rules t ≡ true → answer true false ≡ Refused 6
+  pub centres_refused : passes4 t ≡ true → passes27 rules ≡ true → passes28 rules t ≡ true → answer true false ≡ ended 6
   unfolding check_of judge test check on
   centres_refused four fit ruled = go (saw_bool (passes6 t))
     where
-      go : (passes6 t ≡ true) ⊎ (passes6 t ≡ false) → answer true false ≡ Refused 6
+      go : (passes6 t ≡ true) ⊎ (passes6 t ≡ false) → answer true false ≡ ended 6
       go (inl h) = rw (four, fit, ruled, h)
       go (inr h) = rw (four, fit, ruled, h)
 
   -- all that centres can do: the answer, its gap too, is that of finite ones, or they are not finite and it is 6
-  pub centres_unmeasured : (fits placed : Bool) → (answer fits placed ≡ answer fits true) ⊎ ((placed ≡ false) × (answer fits placed ≡ Refused 6))
+  pub centres_unmeasured : (fits placed : Bool) → (answer fits placed ≡ answer fits true) ⊎ ((placed ≡ false) × (answer fits placed ≡ ended 6))
   unfolding check_of judge test check on
   centres_unmeasured fits true = inl refl
   centres_unmeasured false false = inl refl
   centres_unmeasured true false = go (saw_bool (passes4 t)) (saw_bool (passes27 rules)) (saw_bool (passes28 rules t))
     where
-      go : (passes4 t ≡ true) ⊎ (passes4 t ≡ false) → (passes27 rules ≡ true) ⊎ (passes27 rules ≡ false) → (passes28 rules t ≡ true) ⊎ (passes28 rules t ≡ false) → (answer true false ≡ answer true true) ⊎ ((false ≡ false) × (answer true false ≡ Refused 6))
+      go : (passes4 t ≡ true) ⊎ (passes4 t ≡ false) → (passes27 rules ≡ true) ⊎ (passes27 rules ≡ false) → (passes28 rules t ≡ true) ⊎ (passes28 rules t ≡ false) → (answer true false ≡ answer true true) ⊎ ((false ≡ false) × (answer true false ≡ ended 6))
       go (inr a) b c = inl (rw a)
       go (inl a) (inr b) c = inl (rw (a, b))
       go (inl a) (inl b) (inr c) = inl (rw (a, b, c))

@@ -19,9 +19,8 @@ use Rattle.solve_method.specs.Position.{shifted_problem}
 use Rattle.solve_method.specs.Method.{method_of}
 use Rattle.check_range.specs.Closing.{Closing, closing_of}
 use Rattle.check_measure.specs.Verdict.{radius}
-use Rattle.check_answer.specs.Answer.{check_of}
-use Rattle.check_answer.specs.declared.CheckAnswer.{CheckAnswer}
-use Rattle.check_answer.specs.declared.CheckAnswer.TheVariants.{Closed, Open}
+use Rattle.check_answer.specs.Answer.{check_of, CheckAnswer}
+use Rattle.check_answer.specs.declared.Verdict.TheVariants.{Closed, Open}
 
 abbrev pub along : Float → Vec3
 along x = record { x = x; y = plus_zero; z = plus_zero }
@@ -139,9 +138,9 @@ sheets =
     solved (worked_of p1 thousandth modes.Diagonal 4)
     (going (record { flag = true; count = 1; solution = of_bits binary64 0x3fd0000000000000 ∷ []; accumulated = of_bits binary64 0x3fd0000000000000 ∷ []; residual = plus_zero }))
     -- P2: "P1's check at tolerance 2^-47: closed, as E = 17·2^-52". P3: "at 2^-48: open"
-    ∷ (verdict (check_of true (checked (of_bits binary64 0x3d00000000000000))) (Closed p1_gap)
+    ∷ (verdict (check_of true (checked (of_bits binary64 0x3d00000000000000))) (going (Closed p1_gap))
     ∷ (number (radius (checked (of_bits binary64 0x3d00000000000000)) 0) (of_bits binary64 0x3cf1000000000000)
-    ∷ (verdict (check_of true (checked (of_bits binary64 0x3cf0000000000000))) (Open p1_gap)
+    ∷ (verdict (check_of true (checked (of_bits binary64 0x3cf0000000000000))) (going (Open p1_gap))
     -- P4: "limit 1, mode 0: count 1, flag 0, linear residual 0.5, solution 0.5 and 0"
     ∷ (solved (worked_of chain thousandth modes.Diagonal 1)
     (going (record { flag = false; count = 1; solution = of_bits binary64 0x3fe0000000000000 ∷ (plus_zero ∷ []); accumulated = of_bits binary64 0x3fe0000000000000 ∷ (plus_zero ∷ []); residual = of_bits binary64 0x3fe0000000000000 }))

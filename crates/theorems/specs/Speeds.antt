@@ -13,8 +13,8 @@ use Rattle.solve_method.specs.Position.{moving_problem}
 use Rattle.check_range.specs.Closing.{Closing, speeds_of}
 use Rattle.check_measure.specs.Verdict.{radius}
 use Rattle.check_answer.specs.Answer.{check_of}
-use Rattle.check_answer.specs.declared.CheckAnswer.TheVariants.{Closed, Open, Refused}
 use Rattle.theorems.specs.Sheets.{along, row_on, mass_of_inverse, thousandth, alike, Worked, told_of, worked_of, p1_gap, Entry, solved, verdict, number}
+use Rattle.check_answer.specs.declared.Verdict.TheVariants.{Closed, Open}
 
 -- 1.0, 0.5 and 0.25
 abbrev pub whole : Float
@@ -110,9 +110,9 @@ speed_sheets =
     -- V1: "count 1, flag 1, accumulated impulse 0.25"
     solved (moved_of v1 (λ i. quarter) modes.Diagonal 4) (going (record { flag = true; count = 1; solution = quarter ∷ []; accumulated = quarter ∷ []; residual = plus_zero }))
     -- "check closed at 2^-47, open at 2^-48": the verdicts, E and gap of P2 and P3, whatever the error
-    ∷ (verdict (check_of true (sped v1 quarter (of_bits binary64 0x3d00000000000000))) (Closed p1_gap)
+    ∷ (verdict (check_of true (sped v1 quarter (of_bits binary64 0x3d00000000000000))) (going (Closed p1_gap))
     ∷ (number (radius (sped v1 quarter (of_bits binary64 0x3d00000000000000)) 0) (of_bits binary64 0x3cf1000000000000)
-    ∷ (verdict (check_of true (sped v1 quarter (of_bits binary64 0x3cf0000000000000))) (Open p1_gap)
+    ∷ (verdict (check_of true (sped v1 quarter (of_bits binary64 0x3cf0000000000000))) (going (Open p1_gap))
     -- V2: "mode 0 count 0, modes 1 and 2: 13"
     ∷ (solved (moved_of v2 v2_lent modes.Diagonal 4) stands
     ∷ (solved (moved_of v2 v2_lent (modes.IncompleteCholesky plus_zero) 4) (ended 13)
@@ -129,5 +129,5 @@ speed_sheets =
     ∷ (solved (moved_of (v5 half) (λ i. nan) modes.Diagonal 0) (ended 5)
     ∷ (solved (moved_of (v5 nan) (λ i. nan) modes.Diagonal 4) (ended 6)
     -- its check: 20 before 7, and after 6
-    ∷ (verdict (check_of true (sped (v5 half) nan thousandth)) (Refused 20)
-    ∷ (verdict (check_of true (sped (v5 nan) nan thousandth)) (Refused 6) ∷ []))))))))))))))))
+    ∷ (verdict (check_of true (sped (v5 half) nan thousandth)) (ended 20)
+    ∷ (verdict (check_of true (sped (v5 nan) nan thousandth)) (ended 6) ∷ []))))))))))))))))

@@ -6,6 +6,7 @@ use mathlib.Core.List.{List}
 use lib.ListN.{get_or, set, length}
 use lib.Ieee.{Float, nan, binary64, sub, mul, div}
 use lib.Ieee.Scale.{finite}
+use Rattle.std.specs.Prelude.{Result, Ok, Err}
 use Rattle.loops.specs.Run.{Run, going, ended, on}
 use Rattle.loops.proofs.Loop.{check_pass, check_fail}
 use Rattle.sparse.specs.Count.{count}
@@ -16,8 +17,7 @@ use Rattle.sparse.specs.Kept.{Row, numbers}
 use Rattle.triangular.specs.Column.{place_at, home_at}
 use Rattle.triangular.specs.Index.{Spread}
 use Rattle.triangular.specs.Answers.{solve_out, solved_out}
-use Rattle.triangular.specs.declared.substitution.Solved.{Solved}
-use Rattle.triangular.specs.declared.substitution.Solved.TheVariants.{Done, Overflow}
+use Rattle.triangular.specs.declared.substitution.Overflow.{Overflow}
 use Rattle.sparse.proofs.Hop.{plain, Skips}
 use Rattle.sparse.proofs.Rows.{numbers_some, numbers_none}
 use Rattle.triangular.proofs.Homes.{homes, home_at_lem}
@@ -48,21 +48,21 @@ pub forward_way : (L : Sparse) (pivots residual y : List Float) (i : ℕ) (v : F
 unfolding forward_turn
 forward_way L pivots residual y i v e h = rw (← e) h
 
-module _ {f : Run (List Float) (List Float)} (r : Solved) (y : List Float) (called : f ≡ solve_out r y) where
-  pub solved_on : r ≡ Done → f ≡ going y
+module _ {f : Run (List Float) (List Float)} (r : Result Unit Overflow) (y : List Float) (called : f ≡ solve_out r y) where
+  pub solved_on : r ≡ Ok tt → f ≡ going y
   solved_on told = called ∙ rw told
 
-  pub solved_out_lem : r ≡ Overflow → f ≡ ended y
+  pub solved_out_lem : {e : Overflow} → r ≡ Err e → f ≡ ended y
   solved_out_lem told = called ∙ rw told
 
 -- the number of an answer
-pub sixteen : {f : Run (List Float) (List Float)} (r : Solved) (y : List Float) → f ≡ solve_out r y → or_sixteen f ≡ solved_out r y
+pub sixteen : {f : Run (List Float) (List Float)} (r : Result Unit Overflow) (y : List Float) → f ≡ solve_out r y → or_sixteen f ≡ solved_out r y
 unfolding on
 sixteen r y e = rw e (by r)
   where
-    by : (q : Solved) → or_sixteen (solve_out q y) ≡ solved_out q y
-    by Done = refl
-    by Overflow = refl
+    by : (q : Result Unit Overflow) → or_sixteen (solve_out q y) ≡ solved_out q y
+    by (Ok _) = refl
+    by (Err _) = refl
 
 -- ---- along a column
 module _ {starts columns order : List ℕ} {n count j a b : ℕ} (spread : Spread starts columns order n count j a b) where
@@ -85,11 +85,11 @@ unfolding backward_turn
 backward_at L pivots y t n e h = rw (← e) h
 
 -- the ways through `solve`
-module _ (L : Sparse) (pivots residual y y' : List Float) (r : Solved) (called : forward_run L pivots residual y ≡ solve_out r y') where
-  pub solve_out_lem : r ≡ Overflow → solve_run L pivots residual y ≡ ended y'
+module _ (L : Sparse) (pivots residual y y' : List Float) (r : Result Unit Overflow) (called : forward_run L pivots residual y ≡ solve_out r y') where
+  pub solve_out_lem : {e : Overflow} → r ≡ Err e → solve_run L pivots residual y ≡ ended y'
   unfolding solve_run on
   solve_out_lem told = rw (called, told)
 
-  pub solve_on : {o : Run (List Float) (List Float)} → r ≡ Done → backward_run L pivots y' ≡ o → solve_run L pivots residual y ≡ o
+  pub solve_on : {o : Run (List Float) (List Float)} → r ≡ Ok tt → backward_run L pivots y' ≡ o → solve_run L pivots residual y ≡ o
   unfolding solve_run on
   solve_on told h = rw (called, told) h

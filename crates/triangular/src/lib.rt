@@ -6,4 +6,4 @@ pub mod columns; // columns.rt: the places in order of their columns
 pub mod substitution; // substitution.rt: the forward and the backward solve
 
 pub use columns::index;
-pub use substitution::{Solved, solve};
+pub use substitution::{Overflow, solve};

@@ -2,6 +2,7 @@
 ghost use Rattle.std.specs.Prelude.{◌≡◌, ◌+◌, ◌*◌, ◌<◌, ◌≤◌, length, get_or};
 ghost use Rattle.std.specs.Float.{nan, binary64};
 ghost use Rattle.std.specs.Float.Ieee.{mul};
+ghost use Rattle.refusals.specs.declared.Refusal.TheVariants.{Step};
 ghost use Rattle.sparse.specs.Count.{count as down};
 ghost use Rattle.sparse.specs.Kept.{Kept, numbers};
 ghost use Rattle.triangular.specs.Column.{place_at, home_at, Indexed};
@@ -10,12 +11,19 @@ ghost use Rattle.triangular.specs.Triangular.{transposed, along_turn, forward_tu
 ghost use Rattle.triangular.specs.Answers.{solve_out, solved_out};
 
 use loops::wide;
+use refusals::Refusal;
 use sparse::{Stretch, earlier, number, row};
 
-#[derive(Clone, Copy)]
-pub enum Solved {
-    Done,
-    Overflow,
+// A number of a solve is not finite: refusal 16.
+#[derive(Clone, Copy, Debug, PartialEq, Eq)]
+pub struct Overflow;
+
+impl From<Overflow> for Refusal {
+    ghost from_gives = { λ _ refusal. refusal ≡ Step };
+
+    fn from(_overflow: Overflow) -> Refusal {
+        Refusal::Step
+    }
 }
 
 // `value` less the products of row `i` with `output`
@@ -37,12 +45,9 @@ fn along_row(
     let first = row.first;
     let end = row.end;
     let mut rest = value;
-    let mut p = first;
-    while p < end {
-        let next = p + 1;
+    for p in first..end {
         let k = earlier(columns, i, first, end, p);
         rest = rest - number(values, p) * output[k];
-        p = next;
     }
     rest
 }
@@ -55,7 +60,7 @@ fn forward_at(
     residual: &[f64],
     output: &mut [f64],
     i: usize,
-) -> Solved
+) -> Result<(), Overflow>
     requires kept { Kept starts.now columns.now }
     requires values_len { length values.now ≡ length columns.now }
     requires starts_len { length starts.now ≡ length output.old + 1 }
@@ -68,9 +73,9 @@ fn forward_at(
     let value = along_row(residual[i], starts, columns, values, output, i) / pivots[i];
     output[i] = value;
     if !binary64::is_finite(value) {
-        return Solved::Overflow;
+        return Err(Overflow);
     }
-    Solved::Done
+    Ok(())
 }
 
 pub fn forward(
@@ -80,7 +85,7 @@ pub fn forward(
     pivots: &[f64],
     residual: &[f64],
     output: &mut [f64],
-) -> Solved
+) -> Result<(), Overflow>
     requires kept { Kept starts.now columns.now }
     requires values_len { length values.now ≡ length columns.now }
     requires starts_len { length starts.now ≡ length output.old + 1 }
@@ -89,14 +94,10 @@ pub fn forward(
     ensures { forward_run (numbers starts.now columns.now values.now) pivots.now residual.now output.old
         ≡ solve_out result output.new }
 {
-    let mut i = 0;
-    while i < residual.len() {
-        let Solved::Done = forward_at(starts, columns, values, pivots, residual, output, i) else {
-            return Solved::Overflow;
-        };
-        i += 1;
+    for i in 0..residual.len() {
+        forward_at(starts, columns, values, pivots, residual, output, i)?;
     }
-    Solved::Done
+    Ok(())
 }
 
 // Column `j` in the order by column.
@@ -189,12 +190,10 @@ fn along_column(
     let first = column.first;
     let end = column.end;
     let mut rest = value;
-    let mut q = first;
-    while q < end {
+    for q in first..end {
         let p = place_at(starts, columns, order, rows, count, j, first, end, q);
         let r = home(starts, columns, order, rows, count, j, first, end, q);
         rest = rest - term(values, output, p, r);
-        q += 1;
     }
     rest
 }
@@ -209,7 +208,7 @@ fn backward_at(
     pivots: &[f64],
     output: &mut [f64],
     i: usize,
-) -> Solved
+) -> Result<(), Overflow>
     requires indexed { Indexed starts.now columns.now order.now rows count }
     requires count_in_bounds { rows + 2 * count ≤ length order.now }
     requires count_in_bounds_2 { count ≤ length values.now }
@@ -224,9 +223,9 @@ fn backward_at(
     ) / pivots[i];
     output[i] = value;
     if !binary64::is_finite(value) {
-        return Solved::Overflow;
+        return Err(Overflow);
     }
-    Solved::Done
+    Ok(())
 }
 
 pub fn backward(
@@ -237,7 +236,7 @@ pub fn backward(
     values: &[f64],
     pivots: &[f64],
     output: &mut [f64],
-) -> Solved
+) -> Result<(), Overflow>
     requires indexed { Indexed starts.now columns.now order.now (length output.old) count }
     requires count_in_bounds { length output.old + 2 * count ≤ length order.now }
     requires count_in_bounds_2 { count ≤ length values.now }
@@ -246,17 +245,13 @@ pub fn backward(
         ≡ solve_out result output.new }
 {
     let rows = output.len();
-    let mut t = 0;
-    while t < rows {
+    for t in 0..rows {
         let i = rows - 1 - t;
-        let Solved::Done = backward_at(
+        backward_at(
             starts, columns, order, rows, count, values, pivots, output, i,
-        ) else {
-            return Solved::Overflow;
-        };
-        t += 1;
+        )?;
     }
-    Solved::Done
+    Ok(())
 }
 
 // The factor's two triangular solves on `residual`, into `output`.
@@ -269,7 +264,7 @@ pub fn solve(
     pivots: &[f64],
     residual: &[f64],
     output: &mut [f64],
-) -> Solved
+) -> Result<(), Overflow>
     requires indexed { Indexed starts.now columns.now order.now (length output.old) count }
     requires order_len { length order.now ≡ length output.old + 2 * length columns.now }
     requires values_len { length values.now ≡ length columns.now }
@@ -280,8 +275,6 @@ pub fn solve(
     ensures output_value_2 { or_sixteen (solve_run (numbers starts.now columns.now values.now) pivots.now residual.now output.old)
         ≡ solved_out result output.new }
 {
-    let Solved::Done = forward(starts, columns, values, pivots, residual, output) else {
-        return Solved::Overflow;
-    };
+    forward(starts, columns, values, pivots, residual, output)?;
     backward(starts, columns, order, count, values, pivots, output)
 }

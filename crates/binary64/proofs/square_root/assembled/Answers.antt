@@ -6,9 +6,7 @@ use Rattle.binary64.proofs.square_root.assembled.Goals as goal
 ruleset known = (joined, rules)
 
 pub overflow_add-result : goal.overflow_add-result
-overflow_add-result c =
-    search known
+overflow_add-result c = search known
 
 pub returns : goal.returns
-returns c =
-    search known
+returns c = search known

@@ -5,14 +5,8 @@ use Rattle.binary64.proofs.square_root.scaled.Goals as goal
 
 ruleset known = (even_left, odd_left, rules)
 
-pub overflow_sub-over : goal.overflow_sub-over
-overflow_sub-over c =
-    search known
-
 pub returns-then-over-eq1 : goal.returns-then-over-eq1
-returns-then-over-eq1 c =
-    search known
+returns-then-over-eq1 c = search known
 
 pub returns : goal.returns
-returns c =
-    search known
+returns c = search known

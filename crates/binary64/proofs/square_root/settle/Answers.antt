@@ -5,34 +5,14 @@ use Rattle.binary64.proofs.square_root.settle.Goals as goal
 
 ruleset known = (settle_two_code, share_takes, digit_adds, rules)
 
-pub overflow_mul-rest : goal.overflow_mul-rest
-overflow_mul-rest c =
-    search known
-
 pub overflow_add-rest : goal.overflow_add-rest
-overflow_add-rest c =
-    search known
-
-pub overflow_mul-result : goal.overflow_mul-result
-overflow_mul-result c =
-    search known
-
-pub next_digit-requires : goal.next_digit-requires
-next_digit-requires c =
-    search known
+overflow_add-rest c = search known
 
 pub overflow_add-result : goal.overflow_add-result
-overflow_add-result c =
-    search known
-
-pub next_share-requires : goal.next_share-requires
-next_share-requires c =
-    search known
+overflow_add-result c = search known
 
 pub overflow_sub-result : goal.overflow_sub-result
-overflow_sub-result c =
-    search known
+overflow_sub-result c = search known
 
 pub returns : goal.returns
-returns c =
-    search known
+returns c = search known

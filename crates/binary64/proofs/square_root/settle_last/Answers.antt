@@ -5,42 +5,20 @@ use Rattle.binary64.proofs.square_root.settle_last.Goals as goal
 
 ruleset known = (settle_bit, bit_adds, bit_times, bit_within, rules)
 
-pub overflow_mul-rest : goal.overflow_mul-rest
-overflow_mul-rest c =
-    search known
-
 pub overflow_add-rest : goal.overflow_add-rest
-overflow_add-rest c =
-    search known
-
-pub overflow_mul-trial : goal.overflow_mul-trial
-overflow_mul-trial c =
-    search known
+overflow_add-rest c = search known
 
 pub overflow_add-trial : goal.overflow_add-trial
-overflow_add-trial c =
-    search known
+overflow_add-trial c = search known
 
 pub overflow_cast-bit : goal.overflow_cast-bit
-overflow_cast-bit c =
-    search known
-
-pub overflow_mul-result : goal.overflow_mul-result
-overflow_mul-result c =
-    search known
+overflow_cast-bit c = search known
 
 pub overflow_add-result : goal.overflow_add-result
-overflow_add-result c =
-    search known
-
-pub overflow_mul-result-2 : goal.overflow_mul-result-2
-overflow_mul-result-2 c =
-    search known
+overflow_add-result c = search known
 
 pub overflow_sub-result : goal.overflow_sub-result
-overflow_sub-result c =
-    search known
+overflow_sub-result c = search known
 
 pub returns : goal.returns
-returns c =
-    search known
+returns c = search known

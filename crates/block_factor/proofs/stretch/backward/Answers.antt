@@ -11,34 +11,9 @@ unfolding block_backward_run
 loop-t-init c =
     search known
 
-pub overflow_sub-row : goal.overflow_sub-row
+pub returns-in_err-backward_at : goal.returns-in_err-backward_at
 unfolding block_backward_run
-overflow_sub-row c =
-    search known
-
-pub overflow_sub-row-in-loop-t : goal.overflow_sub-row-in-loop-t
-unfolding block_backward_run
-overflow_sub-row-in-loop-t c =
-    search known
-
-pub backward_at-requires : goal.backward_at-requires
-unfolding block_backward_run
-backward_at-requires c =
-    search known
-
-pub returns-in_default : goal.returns-in_default
-unfolding block_backward_run
-returns-in_default c =
-    search known
-
-pub overflow_add-t : goal.overflow_add-t
-unfolding block_backward_run
-overflow_add-t c =
-    search known
-
-pub loop-t-smaller : goal.loop-t-smaller
-unfolding block_backward_run
-loop-t-smaller c =
+returns-in_err-backward_at c =
     search known
 
 pub loop-t-preserved : goal.loop-t-preserved

@@ -1,5 +1,4 @@
 -- `block_factor::stretch::backward` meets its contract: the last t rows are solved. Assumes nothing.
-use Prim.Native.Nat.{◌-◌}
 use mathlib.Core.Path.{◌≡◌}
 use lib.ListN.{length}
 use Rattle.block_factor.specs.Solves.{block_backward_turn}
@@ -9,6 +8,3 @@ use Rattle.block_factor.proofs.stretch.backward.Given as goal
 abbrev pub invariant-loop-t : goal.invariant-loop-t
 invariant-loop-t l =
     (length l.part ≡ length l.initial.part) × At (block_backward_turn l.lower (length l.initial.part)) l.initial.part (length l.initial.part) l.t l.part
-
-abbrev pub decreases-loop-t : goal.decreases-loop-t
-decreases-loop-t l = length l.initial.part - l.t

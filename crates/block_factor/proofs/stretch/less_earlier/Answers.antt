@@ -10,38 +10,6 @@ pub loop-k-init : goal.loop-k-init
 loop-k-init c =
     search known
 
-pub overflow_mul-rest : goal.overflow_mul-rest
-overflow_mul-rest c =
-    search known
-
-pub overflow_add-rest : goal.overflow_add-rest
-overflow_add-rest c =
-    search known
-
-pub offset_bounds-lower-row : goal.offset_bounds-lower-row
-offset_bounds-lower-row c =
-    search known
-
-pub bounds-lower-row : goal.bounds-lower-row
-bounds-lower-row c =
-    search known
-
-pub offset_bounds-part-k : goal.offset_bounds-part-k
-offset_bounds-part-k c =
-    search known
-
-pub bounds-part-k : goal.bounds-part-k
-bounds-part-k c =
-    search known
-
-pub overflow_add-k : goal.overflow_add-k
-overflow_add-k c =
-    search known
-
-pub loop-k-smaller : goal.loop-k-smaller
-loop-k-smaller c =
-    search known
-
 pub loop-k-preserved : goal.loop-k-preserved
 loop-k-preserved c =
     search known

@@ -1,5 +1,4 @@
 -- `block_factor::stretch::less_earlier` meets its contract: the columns before k are subtracted. Assumes nothing.
-use Prim.Native.Nat.{◌-◌}
 use Rattle.block_factor.proofs.Cells.{Counts}
 use Rattle.block_factor.specs.Solves.{block_forward_less}
 use Rattle.block_factor.proofs.stretch.less_earlier.Given as goal
@@ -7,6 +6,3 @@ use Rattle.block_factor.proofs.stretch.less_earlier.Given as goal
 abbrev pub invariant-loop-k : goal.invariant-loop-k
 invariant-loop-k l =
     Counts (block_forward_less l.lower l.part l.row) l.value l.row l.k l.rest
-
-abbrev pub decreases-loop-k : goal.decreases-loop-k
-decreases-loop-k l = l.row - l.k

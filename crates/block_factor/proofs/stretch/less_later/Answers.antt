@@ -10,46 +10,6 @@ pub loop-k-init : goal.loop-k-init
 loop-k-init c =
     search known
 
-pub overflow_add-lower_row : goal.overflow_add-lower_row
-overflow_add-lower_row c =
-    search known
-
-pub overflow_add-lower_row-in-loop-k : goal.overflow_add-lower_row-in-loop-k
-overflow_add-lower_row-in-loop-k c =
-    search known
-
-pub overflow_mul-rest : goal.overflow_mul-rest
-overflow_mul-rest c =
-    search known
-
-pub overflow_add-rest : goal.overflow_add-rest
-overflow_add-rest c =
-    search known
-
-pub offset_bounds-lower-lower_row : goal.offset_bounds-lower-lower_row
-offset_bounds-lower-lower_row c =
-    search known
-
-pub bounds-lower-lower_row : goal.bounds-lower-lower_row
-bounds-lower-lower_row c =
-    search known
-
-pub offset_bounds-part-lower_row : goal.offset_bounds-part-lower_row
-offset_bounds-part-lower_row c =
-    search known
-
-pub bounds-part-lower_row : goal.bounds-part-lower_row
-bounds-part-lower_row c =
-    search known
-
-pub overflow_add-k : goal.overflow_add-k
-overflow_add-k c =
-    search known
-
-pub loop-k-smaller : goal.loop-k-smaller
-loop-k-smaller c =
-    search known
-
 pub loop-k-preserved : goal.loop-k-preserved
 loop-k-preserved c =
     search known

@@ -5,104 +5,28 @@ use Rattle.block_factor.proofs.stretch.solve_block.Goals as goal
 
 ruleset known = (rows_solved, first_long, first_like, first_few, first_alike, loops)
 
-pub slice_bounds-solve_rows-end : goal.slice_bounds-solve_rows-end
-slice_bounds-solve_rows-end c =
-    search known
-
-pub slice_bounds-solve_rows-end-in-1 : goal.slice_bounds-solve_rows-end-in-1
-slice_bounds-solve_rows-end-in-1 c =
-    search known
-
-pub slice_bounds-solve_rows-end-in-1-2 : goal.slice_bounds-solve_rows-end-in-1-2
-slice_bounds-solve_rows-end-in-1-2 c =
-    search known
-
 pub solve_rows-requires : goal.solve_rows-requires
 solve_rows-requires c =
-    search known
-
-pub slice_bounds-solve_rows-end-in-2 : goal.slice_bounds-solve_rows-end-in-2
-slice_bounds-solve_rows-end-in-2 c =
-    search known
-
-pub slice_bounds-solve_rows-end-in-2-2 : goal.slice_bounds-solve_rows-end-in-2-2
-slice_bounds-solve_rows-end-in-2-2 c =
-    search known
-
-pub slice_bounds-solve_rows-end-in-2-3 : goal.slice_bounds-solve_rows-end-in-2-3
-slice_bounds-solve_rows-end-in-2-3 c =
     search known
 
 pub solve_rows-requires-in-2 : goal.solve_rows-requires-in-2
 solve_rows-requires-in-2 c =
     search known
 
-pub slice_bounds-solve_rows-end-in-3 : goal.slice_bounds-solve_rows-end-in-3
-slice_bounds-solve_rows-end-in-3 c =
-    search known
-
-pub slice_bounds-solve_rows-end-in-3-2 : goal.slice_bounds-solve_rows-end-in-3-2
-slice_bounds-solve_rows-end-in-3-2 c =
-    search known
-
-pub slice_bounds-solve_rows-end-in-3-3 : goal.slice_bounds-solve_rows-end-in-3-3
-slice_bounds-solve_rows-end-in-3-3 c =
-    search known
-
 pub solve_rows-requires-in-3 : goal.solve_rows-requires-in-3
 solve_rows-requires-in-3 c =
-    search known
-
-pub slice_bounds-solve_rows-end-in-4 : goal.slice_bounds-solve_rows-end-in-4
-slice_bounds-solve_rows-end-in-4 c =
-    search known
-
-pub slice_bounds-solve_rows-end-in-4-2 : goal.slice_bounds-solve_rows-end-in-4-2
-slice_bounds-solve_rows-end-in-4-2 c =
-    search known
-
-pub slice_bounds-solve_rows-end-in-4-3 : goal.slice_bounds-solve_rows-end-in-4-3
-slice_bounds-solve_rows-end-in-4-3 c =
     search known
 
 pub solve_rows-requires-in-4 : goal.solve_rows-requires-in-4
 solve_rows-requires-in-4 c =
     search known
 
-pub slice_bounds-solve_rows-end-in-5 : goal.slice_bounds-solve_rows-end-in-5
-slice_bounds-solve_rows-end-in-5 c =
-    search known
-
-pub slice_bounds-solve_rows-end-in-5-2 : goal.slice_bounds-solve_rows-end-in-5-2
-slice_bounds-solve_rows-end-in-5-2 c =
-    search known
-
-pub slice_bounds-solve_rows-end-in-5-3 : goal.slice_bounds-solve_rows-end-in-5-3
-slice_bounds-solve_rows-end-in-5-3 c =
-    search known
-
 pub solve_rows-requires-in-5 : goal.solve_rows-requires-in-5
 solve_rows-requires-in-5 c =
     search known
 
-pub slice_bounds-solve_rows-end-in-6 : goal.slice_bounds-solve_rows-end-in-6
-slice_bounds-solve_rows-end-in-6 c =
-    search known
-
-pub slice_bounds-solve_rows-end-in-6-2 : goal.slice_bounds-solve_rows-end-in-6-2
-slice_bounds-solve_rows-end-in-6-2 c =
-    search known
-
-pub slice_bounds-solve_rows-end-in-6-3 : goal.slice_bounds-solve_rows-end-in-6-3
-slice_bounds-solve_rows-end-in-6-3 c =
-    search known
-
 pub solve_rows-requires-in-6 : goal.solve_rows-requires-in-6
 solve_rows-requires-in-6 c =
-    search known
-
-pub solve_rows-requires-in_default : goal.solve_rows-requires-in_default
-solve_rows-requires-in_default c =
     search known
 
 pub returns-in-1 : goal.returns-in-1

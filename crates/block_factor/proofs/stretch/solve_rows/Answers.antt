@@ -5,14 +5,6 @@ use Rattle.block_factor.proofs.stretch.solve_rows.Goals as goal
 
 ruleset known = (block_solved, loops)
 
-pub forward-requires : goal.forward-requires
-forward-requires c =
-    search known
-
-pub backward-requires : goal.backward-requires
-backward-requires c =
-    search known
-
 pub returns : goal.returns
 returns c =
     search known

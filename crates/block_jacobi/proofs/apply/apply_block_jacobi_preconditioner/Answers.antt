@@ -1,5 +1,6 @@
 -- `block_jacobi::apply::apply_block_jacobi_preconditioner` meets its contract: the stretches of the runs before `start` are solved. Assumes nothing.
 use Prim.Native.Nat.{◌*◌}
+use Rattle.std.specs.Prelude.{◌≡◌, Err}
 use native.Mathlib.Omega.{arith}
 use Rattle.loops.proofs.Loop.{loops}
 use Rattle.block_jacobi.proofs.RunsOf.{runs_none, runs_more, runs_stop, runs_end, run_within, run_some}
@@ -12,77 +13,15 @@ pub loop-start-init : goal.loop-start-init
 loop-start-init c =
     search known
 
-pub run_length-len-requires : goal.run_length-len-requires
-run_length-len-requires c =
-    search known
-
-pub overflow_add-end : goal.overflow_add-end
-overflow_add-end c =
-    search known
-
-pub overflow_mul-at : goal.overflow_mul-at
-overflow_mul-at c =
-    search known
-
-pub overflow_add-at : goal.overflow_add-at
-overflow_add-at c =
-    search known
-
-pub offset_bounds-blocks-at : goal.offset_bounds-blocks-at
-offset_bounds-blocks-at c =
-    search known
-
-pub slice_bounds-solve_block-count : goal.slice_bounds-solve_block-count
-slice_bounds-solve_block-count c =
-    search known
-
-pub slice_bounds-solve_block-start : goal.slice_bounds-solve_block-start
-slice_bounds-solve_block-start c =
-    search known
-
-pub slice_bounds-solve_block-end : goal.slice_bounds-solve_block-end
-slice_bounds-solve_block-end c =
-    search known
-
-pub offset_bounds-residual-start : goal.offset_bounds-residual-start
-offset_bounds-residual-start c =
-    search known
-
-pub slice_bounds-solve_block-count-in-loop-start : goal.slice_bounds-solve_block-count-in-loop-start
-slice_bounds-solve_block-count-in-loop-start c =
-    search known
-
-pub slice_bounds-solve_block-start-in-loop-start : goal.slice_bounds-solve_block-start-in-loop-start
-slice_bounds-solve_block-start-in-loop-start c =
-    search known
-
-pub slice_bounds-solve_block-end-in-loop-start : goal.slice_bounds-solve_block-end-in-loop-start
-slice_bounds-solve_block-end-in-loop-start c =
-    search known
-
-pub offset_bounds-output-start : goal.offset_bounds-output-start
-offset_bounds-output-start c =
-    search known
-
-pub slice_bounds-solve_block-count-in-loop-start-2 : goal.slice_bounds-solve_block-count-in-loop-start-2
-slice_bounds-solve_block-count-in-loop-start-2 c =
-    search known
-
-pub slice_bounds-solve_block-start-in-loop-start-2 : goal.slice_bounds-solve_block-start-in-loop-start-2
-slice_bounds-solve_block-start-in-loop-start-2 c =
-    search known
-
-pub slice_bounds-solve_block-end-in-loop-start-2 : goal.slice_bounds-solve_block-end-in-loop-start-2
-slice_bounds-solve_block-end-in-loop-start-2 c =
-    search known
-
 pub solve_block-requires : goal.solve_block-requires
 solve_block-requires c =
     (part_length c.args.blocks.now (36 * c.loop-start.start) 36 (omega (arith, c.run_length-len.ensures, c.loop-start.invariant, c.requires.owners_len, c.requires.runs_fit)), lent_six _ _ _ (omega (arith, c.run_length-len.ensures, c.loop-start.invariant, c.requires.owners_len, c.requires.runs_fit)) (six_rows _ _ _ _ c.requires.runs_fit (omega arith) (c.loop-start.invariant.1.first (omega arith)) c.run_length-len.ensures.is), lent_alike c.args.residual.now c.loop-start.output c.loop-start.start _ (omega (arith, c.run_length-len.ensures, c.loop-start.invariant, c.requires.owners_len, c.requires.runs_fit)) (omega (arith, c.run_length-len.ensures, c.loop-start.invariant, c.requires.owners_len, c.requires.runs_fit)))
 
-pub returns-in_default : goal.returns-in_default
-returns-in_default c =
-    solves_stop _ _ _ _ _ _ _ (omega (arith, c.requires.owners_len, c.requires.runs_fit)) c.loop-start.invariant.1 (omega arith) (solve_out_lem _ _ _ _ _ _ _ _ _ (c.loop-start.invariant.1.first (omega arith)) c.run_length-len.ensures.is (omega (arith, c.requires.owners_len, c.requires.runs_fit)) c.solve_block.ensures c.in_default.is)
+pub returns-in_err-solve_block : goal.returns-in_err-solve_block
+returns-in_err-solve_block c =
+    let e : c.from_residual.result ≡ Err c.in_err-solve_block.field-0.0 = search known in
+    let stopped = solve_out_lem _ _ _ _ _ _ _ _ _ (c.loop-start.invariant.1.first (omega arith)) c.run_length-len.ensures.is (omega (arith, c.requires.owners_len, c.requires.runs_fit)) c.solve_block.ensures (search known) in
+    rw e (solves_stop _ _ _ _ _ _ _ (omega (arith, c.requires.owners_len, c.requires.runs_fit)) c.loop-start.invariant.1 (omega arith) stopped)
 
 pub loop-start-smaller : goal.loop-start-smaller
 loop-start-smaller c =
@@ -90,7 +29,7 @@ loop-start-smaller c =
 
 pub loop-start-preserved : goal.loop-start-preserved
 loop-start-preserved c =
-    (search known, runs_more c.loop-start.invariant.1 (solves_pass _ _ _) (omega arith) c.run_length-len.ensures.is (solve_on _ _ _ _ _ _ _ _ _ (c.loop-start.invariant.1.first (omega arith)) c.run_length-len.ensures.is (omega (arith, c.requires.owners_len, c.requires.runs_fit)) c.solve_block.ensures c.in-Done.is))
+    (search known, runs_more c.loop-start.invariant.1 (solves_pass _ _ _) (omega arith) c.run_length-len.ensures.is (solve_on _ _ _ _ _ _ _ _ _ (c.loop-start.invariant.1.first (omega arith)) c.run_length-len.ensures.is (omega (arith, c.requires.owners_len, c.requires.runs_fit)) c.solve_block.ensures (search known)))
 
 pub returns : goal.returns
 returns c =

@@ -1,16 +1,11 @@
 -- `check_alone::memory::checked_in` meets its contract. Assumes nothing.
-use Rattle.closing_check.proofs.Entry.{passed_3}
-use Rattle.check_alone.proofs.Alone.{alone_3}
+use Prim.Native.Nat.{◌*◌, ◌≤◌}
+use native.Mathlib.Omega.{arith}
+use Rattle.check_refusals.proofs.Fitting.{given_of}
 use Rattle.check_alone.proofs.memory.checked_in.Goals as goal
 
-pub returns-then-not-given_fits : goal.returns-then-not-given_fits
-returns-then-not-given_fits c =
-    alone_3 _ _ _ c.given_fits.ensures c.if-not-given_fits.true-raw
-
-pub with_memory-requires : goal.with_memory-requires
-with_memory-requires c =
-    passed_3 c.given_fits.ensures c.if-not-given_fits.false-raw
-
-pub returns : goal.returns
-returns c =
-    c.with_memory.ensures
+pub checked_within-requires : goal.checked_within-requires
+checked_within-requires c = record {
+  memory = (let r : 512 ≤ 512 = omega arith in r, let b : 1536 ≤ 1536 = omega arith in b);
+  room = λ h. let g = given_of c.args.kind _ _ _ h in (g.rows, let b : 6 * c.args.b ≤ 1536 = omega (arith, g.bodies) in b);
+}

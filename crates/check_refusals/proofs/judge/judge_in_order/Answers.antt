@@ -8,98 +8,59 @@ use Rattle.check_refusals.proofs.judge.judge_in_order.Goals as goal
 
 ruleset known = (judging, words_pass, rows_pass, placed_pass, given_fail, given_pass, range_pass, rules)
 
-pub words_fit-requires : goal.words_fit-requires
-unfolding passes6 passes7
-words_fit-requires c =
-    search known
-
 pub returns-then-not-words_fit : goal.returns-then-not-words_fit
 unfolding passes6 passes7
-returns-then-not-words_fit c =
-    search known
-
-pub rules_fit-requires : goal.rules_fit-requires
-unfolding passes6 passes7
-rules_fit-requires c =
-    search known
+returns-then-not-words_fit c = search known
 
 pub returns-then-not-rules_fit : goal.returns-then-not-rules_fit
 unfolding passes6 passes7
-returns-then-not-rules_fit c =
-    search known
-
-pub rows_ruled-requires : goal.rows_ruled-requires
-unfolding passes6 passes7
-rows_ruled-requires c =
-    search known
+returns-then-not-rules_fit c = search known
 
 pub returns-then-not-rows_ruled : goal.returns-then-not-rows_ruled
 unfolding passes6 passes7
-returns-then-not-rows_ruled c =
-    search known
-
-pub masses_finite-requires : goal.masses_finite-requires
-unfolding passes6 passes7
-masses_finite-requires c =
-    search known
+returns-then-not-rows_ruled c = search known
 
 pub returns-then-not-masses_finite-placed : goal.returns-then-not-masses_finite-placed
 unfolding passes6 passes7
-returns-then-not-masses_finite-placed c =
-    search known
-
-pub given_finite-requires : goal.given_finite-requires
-unfolding passes6 passes7
-given_finite-requires c =
-    search known
+returns-then-not-masses_finite-placed c = search known
 
 pub returns-then-not-given_finite : goal.returns-then-not-given_finite
 unfolding passes6 passes7
 returns-then-not-given_finite c =
-    judge_pass _ _ _ (words_pass _ _ _ _ _ c.words_fit.ensures) c.if-not-words_fit.false-raw
-    (judge_pass _ _ _ c.rules_fit.ensures c.if-not-rules_fit.false-raw
-    (judge_pass _ _ _ (rows_pass _ _ _ _ _ _ c.rows_ruled.ensures) c.if-not-rows_ruled.false-raw
-    (judge_pass _ _ _ (placed_pass _ c.masses_finite.ensures) c.if-not-masses_finite-placed.false-raw
-    (given_fail c.args.kind (coefficients c.args.given.now) c.args.rows _ c.given_finite.ensures c.if-not-given_finite.true-raw))))
-
-pub rows_valid-requires : goal.rows_valid-requires
-unfolding passes6 passes7
-rows_valid-requires c =
-    search known
+    judge_pass _ _ _ (words_pass _ _ _ _ _ c.words_fit.ensures) (search rules)
+    (judge_pass _ _ _ c.rules_fit.ensures (search rules)
+    (judge_pass _ _ _ (rows_pass _ _ _ _ _ _ c.rows_ruled.ensures) (search rules)
+    (judge_pass _ _ _ (placed_pass _ c.masses_finite.ensures) (search rules)
+    (given_fail c.args.kind (coefficients c.args.given.now) c.args.rows _ c.given_finite.ensures (search rules)))))
 
 pub returns-then-not-rows_valid : goal.returns-then-not-rows_valid
 unfolding passes6 passes7
 returns-then-not-rows_valid c =
-    judge_pass _ _ _ (words_pass _ _ _ _ _ c.words_fit.ensures) c.if-not-words_fit.false-raw
-    (judge_pass _ _ _ c.rules_fit.ensures c.if-not-rules_fit.false-raw
-    (judge_pass _ _ _ (rows_pass _ _ _ _ _ _ c.rows_ruled.ensures) c.if-not-rows_ruled.false-raw
-    (judge_pass _ _ _ (placed_pass _ c.masses_finite.ensures) c.if-not-masses_finite-placed.false-raw
-    (given_pass c.args.kind (coefficients c.args.given.now) c.args.rows _ c.given_finite.ensures c.if-not-given_finite.false-raw
-    (judge_fail _ _ _ c.rows_valid.ensures c.if-not-rows_valid.true-raw)))))
-
-pub table_in_range-requires : goal.table_in_range-requires
-unfolding passes6 passes7
-table_in_range-requires c =
-    search known
+    judge_pass _ _ _ (words_pass _ _ _ _ _ c.words_fit.ensures) (search rules)
+    (judge_pass _ _ _ c.rules_fit.ensures (search rules)
+    (judge_pass _ _ _ (rows_pass _ _ _ _ _ _ c.rows_ruled.ensures) (search rules)
+    (judge_pass _ _ _ (placed_pass _ c.masses_finite.ensures) (search rules)
+    (given_pass c.args.kind (coefficients c.args.given.now) c.args.rows _ c.given_finite.ensures (search rules)
+    (judge_fail _ _ _ c.rows_valid.ensures (search rules))))))
 
 pub returns-then-not-table_in_range : goal.returns-then-not-table_in_range
 unfolding passes6 passes7
 returns-then-not-table_in_range c =
-    judge_pass _ _ _ (words_pass _ _ _ _ _ c.words_fit.ensures) c.if-not-words_fit.false-raw
-    (judge_pass _ _ _ c.rules_fit.ensures c.if-not-rules_fit.false-raw
-    (judge_pass _ _ _ (rows_pass _ _ _ _ _ _ c.rows_ruled.ensures) c.if-not-rows_ruled.false-raw
-    (judge_pass _ _ _ (placed_pass _ c.masses_finite.ensures) c.if-not-masses_finite-placed.false-raw
-    (given_pass c.args.kind (coefficients c.args.given.now) c.args.rows _ c.given_finite.ensures c.if-not-given_finite.false-raw
-    (judge_pass _ _ _ c.rows_valid.ensures c.if-not-rows_valid.false-raw
-    (judge_fail _ _ _ (range_pass c.args.kind c.args.given.now _ _ _ _ _ _ c.table_in_range.ensures) c.if-not-table_in_range.true-raw))))))
+    judge_pass _ _ _ (words_pass _ _ _ _ _ c.words_fit.ensures) (search rules)
+    (judge_pass _ _ _ c.rules_fit.ensures (search rules)
+    (judge_pass _ _ _ (rows_pass _ _ _ _ _ _ c.rows_ruled.ensures) (search rules)
+    (judge_pass _ _ _ (placed_pass _ c.masses_finite.ensures) (search rules)
+    (given_pass c.args.kind (coefficients c.args.given.now) c.args.rows _ c.given_finite.ensures (search rules)
+    (judge_pass _ _ _ c.rows_valid.ensures (search rules)
+    (judge_fail _ _ _ (range_pass c.args.kind c.args.given.now _ _ _ _ _ _ c.table_in_range.ensures) (search rules)))))))
 
 pub returns : goal.returns
 unfolding passes6 passes7
 returns c =
-    judge_pass _ _ _ (words_pass _ _ _ _ _ c.words_fit.ensures) c.if-not-words_fit.false-raw
-    (judge_pass _ _ _ c.rules_fit.ensures c.if-not-rules_fit.false-raw
-    (judge_pass _ _ _ (rows_pass _ _ _ _ _ _ c.rows_ruled.ensures) c.if-not-rows_ruled.false-raw
-    (judge_pass _ _ _ (placed_pass _ c.masses_finite.ensures) c.if-not-masses_finite-placed.false-raw
-    (given_pass c.args.kind (coefficients c.args.given.now) c.args.rows _ c.given_finite.ensures c.if-not-given_finite.false-raw
-    (judge_pass _ _ _ c.rows_valid.ensures c.if-not-rows_valid.false-raw
-    (judge_pass _ _ _ (range_pass c.args.kind c.args.given.now _ _ _ _ _ _ c.table_in_range.ensures) c.if-not-table_in_range.false-raw judge_done))))))
+    judge_pass _ _ _ (words_pass _ _ _ _ _ c.words_fit.ensures) (search rules)
+    (judge_pass _ _ _ c.rules_fit.ensures (search rules)
+    (judge_pass _ _ _ (rows_pass _ _ _ _ _ _ c.rows_ruled.ensures) (search rules)
+    (judge_pass _ _ _ (placed_pass _ c.masses_finite.ensures) (search rules)
+    (given_pass c.args.kind (coefficients c.args.given.now) c.args.rows _ c.given_finite.ensures (search rules)
+    (judge_pass _ _ _ c.rows_valid.ensures (search rules)
+    (judge_pass _ _ _ (range_pass c.args.kind c.args.given.now _ _ _ _ _ _ c.table_in_range.ensures) (search rules) judge_done))))))

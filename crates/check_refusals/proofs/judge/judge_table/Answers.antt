@@ -6,7 +6,3 @@ pub returns-then-ruled-placed : goal.returns-then-ruled-placed
 returns-then-ruled-placed c =
     all_at_once c.args.kind c.args.given.now _ _ _ _ _ c.args.multipliers.now _ _
     c.rules_fit.ensures c.rows_ruled.ensures c.given_finite.ensures c.masses_in_range.ensures c.rows_sound.ensures c.if-ruled-placed.true
-
-pub returns : goal.returns
-returns c =
-    c.judge_in_order.ensures

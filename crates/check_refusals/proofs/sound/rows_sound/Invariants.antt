@@ -1,5 +1,4 @@
 -- `check_refusals::sound::rows_sound` meets its contract: so far it tells whether the rows below i are sound. Assumes nothing.
-use Prim.Native.Nat.{◌-◌}
 use lib.Ieee.{nan}
 use lib.ListN.{get_or}
 use Rattle.kapitsa_joint.specs.Row.{row_of}
@@ -11,6 +10,3 @@ use Rattle.check_refusals.proofs.sound.rows_sound.Given as goal
 abbrev pub invariant-loop-i : goal.invariant-loop-i
 invariant-loop-i l =
     SoFar (λ k. row_sound l.bodies (row_of l.numbers l.words k) (error_in l.kind l.numbers l.given k) (get_or l.multipliers k nan)) l.rows l.i l.all
-
-abbrev pub decreases-loop-i : goal.decreases-loop-i
-decreases-loop-i l = l.rows - l.i

@@ -12,4 +12,7 @@ add_row-requires-2 c =
 
 pub returns : goal.returns
 returns c =
-    record { impulses_after = rw (c.add_row.ensures, c.jacobian_at-j.ensures); size_impulses_after = rw (c.add_row-2.ensures, c.abs.ensures, c.row_size.ensures, c.jacobian_at-j.ensures) }
+    record {
+      impulses_after = rw (c.add_row.ensures, c.jacobian_at-j.ensures);
+      size_impulses_after = rw (c.add_row-2.ensures, c.abs.ensures, c.row_size.ensures, c.jacobian_at-j.ensures);
+    }

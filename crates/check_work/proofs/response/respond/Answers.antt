@@ -6,25 +6,13 @@ use Rattle.check_work.proofs.response.respond.Goals as goal
 ruleset known = (turned_none, turned_more, turned_all, loops)
 
 pub loop-b-init : goal.loop-b-init
-loop-b-init c =
-    search known
+loop-b-init c = search known
 
 pub turn_both-requires : goal.turn_both-requires
-turn_both-requires c =
-    search known
-
-pub overflow_add-b : goal.overflow_add-b
-overflow_add-b c =
-    search known
-
-pub loop-b-smaller : goal.loop-b-smaller
-loop-b-smaller c =
-    search known
+turn_both-requires c = search known
 
 pub loop-b-preserved : goal.loop-b-preserved
-loop-b-preserved c =
-    search known
+loop-b-preserved c = search known
 
 pub returns : goal.returns
-returns c =
-    record { paired = turned_all _ c.loop-b.invariant.1 (search known); paired_2 = turned_all _ c.loop-b.invariant.2 (search known) }
+returns c = search known

@@ -12,4 +12,7 @@ value_of-size-requires c =
 
 pub returns : goal.returns
 returns c =
-    record { value_value = rw (c.value_of-value.ensures, c.jacobian_at-j.ensures); size_value = rw (c.value_of-size.ensures, c.row_size.ensures, c.jacobian_at-j.ensures) }
+    record {
+      value_value = rw (c.value_of-value.ensures, c.jacobian_at-j.ensures);
+      size_value = rw (c.value_of-size.ensures, c.row_size.ensures, c.jacobian_at-j.ensures);
+    }

@@ -8,6 +8,3 @@ use Rattle.first_refusal.proofs.run.run_length.Given as goal
 abbrev pub invariant-loop-k : goal.invariant-loop-k
 invariant-loop-k l =
     Led (λ k. eqb (owner_at l.words (l.start + k)) (owner_at l.words l.start)) (l.rows - l.start) l.k
-
-abbrev pub decreases-loop-k : goal.decreases-loop-k
-decreases-loop-k l = l.rows - l.start - l.k

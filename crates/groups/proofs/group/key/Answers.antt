@@ -6,81 +6,11 @@ use Rattle.groups.proofs.group.key.Goals as goal
 
 ruleset known = (key_a, key_b, key_own, rules)
 
-pub overflow_mul-at : goal.overflow_mul-at
-overflow_mul-at c =
-    search known
-
-pub overflow_add-at : goal.overflow_add-at
-overflow_add-at c =
-    search known
-
-pub offset_bounds-words-at : goal.offset_bounds-words-at
-offset_bounds-words-at c =
-    search known
-
-pub bounds-words-at : goal.bounds-words-at
-bounds-words-at c =
-    search known
-
-pub wide-a-requires : goal.wide-a-requires
-wide-a-requires c =
-    search known
-
-pub is_massless-requires : goal.is_massless-requires
-is_massless-requires c =
-    search known
-
-pub offset_bounds-labels-a : goal.offset_bounds-labels-a
-offset_bounds-labels-a c =
-    search known
-
-pub bounds-labels-a : goal.bounds-labels-a
-bounds-labels-a c =
-    search known
-
 pub returns-then-not-is_massless : goal.returns-then-not-is_massless
-returns-then-not-is_massless c =
-    search known
-
-pub overflow_add-at-2 : goal.overflow_add-at-2
-overflow_add-at-2 c =
-    search known
-
-pub offset_bounds-words-at-2 : goal.offset_bounds-words-at-2
-offset_bounds-words-at-2 c =
-    search known
-
-pub bounds-words-at-2 : goal.bounds-words-at-2
-bounds-words-at-2 c =
-    search known
-
-pub wide-b-requires : goal.wide-b-requires
-wide-b-requires c =
-    search known
-
-pub is_massless-requires-2 : goal.is_massless-requires-2
-is_massless-requires-2 c =
-    search known
-
-pub offset_bounds-labels-b : goal.offset_bounds-labels-b
-offset_bounds-labels-b c =
-    search known
-
-pub bounds-labels-b : goal.bounds-labels-b
-bounds-labels-b c =
-    search known
+returns-then-not-is_massless c = search known
 
 pub returns-then-not-is_massless-2 : goal.returns-then-not-is_massless-2
-returns-then-not-is_massless-2 c =
-    search known
-
-pub overflow_add-result : goal.overflow_add-result
-overflow_add-result c =
-    search known
-
-pub overflow_cast-result : goal.overflow_cast-result
-overflow_cast-result c =
-    search known
+returns-then-not-is_massless-2 c = search known
 
 pub returns : goal.returns
 returns c =

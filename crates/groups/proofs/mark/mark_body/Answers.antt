@@ -5,22 +5,8 @@ use Rattle.groups.proofs.mark.mark_body.Goals as goal
 
 ruleset known = (mark_none, mark_one, rules)
 
-pub is_massless-requires : goal.is_massless-requires
-is_massless-requires c =
-    search known
-
 pub returns-then-is_massless : goal.returns-then-is_massless
-returns-then-is_massless c =
-    search known
-
-pub offset_bounds-marks-body : goal.offset_bounds-marks-body
-offset_bounds-marks-body c =
-    search known
-
-pub bounds-marks-body : goal.bounds-marks-body
-bounds-marks-body c =
-    search known
+returns-then-is_massless c = search known
 
 pub returns : goal.returns
-returns c =
-    search known
+returns c = search known

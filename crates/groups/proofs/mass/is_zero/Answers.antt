@@ -6,5 +6,4 @@ use Rattle.groups.proofs.mass.is_zero.Goals as goal
 
 pub returns : goal.returns
 unfolding eq zero_of
-returns c =
-    search rules
+returns c = search rules

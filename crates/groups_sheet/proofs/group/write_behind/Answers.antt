@@ -1,12 +1,7 @@
 -- `groups_sheet::group::write_behind` meets its contract. Assumes nothing.
 use native.Mathlib.Omega.{arith}
-use Rattle.job_sheet.proofs.Behind.{wrote_behind, behind_end}
+use Rattle.job_sheet.proofs.Behind.{wrote_behind}
 use Rattle.groups_sheet.proofs.group.write_behind.Goals as goal
 
-pub overflow_add-result : goal.overflow_add-result
-overflow_add-result c =
-    let e = behind_end c.args.out.now c.args.at _ _ _ (omega (arith, c.requires.at_in_bounds)) c.write_job-end.ensures in let g = c.well_formed.1.1.1.1.1.1.1.1.0.0 in omega arith
-
 pub returns : goal.returns
-returns c =
-    wrote_behind c.args.out.now c.args.at _ _ _ (omega (arith, c.requires.at_in_bounds)) c.write_job-end.ensures
+returns c = wrote_behind c.args.out.now c.args.at _ _ _ (omega (arith, c.requires.at_in_bounds)) c.write_job-end.ensures

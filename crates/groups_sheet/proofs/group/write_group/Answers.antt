@@ -13,14 +13,6 @@ pub overflow_mul-row_words : goal.overflow_mul-row_words
 overflow_mul-row_words c =
     let few = count_few c.requires.bench_room c.args.groups.now c.args.g c.count_rows-count.ensures in let bodies = c.requires.bench_room.few_bodies in omega arith
 
-pub overflow_mul-body_numbers : goal.overflow_mul-body_numbers
-overflow_mul-body_numbers c =
-    let few = count_few c.requires.bench_room c.args.groups.now c.args.g c.count_rows-count.ensures in let bodies = c.requires.bench_room.few_bodies in omega arith
-
-pub overflow_mul-centre_numbers : goal.overflow_mul-centre_numbers
-overflow_mul-centre_numbers c =
-    let few = count_few c.requires.bench_room c.args.groups.now c.args.g c.count_rows-count.ensures in let bodies = c.requires.bench_room.few_bodies in omega arith
-
 pub overflow_cast-count : goal.overflow_cast-count
 overflow_cast-count c =
     let few = count_few c.requires.bench_room c.args.groups.now c.args.g c.count_rows-count.ensures in let bodies = c.requires.bench_room.few_bodies in omega arith
@@ -49,26 +41,6 @@ pub slice_bounds-write_picked-end-3 : goal.slice_bounds-write_picked-end-3
 slice_bounds-write_picked-end-3 c =
     let few = count_few c.requires.bench_room c.args.groups.now c.args.g c.count_rows-count.ensures in let bodies = c.requires.bench_room.few_bodies in sym (length-take-le _ _ (omega arith))
 
-pub slice_bounds-impulses-end : goal.slice_bounds-impulses-end
-slice_bounds-impulses-end c =
-    let few = count_few c.requires.bench_room c.args.groups.now c.args.g c.count_rows-count.ensures in let bodies = c.requires.bench_room.few_bodies in omega arith
-
-pub slice_bounds-write_picked-end-4 : goal.slice_bounds-write_picked-end-4
-slice_bounds-write_picked-end-4 c =
-    let few = count_few c.requires.bench_room c.args.groups.now c.args.g c.count_rows-count.ensures in let bodies = c.requires.bench_room.few_bodies in sym (length-take-le _ _ (omega arith))
-
-pub slice_bounds-new_centres-end : goal.slice_bounds-new_centres-end
-slice_bounds-new_centres-end c =
-    let few = count_few c.requires.bench_room c.args.groups.now c.args.g c.count_rows-count.ensures in let bodies = c.requires.bench_room.few_bodies in omega arith
-
-pub slice_bounds-write_picked-end-5 : goal.slice_bounds-write_picked-end-5
-slice_bounds-write_picked-end-5 c =
-    let few = count_few c.requires.bench_room c.args.groups.now c.args.g c.count_rows-count.ensures in let bodies = c.requires.bench_room.few_bodies in sym (length-take-le _ _ (omega arith))
-
 pub write_picked-requires : goal.write_picked-requires
 write_picked-requires c =
     let few = count_few c.requires.bench_room c.args.groups.now c.args.g c.count_rows-count.ensures in let bodies = c.requires.bench_room.few_bodies in record { bench_room = c.requires.bench_room; count_value = (c.count_rows-count.ensures, record { numbers_long = length-take-le _ _ (omega arith); words_long = length-take-le _ _ (omega arith); solution_long = length-take-le _ _ (omega arith); impulses_long = length-take-le _ _ (omega arith); new_centres_long = length-take-le _ _ (omega arith) }); in_bounds = c.requires.in_bounds }
-
-pub returns : goal.returns
-returns c =
-    c.write_picked.ensures

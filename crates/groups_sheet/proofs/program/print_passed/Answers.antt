@@ -6,22 +6,6 @@ use Rattle.job_sheet.proofs.Ways.{rows_few, bodies_few, mode_small}
 use Rattle.groups_sheet.proofs.Opened.{opened_first}
 use Rattle.groups_sheet.proofs.program.print_passed.Goals as goal
 
-pub overflow_mul-row_numbers : goal.overflow_mul-row_numbers
-overflow_mul-row_numbers c =
-    let rows = rows_few c.args.file.now c.args.trailer (opened_first c.args.file.now c.args.trailer c.requires) in let bodies = bodies_few c.args.file.now c.args.trailer (opened_first c.args.file.now c.args.trailer c.requires) in omega arith
-
-pub overflow_mul-row_words : goal.overflow_mul-row_words
-overflow_mul-row_words c =
-    let rows = rows_few c.args.file.now c.args.trailer (opened_first c.args.file.now c.args.trailer c.requires) in let bodies = bodies_few c.args.file.now c.args.trailer (opened_first c.args.file.now c.args.trailer c.requires) in omega arith
-
-pub overflow_mul-mass_numbers : goal.overflow_mul-mass_numbers
-overflow_mul-mass_numbers c =
-    let rows = rows_few c.args.file.now c.args.trailer (opened_first c.args.file.now c.args.trailer c.requires) in let bodies = bodies_few c.args.file.now c.args.trailer (opened_first c.args.file.now c.args.trailer c.requires) in omega arith
-
-pub overflow_mul-centre_numbers : goal.overflow_mul-centre_numbers
-overflow_mul-centre_numbers c =
-    let rows = rows_few c.args.file.now c.args.trailer (opened_first c.args.file.now c.args.trailer c.requires) in let bodies = bodies_few c.args.file.now c.args.trailer (opened_first c.args.file.now c.args.trailer c.requires) in omega arith
-
 pub slice_bounds-numbers-end : goal.slice_bounds-numbers-end
 slice_bounds-numbers-end c =
     let rows = rows_few c.args.file.now c.args.trailer (opened_first c.args.file.now c.args.trailer c.requires) in let bodies = bodies_few c.args.file.now c.args.trailer (opened_first c.args.file.now c.args.trailer c.requires) in omega arith

@@ -5,5 +5,4 @@ use Rattle.groups_solve.proofs.judge.groups_lent.Goals as goal
 
 pub returns : goal.returns
 unfolding groups_lent
-returns c =
-    search rules
+returns c = search rules

@@ -14,10 +14,10 @@ pub finish-requires : goal.finish-requires
 finish-requires c =
     record { kept = search known; diagonal_len = (omega arith, omega arith, omega arith) }
 
-pub returns-in-Done : goal.returns-in-Done
-returns-in-Done c =
-    record { factor_held = search known; factor_past = factor_past _ _ _ _ _ _ _ _ (omega arith) (omega arith) (omega arith) }
+pub returns : goal.returns
+returns c =
+    record { factor_held = build_finished _ _ _ _ _ _ c.pairs.ensures.pairs_held _ _ _ _ _ _ _ c.in_ok-pairs.was c.finish.ensures; factor_past = factor_past _ _ _ _ _ _ _ _ (omega arith) (omega arith) (omega arith) }
 
-pub returns-in-Refused : goal.returns-in-Refused
-returns-in-Refused c =
-    record { factor_held = search known; factor_past = factor_past _ _ _ _ _ _ _ _ (omega arith) (omega arith) (omega arith) }
+pub returns-in_err-pairs : goal.returns-in_err-pairs
+returns-in_err-pairs c =
+    record { factor_held = build_refused _ _ _ _ _ _ c.pairs.ensures.pairs_held _ _ c.in_err-pairs.was _ (search loops); factor_past = factor_past _ _ _ _ _ _ _ _ (omega arith) (omega arith) (omega arith) }

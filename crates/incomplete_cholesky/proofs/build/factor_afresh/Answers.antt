@@ -16,4 +16,4 @@ factor-requires c =
 
 pub returns : goal.returns
 returns c =
-    search known
+    record { value = search known; number = search known }

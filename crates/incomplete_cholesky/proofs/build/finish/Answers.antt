@@ -47,14 +47,15 @@ pub factor_afresh-requires : goal.factor_afresh-requires
 factor_afresh-requires c =
     record { kept = search lent; values_len = (search lent, search lent, search lent) }
 
-pub returns-in_default : goal.returns-in_default
-returns-in_default c =
-    search (finish_refused, loops)
+pub returns-in_err-factor_afresh : goal.returns-in_err-factor_afresh
+returns-in_err-factor_afresh c =
+    let made = c.factor_afresh.ensures in
+    finish_refused _ _ c.wide-n.ensures _ _ _ _ _ _ made.value made.number _ _ _ c.requires.diagonal_len.2 (search loops) c.in_err-factor_afresh.was _ (search loops)
 
-pub index-count-requires : goal.index-count-requires
-index-count-requires c =
+pub index-requires : goal.index-requires
+index-requires c =
     record { kept = search (kept_lent, loops); starts_len = search (starts_lent_long, loops); order_len = search (order_fit, loops) }
 
 pub returns : goal.returns
 returns c =
-    search (finish_done, loops)
+    finish_done _ _ c.wide-n.ensures _ _ _ _ _ _ c.factor_afresh.ensures.value _ _ _ c.in_ok-factor_afresh.was c.index.ensures.indexed

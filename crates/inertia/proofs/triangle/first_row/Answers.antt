@@ -5,19 +5,15 @@ use Rattle.inertia.proofs.Rows.{first_done, first_refused}
 use Rattle.inertia.proofs.Accepted.{first_tells, row_none}
 use Rattle.inertia.proofs.triangle.first_row.Goals as goal
 
-ruleset known = (first_done, first_refused, first_tells, row_none, rules)
-
-pub pivot-requires : goal.pivot-requires
+pub returns-in_err-p : goal.returns-in_err-p
 unfolding less_sum
-pivot-requires c =
-    search known
+returns-in_err-p c = search (first_refused, row_none, rules)
 
-pub returns-in-Root : goal.returns-in-Root
+pub returns : goal.returns
 unfolding less_sum
-returns-in-Root c =
-    search known
-
-pub returns-in-NotPositive : goal.returns-in-NotPositive
-unfolding less_sum
-returns-in-NotPositive c =
-    search known
+returns c =
+    let accepted = c.in_ok-p.was in
+    record {
+      n_value = first_done c.args.n c.pivot.ensures.value_value accepted;
+      row_tells = first_tells c.args.n c.pivot.ensures.pivot_tells accepted;
+    }

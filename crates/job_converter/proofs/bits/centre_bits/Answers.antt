@@ -1,13 +1,8 @@
 -- `job_converter::bits::centre_bits` meets its contract. Assumes nothing.
 use mathlib.Core.Path.{◌∙◌}
 use native.Mathlib.Omega.{arith}
-use Rattle.loops.proofs.Loop.{loops}
 use Rattle.job_file.proofs.Masses.{centre_inside, bits_there, bits_none}
 use Rattle.job_converter.proofs.bits.centre_bits.Goals as goal
-
-pub overflow_add-j : goal.overflow_add-j
-overflow_add-j c =
-    search loops
 
 pub mass_bits-requires : goal.mass_bits-requires
 mass_bits-requires c =

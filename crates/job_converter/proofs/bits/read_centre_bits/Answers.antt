@@ -8,42 +8,11 @@ use Rattle.job_converter.proofs.bits.read_centre_bits.Goals as goal
 
 ruleset known = (filled_count, fills)
 
-pub loop-k-init : goal.loop-k-init
-unfolding section_centre_bits
-loop-k-init c =
-    search known
-
 pub centre_bits-requires : goal.centre_bits-requires
 unfolding section_centre_bits
 centre_bits-requires c =
     (omega arith, mass_ends _ _ _ _ (omega arith) c.requires.0)
 
-pub offset_bounds-centres-k : goal.offset_bounds-centres-k
-unfolding section_centre_bits
-offset_bounds-centres-k c =
-    search known
-
-pub bounds-centres-k : goal.bounds-centres-k
-unfolding section_centre_bits
-bounds-centres-k c =
-    search known
-
-pub overflow_add-k : goal.overflow_add-k
-unfolding section_centre_bits
-overflow_add-k c =
-    search known
-
-pub loop-k-smaller : goal.loop-k-smaller
-unfolding section_centre_bits
-loop-k-smaller c =
-    search known
-
-pub loop-k-preserved : goal.loop-k-preserved
-unfolding section_centre_bits
-loop-k-preserved c =
-    search known
-
 pub returns : goal.returns
 unfolding section_centre_bits
-returns c =
-    search known
+returns c = search known

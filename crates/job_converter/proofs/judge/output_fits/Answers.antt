@@ -2,7 +2,6 @@
 use mathlib.Core.Path.{ap, ◌∙◌}
 use lib.Dec.{eqb}
 use native.Mathlib.Omega.{arith}
-use Rattle.loops.proofs.Loop.{loops}
 use Rattle.job_converter.proofs.Ways.{output_unknown, output_length}
 use Rattle.job_converter.proofs.judge.output_fits.Goals as goal
 
@@ -13,10 +12,6 @@ returns-then-layout-gt1 c =
 pub file_length-bytes-requires : goal.file_length-bytes-requires
 file_length-bytes-requires c =
     (c.requires.0, c.requires.1, omega arith)
-
-pub overflow_cast-bytes : goal.overflow_cast-bytes
-overflow_cast-bytes c =
-    search loops
 
 pub returns : goal.returns
 returns c =

@@ -1,23 +1,6 @@
 -- `job_converter::read::read_bits` meets its contract. Assumes nothing.
-use Rattle.loops.proofs.Loop.{loops}
 use Rattle.job_converter.proofs.Reading.{numbers_read, words_read, masses_read, centres_read}
 use Rattle.job_converter.proofs.read.read_bits.Goals as goal
-
-pub overflow_cast-rows : goal.overflow_cast-rows
-overflow_cast-rows c =
-    search loops
-
-pub overflow_cast-bodies : goal.overflow_cast-bodies
-overflow_cast-bodies c =
-    search loops
-
-pub overflow_cast-row_offset : goal.overflow_cast-row_offset
-overflow_cast-row_offset c =
-    search loops
-
-pub overflow_cast-mass_offset : goal.overflow_cast-mass_offset
-overflow_cast-mass_offset c =
-    search loops
 
 pub read_number_bits-requires : goal.read_number_bits-requires
 read_number_bits-requires c =

@@ -1,24 +1,11 @@
 -- `job_converter::word::is_word` meets its contract. Assumes nothing.
 use native.Mathlib.Omega.{arith}
-use Rattle.loops.proofs.Loop.{loops}
 use Rattle.job_converter.proofs.Naming.{word_other, word_three}
 use Rattle.job_converter.proofs.word.is_word.Goals as goal
 
 pub returns-then-word-ne3 : goal.returns-then-word-ne3
 returns-then-word-ne3 c =
     word_other _ _ _ _ (omega arith)
-
-pub bounds-word-0 : goal.bounds-word-0
-bounds-word-0 c =
-    search loops
-
-pub bounds-word-1 : goal.bounds-word-1
-bounds-word-1 c =
-    search loops
-
-pub bounds-word-2 : goal.bounds-word-2
-bounds-word-2 c =
-    search loops
 
 pub returns : goal.returns
 returns c =

@@ -1,19 +1,10 @@
 -- `job_converter::word::layout_named` meets its contract. Assumes nothing.
-use Rattle.loops.proofs.Loop.{loops}
 use Rattle.job_converter.proofs.Naming.{named_old, named_new, named_none}
 use Rattle.job_converter.proofs.word.layout_named.Goals as goal
-
-pub is_word-requires : goal.is_word-requires
-is_word-requires c =
-    search loops
 
 pub returns-then-is_word : goal.returns-then-is_word
 returns-then-is_word c =
     named_old _ c.is_word.ensures c.if-is_word.true
-
-pub is_word-requires-2 : goal.is_word-requires-2
-is_word-requires-2 c =
-    search loops
 
 pub returns-then-is_word-2 : goal.returns-then-is_word-2
 returns-then-is_word-2 c =

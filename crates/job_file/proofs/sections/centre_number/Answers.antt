@@ -1,13 +1,8 @@
 -- `job_file::sections::centre_number` meets its contract. Assumes nothing.
 use mathlib.Core.Path.{◌∙◌}
 use native.Mathlib.Omega.{arith}
-use Rattle.loops.proofs.Loop.{loops}
 use Rattle.job_file.proofs.Masses.{centre_inside, centre_there, centre_none}
 use Rattle.job_file.proofs.sections.centre_number.Goals as goal
-
-pub overflow_add-j : goal.overflow_add-j
-overflow_add-j c =
-    search loops
 
 pub mass_number-requires : goal.mass_number-requires
 mass_number-requires c =

@@ -1,5 +1,5 @@
 -- `job_file::sections::put_words` meets its contract: of the row, what stands below j is written. Assumes nothing.
-use Prim.Native.Nat.{◌*◌, ◌-◌}
+use Prim.Native.Nat.{◌*◌}
 use Rattle.job_file.specs.File.{row_word}
 use Rattle.job_file.proofs.Written.{Writes}
 use Rattle.job_file.proofs.sections.put_words.Given as goal
@@ -7,6 +7,3 @@ use Rattle.job_file.proofs.sections.put_words.Given as goal
 abbrev pub invariant-loop-j : goal.invariant-loop-j
 invariant-loop-j l =
     Writes (row_word l.file l.offset l.i) (8 * l.i) 8 l.initial.words l.j l.words
-
-abbrev pub decreases-loop-j : goal.decreases-loop-j
-decreases-loop-j l = 8 - l.j

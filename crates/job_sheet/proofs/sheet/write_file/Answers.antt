@@ -26,7 +26,7 @@ write_turned-requires c =
 
 pub returns-then-not-keys_fit : goal.returns-then-not-keys_fit
 returns-then-not-keys_fit c =
-    wrote_as (sheet_turned c.args.file.now c.args.trailer c.requires.file_value c.args.sheet c.keys_fit.ensures c.read_rows.ensures.0 c.read_rows.ensures.1 c.read_masses.ensures c.read_centres.ensures c.if-not-keys_fit.true-raw) c.write_turned.ensures
+    wrote_as (sheet_turned c.args.file.now c.args.trailer c.requires.file_value c.args.sheet c.keys_fit.ensures c.read_rows.ensures.0 c.read_rows.ensures.1 c.read_masses.ensures c.read_centres.ensures c.if-not-keys_fit.true) c.write_turned.ensures
 
 pub write_job-requires : goal.write_job-requires
 write_job-requires c =
@@ -34,4 +34,4 @@ write_job-requires c =
 
 pub returns : goal.returns
 returns c =
-    wrote_as (sheet_read c.args.file.now c.args.trailer c.requires.file_value c.args.sheet c.keys_fit.ensures c.read_rows.ensures.0 c.read_rows.ensures.1 c.read_masses.ensures c.read_centres.ensures c.if-not-keys_fit.false-raw) c.write_job.ensures
+    wrote_as (sheet_read c.args.file.now c.args.trailer c.requires.file_value c.args.sheet c.keys_fit.ensures c.read_rows.ensures.0 c.read_rows.ensures.1 c.read_masses.ensures c.read_centres.ensures c.if-not-keys_fit.false) c.write_job.ensures

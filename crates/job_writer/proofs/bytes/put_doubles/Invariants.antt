@@ -1,5 +1,5 @@
 -- `job_writer::bytes::put_doubles` meets its contract: the numbers below k are written. Assumes nothing.
-use Prim.Native.Nat.{◌-◌, ◌+◌}
+use Prim.Native.Nat.{◌+◌}
 use lib.ListN.{get_or}
 use Rattle.listing.proofs.Pieces.{Writing}
 use Rattle.job_writer.specs.Bytes.{little}
@@ -8,6 +8,3 @@ use Rattle.job_writer.proofs.bytes.put_doubles.Given as goal
 abbrev pub invariant-loop-k : goal.invariant-loop-k
 invariant-loop-k l =
     Writing l.initial.out l.at (λ k. little 8 (get_or l.from (l.first + k) 0)) l.n l.k l.out l.next
-
-abbrev pub decreases-loop-k : goal.decreases-loop-k
-decreases-loop-k l = l.n - l.k

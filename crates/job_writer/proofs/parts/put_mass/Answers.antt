@@ -1,29 +1,13 @@
 -- `job_writer::parts::put_mass` meets its contract. Assumes nothing.
 use native.Mathlib.Omega.{arith}
-use Rattle.loops.proofs.Loop.{loops}
 use Rattle.listing.proofs.Joined.{room_first, room_rest, wrote_join}
 use Rattle.job_writer.specs.Written.{written_mass}
 use Rattle.job_writer.proofs.parts.put_mass.Goals as goal
-
-pub overflow_mul-b : goal.overflow_mul-b
-unfolding written_mass
-overflow_mul-b c =
-    search loops
 
 pub put_doubles-next-requires : goal.put_doubles-next-requires
 unfolding written_mass
 put_doubles-next-requires c =
     (omega arith, room_first _ c.requires.3)
-
-pub overflow_mul-b-2 : goal.overflow_mul-b-2
-unfolding written_mass
-overflow_mul-b-2 c =
-    search loops
-
-pub overflow_mul-layout : goal.overflow_mul-layout
-unfolding written_mass
-overflow_mul-layout c =
-    search loops
 
 pub put_doubles-requires : goal.put_doubles-requires
 unfolding written_mass

@@ -1,6 +1,5 @@
 -- `job_writer::parts::put_masses` meets its contract: the masses below b are written. Assumes nothing.
 use native.Mathlib.Omega.{arith}
-use Rattle.loops.proofs.Loop.{loops}
 use Rattle.listing.proofs.Pieces.{writing_none, writing_room, writing_more, writing_end}
 use Rattle.job_writer.proofs.parts.put_masses.Goals as goal
 
@@ -11,14 +10,6 @@ loop-b-init c =
 pub put_mass-next-requires : goal.put_mass-next-requires
 put_mass-next-requires c =
     (omega arith, omega arith, omega arith, writing_room c.loop-b.invariant (omega arith))
-
-pub overflow_add-b : goal.overflow_add-b
-overflow_add-b c =
-    search loops
-
-pub loop-b-smaller : goal.loop-b-smaller
-loop-b-smaller c =
-    search loops
 
 pub loop-b-preserved : goal.loop-b-preserved
 loop-b-preserved c =

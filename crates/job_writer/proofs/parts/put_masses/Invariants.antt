@@ -1,5 +1,4 @@
 -- `job_writer::parts::put_masses` meets its contract: the masses below b are written. Assumes nothing.
-use Prim.Native.Nat.{◌-◌}
 use Rattle.listing.proofs.Pieces.{Writing}
 use Rattle.job_writer.specs.Written.{written_mass}
 use Rattle.job_writer.proofs.parts.put_masses.Given as goal
@@ -7,6 +6,3 @@ use Rattle.job_writer.proofs.parts.put_masses.Given as goal
 abbrev pub invariant-loop-b : goal.invariant-loop-b
 invariant-loop-b l =
     Writing l.initial.out l.at (written_mass l.masses l.centres l.layout) l.bodies l.b l.out l.next
-
-abbrev pub decreases-loop-b : goal.decreases-loop-b
-decreases-loop-b l = l.bodies - l.b

@@ -1,24 +1,13 @@
 -- `job_writer::parts::put_row` meets its contract. Assumes nothing.
 use native.Mathlib.Omega.{arith}
-use Rattle.loops.proofs.Loop.{loops}
 use Rattle.listing.proofs.Joined.{room_first, room_rest, wrote_join}
 use Rattle.job_writer.specs.Written.{written_row}
 use Rattle.job_writer.proofs.parts.put_row.Goals as goal
-
-pub overflow_mul-i : goal.overflow_mul-i
-unfolding written_row
-overflow_mul-i c =
-    search loops
 
 pub put_doubles-next-requires : goal.put_doubles-next-requires
 unfolding written_row
 put_doubles-next-requires c =
     (omega arith, room_first _ c.requires.2)
-
-pub overflow_mul-i-2 : goal.overflow_mul-i-2
-unfolding written_row
-overflow_mul-i-2 c =
-    search loops
 
 pub put_halves-requires : goal.put_halves-requires
 unfolding written_row

@@ -1,6 +1,5 @@
 -- `job_writer::parts::put_rows` meets its contract: the rows below i are written. Assumes nothing.
 use native.Mathlib.Omega.{arith}
-use Rattle.loops.proofs.Loop.{loops}
 use Rattle.listing.proofs.Pieces.{writing_none, writing_room, writing_more, writing_end}
 use Rattle.job_writer.proofs.parts.put_rows.Goals as goal
 
@@ -11,14 +10,6 @@ loop-i-init c =
 pub put_row-next-requires : goal.put_row-next-requires
 put_row-next-requires c =
     (omega arith, omega arith, writing_room c.loop-i.invariant (omega arith))
-
-pub overflow_add-i : goal.overflow_add-i
-overflow_add-i c =
-    search loops
-
-pub loop-i-smaller : goal.loop-i-smaller
-loop-i-smaller c =
-    search loops
 
 pub loop-i-preserved : goal.loop-i-preserved
 loop-i-preserved c =

@@ -1,5 +1,4 @@
 -- `job_writer::parts::put_trailer` meets its contract. Assumes nothing.
-use Rattle.loops.proofs.Loop.{loops}
 use Rattle.listing.proofs.Joined.{room_first, room_rest, wrote_join, room_as, wrote_as}
 use Rattle.job_writer.specs.Written.{written_trailer}
 use Rattle.job_writer.proofs.Sizes.{end_as}
@@ -15,20 +14,10 @@ unfolding written_trailer
 put_u32-b-requires c =
     room_rest (room_first _ (room_first _ c.requires.3)) c.put_counts-a.ensures
 
-pub overflow_mul-head : goal.overflow_mul-head
-unfolding written_trailer
-overflow_mul-head c =
-    search loops
-
 pub put_u32-c-requires : goal.put_u32-c-requires
 unfolding written_trailer
 put_u32-c-requires c =
     room_rest (room_first _ c.requires.3) (wrote_join c.put_counts-a.ensures c.put_u32-b.ensures)
-
-pub file_length-bytes-requires : goal.file_length-bytes-requires
-unfolding written_trailer
-file_length-bytes-requires c =
-    search loops
 
 pub put_end-requires : goal.put_end-requires
 unfolding written_trailer

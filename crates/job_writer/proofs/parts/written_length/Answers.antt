@@ -1,9 +1,7 @@
 -- `job_writer::parts::written_length` meets its contract. Assumes nothing.
-use Prim.Native.Nat.{ℕ}
-use mathlib.Core.Path.{◌≡◌}
-use mathlib.Core.Bool.{true, false, ◌&&◌}
+use Rattle.std.proofs.Common.{ℕ, ◌≡◌, true, false, ◌&&◌}
 use lib.Dec.{leb}
-use borrow.Author.Tests.{leb-true, not-true, not-false}
+use borrow.Author.Tests.{leb-true}
 use Rattle.loops.proofs.Both.{both}
 use Rattle.job_writer.specs.Written.{file_length, written_length}
 use Rattle.job_writer.proofs.parts.written_length.Goals as goal
@@ -13,21 +11,19 @@ module _ (rows bodies layout : ℕ) where
   unfolding written_length
   none e = rw e
 
-  told : ((leb rows 128 && leb bodies 64) && leb layout 1) ≡ true → {n : ℕ} → n ≡ file_length rows bodies layout → n ≡ written_length rows bodies layout
+  length_is : ((leb rows 128 && leb bodies 64) && leb layout 1) ≡ true → {n : ℕ} → n ≡ file_length rows bodies layout → n ≡ written_length rows bodies layout
   unfolding written_length
-  told e h = rw e h
+  length_is e h = rw e h
 
 pub returns-then-not-few : goal.returns-then-not-few
-returns-then-not-few c =
-    none _ _ _ (not-true _ c.if-not-few.true-raw)
+returns-then-not-few c = none _ _ _ c.if-not-few.true
 
 pub file_length-requires : goal.file_length-requires
 file_length-requires c =
     let a = c.args in
-    let (few, layout) = both (leb a.rows 128 && leb a.bodies 64) (leb a.layout 1) (not-false _ c.if-not-few.false-raw) in
+    let (few, layout) = both (leb a.rows 128 && leb a.bodies 64) (leb a.layout 1) c.if-not-few.false in
     let (rows, bodies) = both (leb a.rows 128) (leb a.bodies 64) few in
     (leb-true _ _ rows, leb-true _ _ bodies, leb-true _ _ layout)
 
 pub returns : goal.returns
-returns c =
-    told _ _ _ (not-false _ c.if-not-few.false-raw) c.file_length.ensures
+returns c = length_is _ _ _ c.if-not-few.false c.file_length.ensures

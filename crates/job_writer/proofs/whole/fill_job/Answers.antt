@@ -1,29 +1,13 @@
 -- `job_writer::whole::fill_job` meets its contract. Assumes nothing.
 use native.Mathlib.Omega.{arith}
-use Rattle.loops.proofs.Loop.{loops}
 use Rattle.listing.proofs.Joined.{room_first, room_rest, wrote_join}
 use Rattle.job_writer.specs.Written.{written}
 use Rattle.job_writer.proofs.whole.fill_job.Goals as goal
-
-pub overflow_cast-head : goal.overflow_cast-head
-unfolding written
-overflow_cast-head c =
-    search loops
 
 pub put_rows-rows-requires : goal.put_rows-rows-requires
 unfolding written
 put_rows-rows-requires c =
     (omega arith, omega arith, room_first _ (room_first _ c.requires.1))
-
-pub overflow_cast-head-2 : goal.overflow_cast-head-2
-unfolding written
-overflow_cast-head-2 c =
-    search loops
-
-pub overflow_cast-head-3 : goal.overflow_cast-head-3
-unfolding written
-overflow_cast-head-3 c =
-    search loops
 
 pub put_masses-masses_end-requires : goal.put_masses-masses_end-requires
 unfolding written

@@ -1,12 +1,6 @@
 -- `joint_refusals::counts::counts_fit` meets its contract. Assumes nothing.
-use borrow.Author.Rules.{rules}
 use Rattle.joint_refusals.specs.Counts.{counts_fit}
 use Rattle.joint_refusals.proofs.counts.counts_fit.Goals as goal
-
-pub table_counts_fit-requires : goal.table_counts_fit-requires
-unfolding counts_fit
-table_counts_fit-requires c =
-    search rules
 
 pub returns : goal.returns
 unfolding counts_fit

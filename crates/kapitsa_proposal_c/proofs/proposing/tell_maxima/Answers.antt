@@ -2,6 +2,8 @@
 use native.Mathlib.Omega.{arith}
 use Rattle.loops.proofs.Loop.{loops}
 use Rattle.kapitsa_proposal_c.proofs.Proposals.{maxima_accepted, maxima_refused}
+use mathlib.Core.Path.{ap}
+use Rattle.refusals.specs.Told.{told}
 use Rattle.kapitsa_proposal_c.proofs.proposing.tell_maxima.Goals as goal
 
 pub bounds-maxima-0 : goal.bounds-maxima-0
@@ -12,10 +14,10 @@ pub bounds-maxima-1 : goal.bounds-maxima-1
 bounds-maxima-1 c =
     search loops
 
-pub returns-in-Accepted : goal.returns-in-Accepted
-returns-in-Accepted c =
-    maxima_accepted _ _ _ c.in-Accepted.is c.requires
+pub returns-in-Ok : goal.returns-in-Ok
+returns-in-Ok c =
+    maxima_accepted _ _ _ (ap told c.in-Ok.is) c.requires
 
-pub returns-in-Refused : goal.returns-in-Refused
-returns-in-Refused c =
-    maxima_refused _ _ _ c.in-Refused.is
+pub returns-in-Err : goal.returns-in-Err
+returns-in-Err c =
+    rw c.number.ensures (maxima_refused _ _ _ (ap told c.in-Err.is))

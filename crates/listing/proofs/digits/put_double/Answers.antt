@@ -1,5 +1,4 @@
 -- `listing::digits::put_double` meets its contract. Assumes nothing.
-use Rattle.loops.proofs.Loop.{loops}
 use mathlib.Core.List.{[], ◌∷◌}
 use Rattle.listing.specs.Digits.{double}
 use Rattle.listing.proofs.Joined.{room_first, room_rest, wrote_join}
@@ -9,11 +8,6 @@ pub put_byte-next-requires : goal.put_byte-next-requires
 unfolding double
 put_byte-next-requires c =
     room_first {a = 32 ∷ []} _ c.requires
-
-pub to_bits-requires : goal.to_bits-requires
-unfolding double
-to_bits-requires c =
-    search loops
 
 pub put_hexadecimal-requires : goal.put_hexadecimal-requires
 unfolding double

@@ -1,6 +1,5 @@
 -- `listing::digits::put_doubles` meets its contract: the numbers below k are written. Assumes nothing.
 use native.Mathlib.Omega.{arith}
-use Rattle.loops.proofs.Loop.{loops}
 use Rattle.listing.proofs.Pieces.{writing_none, writing_room, writing_more, writing_end}
 use Rattle.listing.specs.Digits.{doubles}
 use Rattle.listing.proofs.digits.put_doubles.Goals as goal
@@ -10,35 +9,10 @@ unfolding doubles
 loop-k-init c =
     writing_none c.requires.1
 
-pub overflow_add-first : goal.overflow_add-first
-unfolding doubles
-overflow_add-first c =
-    search loops
-
-pub offset_bounds-list-first : goal.offset_bounds-list-first
-unfolding doubles
-offset_bounds-list-first c =
-    search loops
-
-pub bounds-list-first : goal.bounds-list-first
-unfolding doubles
-bounds-list-first c =
-    search loops
-
 pub put_double-next-requires : goal.put_double-next-requires
 unfolding doubles
 put_double-next-requires c =
     writing_room c.loop-k.invariant (omega arith)
-
-pub overflow_add-k : goal.overflow_add-k
-unfolding doubles
-overflow_add-k c =
-    search loops
-
-pub loop-k-smaller : goal.loop-k-smaller
-unfolding doubles
-loop-k-smaller c =
-    search loops
 
 pub loop-k-preserved : goal.loop-k-preserved
 unfolding doubles

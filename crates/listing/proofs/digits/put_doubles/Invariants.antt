@@ -1,5 +1,5 @@
 -- `listing::digits::put_doubles` meets its contract: the numbers below k are written. Assumes nothing.
-use Prim.Native.Nat.{◌-◌, ◌+◌}
+use Prim.Native.Nat.{◌+◌}
 use lib.ListN.{get_or}
 use lib.Ieee.{nan}
 use Rattle.listing.proofs.Pieces.{Writing}
@@ -9,6 +9,3 @@ use Rattle.listing.proofs.digits.put_doubles.Given as goal
 abbrev pub invariant-loop-k : goal.invariant-loop-k
 invariant-loop-k l =
     Writing l.initial.out l.at (λ k. double (get_or l.list (l.first + k) nan)) l.n l.k l.out l.next
-
-abbrev pub decreases-loop-k : goal.decreases-loop-k
-decreases-loop-k l = l.n - l.k

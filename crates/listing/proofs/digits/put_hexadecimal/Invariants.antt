@@ -8,6 +8,3 @@ use Rattle.listing.proofs.digits.put_hexadecimal.Given as goal
 abbrev pub invariant-loop-k : goal.invariant-loop-k
 invariant-loop-k l =
     Writing l.initial.out l.at (λ k. hexadecimal_digit (l.bits / 2 ^ (60 - 4 * k) % 16) ∷ []) 16 l.k l.out l.next
-
-abbrev pub decreases-loop-k : goal.decreases-loop-k
-decreases-loop-k l = 16 - l.k

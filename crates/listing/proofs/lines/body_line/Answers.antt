@@ -1,6 +1,5 @@
 -- `listing::lines::body_line` meets its contract. Assumes nothing.
 use native.Mathlib.Omega.{arith}
-use Rattle.loops.proofs.Loop.{loops}
 use Rattle.listing.specs.Lines.{body_line}
 use Rattle.listing.proofs.Joined.{room_first, room_rest, wrote_join, room_as, wrote_as}
 use Rattle.listing.proofs.Names.{body_name_lem, centre_most, doubles_as}
@@ -16,25 +15,10 @@ unfolding body_line
 put_number-number-requires c =
     room_rest (room_first _ (room_first _ (room_first _ c.requires.2))) (wrote_as body_name_lem c.put_text-name.ensures)
 
-pub overflow_mul-place : goal.overflow_mul-place
-unfolding body_line
-overflow_mul-place c =
-    search loops
-
 pub put_doubles-six-requires : goal.put_doubles-six-requires
 unfolding body_line
 put_doubles-six-requires c =
     (omega arith, room_rest (room_first _ (room_first _ c.requires.2)) (wrote_join (wrote_as body_name_lem c.put_text-name.ensures) c.put_number-number.ensures))
-
-pub centre_count-count-requires : goal.centre_count-count-requires
-unfolding body_line
-centre_count-count-requires c =
-    search loops
-
-pub overflow_mul-place-2 : goal.overflow_mul-place-2
-unfolding body_line
-overflow_mul-place-2 c =
-    search loops
 
 pub put_doubles-centre-requires : goal.put_doubles-centre-requires
 unfolding body_line

@@ -1,6 +1,5 @@
 -- `listing::lines::body_lines` meets its contract: the lines below b are written. Assumes nothing.
 use native.Mathlib.Omega.{arith}
-use Rattle.loops.proofs.Loop.{loops}
 use Rattle.listing.proofs.Pieces.{writing_none, writing_room, writing_more, writing_end}
 use Rattle.listing.specs.Listing.{body_lines}
 use Rattle.listing.proofs.lines.body_lines.Goals as goal
@@ -14,16 +13,6 @@ pub body_line-next-requires : goal.body_line-next-requires
 unfolding body_lines
 body_line-next-requires c =
     (omega arith, omega arith, writing_room c.loop-b.invariant (omega arith))
-
-pub overflow_add-b : goal.overflow_add-b
-unfolding body_lines
-overflow_add-b c =
-    search loops
-
-pub loop-b-smaller : goal.loop-b-smaller
-unfolding body_lines
-loop-b-smaller c =
-    search loops
 
 pub loop-b-preserved : goal.loop-b-preserved
 unfolding body_lines

@@ -1,5 +1,4 @@
 -- `listing::lines::margin_lines` meets its contract: the lines below k are written. Assumes nothing.
-use Prim.Native.Nat.{◌-◌}
 use lib.ListN.{get_or}
 use lib.Ieee.{nan}
 use Rattle.listing.proofs.Pieces.{Writing}
@@ -9,6 +8,3 @@ use Rattle.listing.proofs.lines.margin_lines.Given as goal
 abbrev pub invariant-loop-k : goal.invariant-loop-k
 invariant-loop-k l =
     Writing l.initial.out l.at (λ k. margin_line (get_or l.margin_rows k 0) (get_or l.margins k nan)) l.n l.k l.out l.next
-
-abbrev pub decreases-loop-k : goal.decreases-loop-k
-decreases-loop-k l = l.n - l.k

@@ -1,6 +1,5 @@
 -- `listing::lines::row_lines` meets its contract: the lines below i are written. Assumes nothing.
 use native.Mathlib.Omega.{arith}
-use Rattle.loops.proofs.Loop.{loops}
 use Rattle.listing.proofs.Pieces.{writing_none, writing_room, writing_more, writing_end}
 use Rattle.listing.specs.Listing.{row_lines}
 use Rattle.listing.proofs.lines.row_lines.Goals as goal
@@ -10,45 +9,10 @@ unfolding row_lines
 loop-i-init c =
     writing_none c.requires.1
 
-pub overflow_cast-i : goal.overflow_cast-i
-unfolding row_lines
-overflow_cast-i c =
-    search loops
-
-pub overflow_mul-i : goal.overflow_mul-i
-unfolding row_lines
-overflow_mul-i c =
-    search loops
-
-pub overflow_add-i : goal.overflow_add-i
-unfolding row_lines
-overflow_add-i c =
-    search loops
-
-pub offset_bounds-numbers-i : goal.offset_bounds-numbers-i
-unfolding row_lines
-offset_bounds-numbers-i c =
-    search loops
-
-pub bounds-numbers-i : goal.bounds-numbers-i
-unfolding row_lines
-bounds-numbers-i c =
-    search loops
-
 pub row_line-next-requires : goal.row_line-next-requires
 unfolding row_lines
 row_line-next-requires c =
     writing_room c.loop-i.invariant (omega arith)
-
-pub overflow_add-i-in-loop-i : goal.overflow_add-i-in-loop-i
-unfolding row_lines
-overflow_add-i-in-loop-i c =
-    search loops
-
-pub loop-i-smaller : goal.loop-i-smaller
-unfolding row_lines
-loop-i-smaller c =
-    search loops
 
 pub loop-i-preserved : goal.loop-i-preserved
 unfolding row_lines

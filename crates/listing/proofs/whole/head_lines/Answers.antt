@@ -1,14 +1,8 @@
 -- `listing::whole::head_lines` meets its contract. Assumes nothing.
-use Rattle.loops.proofs.Loop.{loops}
 use Rattle.listing.specs.Listing.{head_lines}
 use Rattle.listing.proofs.Joined.{room_first, room_rest, wrote_join, room_as, wrote_as}
 use Rattle.listing.proofs.Names.{flag_line}
 use Rattle.listing.proofs.whole.head_lines.Goals as goal
-
-pub overflow_cast-flag : goal.overflow_cast-flag
-unfolding head_lines
-overflow_cast-flag c =
-    search loops
 
 pub solve_line-solve-requires : goal.solve_line-solve-requires
 unfolding head_lines

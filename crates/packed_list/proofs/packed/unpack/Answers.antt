@@ -6,29 +6,16 @@ use Rattle.packed_list.proofs.packed.unpack.Goals as goal
 ruleset known = (grouping_none, grouping_more, grouping_room, grouping_end, grouping_near, grouping_place, grouping_short, grouping_next, loops)
 
 pub loop-i-init : goal.loop-i-init
-loop-i-init c =
-    search known
+loop-i-init c = search known
 
 pub unpack_record-place-requires : goal.unpack_record-place-requires
-unpack_record-place-requires c =
-    search known
+unpack_record-place-requires c = search known
 
 pub overflow_add-from : goal.overflow_add-from
-overflow_add-from c =
-    search known
-
-pub overflow_add-i : goal.overflow_add-i
-overflow_add-i c =
-    search known
-
-pub loop-i-smaller : goal.loop-i-smaller
-loop-i-smaller c =
-    search known
+overflow_add-from c = search known
 
 pub loop-i-preserved : goal.loop-i-preserved
-loop-i-preserved c =
-    search known
+loop-i-preserved c = search known
 
 pub returns : goal.returns
-returns c =
-    search known
+returns c = search known

@@ -1,11 +1,6 @@
 -- `packed_list::packed::unpack_record` meets its contract. Assumes nothing.
-use Prim.Native.Nat.{◌-◌}
 use Rattle.packed_list.proofs.Packing.{Reading}
 use Rattle.packed_list.proofs.packed.unpack_record.Given as goal
 
 abbrev pub invariant-loop-i : goal.invariant-loop-i
-invariant-loop-i l =
-    Reading l.list l.at l.size l.from l.initial.words l.i l.place l.words
-
-abbrev pub decreases-loop-i : goal.decreases-loop-i
-decreases-loop-i l = l.size - l.i
+invariant-loop-i l = Reading l.list l.at l.size l.from l.initial.words l.i l.place l.words

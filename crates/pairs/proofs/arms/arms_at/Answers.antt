@@ -6,11 +6,6 @@ use Rattle.pairs.proofs.arms.arms_at.Goals as goal
 
 ruleset known = (mass_a, mass_b, rules)
 
-pub compact_at-row-requires : goal.compact_at-row-requires
-unfolding arms_of
-compact_at-row-requires c =
-    search known
-
 pub arm_at-requires : goal.arm_at-requires
 unfolding arms_of
 arm_at-requires c =

@@ -3,10 +3,6 @@ use native.Mathlib.Omega.{arith}
 use Rattle.pairs.proofs.Parts.{eight_few, eight_long, eight_more}
 use Rattle.pairs.proofs.pattern.eight_apart.Goals as goal
 
-pub overflow_sub-i : goal.overflow_sub-i
-overflow_sub-i c =
-    omega arith
-
 pub returns-then-j-i : goal.returns-then-j-i
 returns-then-j-i c =
     eight_few _ _ _ _ _ c.if-j-i.true
@@ -14,10 +10,6 @@ returns-then-j-i c =
 pub four_share-requires : goal.four_share-requires
 four_share-requires c =
     omega (arith, c.requires.0, eight_long c.args.i c.args.j c.if-j-i.false, c.wide-at.ensures)
-
-pub overflow_add-at : goal.overflow_add-at
-overflow_add-at c =
-    omega arith
 
 pub four_share-requires-2 : goal.four_share-requires-2
 four_share-requires-2 c =

@@ -3,30 +3,6 @@ use native.Mathlib.Omega.{arith}
 use Rattle.pairs.proofs.Firsts.{begin_lower, firsts_more}
 use Rattle.pairs.proofs.pattern.first_column.Goals as goal
 
-pub overflow_mul-at : goal.overflow_mul-at
-overflow_mul-at c =
-    omega arith
-
-pub offset_bounds-links-at : goal.offset_bounds-links-at
-offset_bounds-links-at c =
-    omega arith
-
-pub bounds-links-at : goal.bounds-links-at
-bounds-links-at c =
-    omega arith
-
-pub overflow_add-at : goal.overflow_add-at
-overflow_add-at c =
-    omega arith
-
-pub offset_bounds-links-at-2 : goal.offset_bounds-links-at-2
-offset_bounds-links-at-2 c =
-    omega arith
-
-pub bounds-links-at-2 : goal.bounds-links-at-2
-bounds-links-at-2 c =
-    omega arith
-
 pub returns-then-a-b : goal.returns-then-a-b
 returns-then-a-b c =
     record {

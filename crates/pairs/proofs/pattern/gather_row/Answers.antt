@@ -1,32 +1,9 @@
 -- `pairs::pattern::gather_row` meets its contract: the columns below j are tried. Assumes nothing.
 use mathlib.Core.Path.{refl}
 use native.Mathlib.Omega.{arith}
+use borrow.Author.Rules.{rules}
 use Rattle.pairs.proofs.Parts.{bodies_of, eight_within, row_done, row_eight, row_full, row_more, row_begin}
 use Rattle.pairs.proofs.pattern.gather_row.Goals as goal
-
-pub overflow_mul-at : goal.overflow_mul-at
-overflow_mul-at c =
-    omega arith
-
-pub offset_bounds-links-at : goal.offset_bounds-links-at
-offset_bounds-links-at c =
-    omega arith
-
-pub bounds-links-at : goal.bounds-links-at
-bounds-links-at c =
-    omega arith
-
-pub overflow_add-b : goal.overflow_add-b
-overflow_add-b c =
-    omega arith
-
-pub offset_bounds-links-at-2 : goal.offset_bounds-links-at-2
-offset_bounds-links-at-2 c =
-    omega arith
-
-pub bounds-links-at-2 : goal.bounds-links-at-2
-bounds-links-at-2 c =
-    omega arith
 
 pub loop-j-init : goal.loop-j-init
 loop-j-init c =
@@ -44,21 +21,13 @@ pub loop-j-preserved-then-eight_apart : goal.loop-j-preserved-then-eight_apart
 loop-j-preserved-then-eight_apart c =
     (eight_within _ _ _ _ _ _ c.eight_apart.ensures c.if-eight_apart.true, c.loop-j.invariant.1, c.loop-j.invariant.2, row_eight _ _ _ _ _ _ c.eight_apart.ensures c.if-eight_apart.true _ _ _ _ c.loop-j.invariant.2 c.loop-j.invariant.3)
 
-pub returns-in-Full : goal.returns-in-Full
-returns-in-Full c =
-    row_full _ _ _ _ _ _ _ _ _ _ _ c.loop-j.invariant.3 c.loop-j.invariant.2 c.try_column.ensures.value _ (omega arith) c.in-Full.is
-
-pub overflow_add-j-in-loop-j : goal.overflow_add-j-in-loop-j
-overflow_add-j-in-loop-j c =
-    omega arith
-
-pub loop-j-smaller : goal.loop-j-smaller
-loop-j-smaller c =
-    omega arith
+pub returns-in_err-p : goal.returns-in_err-p
+returns-in_err-p c =
+    row_full _ _ _ _ _ _ _ _ _ _ _ c.loop-j.invariant.3 c.loop-j.invariant.2 c.try_column.ensures.value _ (omega arith) c.in_err-p.was _ (search rules)
 
 pub loop-j-preserved : goal.loop-j-preserved
 loop-j-preserved c =
-    (omega arith, omega arith, c.loop-j.invariant.2, row_more _ _ _ _ _ _ _ _ _ _ _ c.loop-j.invariant.3 c.loop-j.invariant.2 c.try_column.ensures.value _ _ (omega arith) c.try_column.ensures.columns_after c.in-Done.is)
+    (omega arith, omega arith, c.loop-j.invariant.2, row_more _ _ _ _ _ _ _ _ _ _ _ c.loop-j.invariant.3 c.loop-j.invariant.2 c.try_column.ensures.value _ _ (omega arith) c.try_column.ensures.columns_after c.in_ok-p.was)
 
 pub returns : goal.returns
 returns c =

@@ -1,5 +1,5 @@
 -- `pairs::pattern::gather_rows` meets its contract: the rows below i are gathered. Assumes nothing.
-use Prim.Native.Nat.{◌+◌, ◌-◌, ◌≤◌}
+use Prim.Native.Nat.{◌+◌}
 use mathlib.Core.Path.{◌≡◌}
 use lib.ListN.{length}
 use Rattle.pairs.specs.Gather.{Firsts, Stored, share_in}
@@ -8,7 +8,4 @@ use Rattle.pairs.proofs.pattern.gather_rows.Given as goal
 
 abbrev pub invariant-loop-i : goal.invariant-loop-i
 invariant-loop-i l =
-    (l.i ≤ l.n) × (length l.pattern ≡ l.n + 1 + l.room) × (length l.firsts ≡ length l.initial.firsts) × Firsts l.links l.firsts l.i × Stored (share_in l.links) (starts_in l.n l.pattern) (columns_in l.n l.pattern) l.i l.p
-
-abbrev pub decreases-loop-i : goal.decreases-loop-i
-decreases-loop-i l = l.n - l.i
+    (length l.pattern ≡ l.n + 1 + l.room) × Firsts l.links l.firsts l.i × Stored (share_in l.links) (starts_in l.n l.pattern) (columns_in l.n l.pattern) l.i l.p

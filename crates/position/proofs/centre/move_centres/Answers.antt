@@ -5,30 +5,6 @@ use Rattle.position.proofs.centre.move_centres.Goals as goal
 
 ruleset known = (moves_none, moves_more, moves_end, loops)
 
-pub loop-b-init : goal.loop-b-init
-loop-b-init c =
-    search known
-
-pub overflow_mul-b : goal.overflow_mul-b
-overflow_mul-b c =
-    search known
-
-pub moved_at-requires : goal.moved_at-requires
-moved_at-requires c =
-    search known
-
-pub put_vec-requires : goal.put_vec-requires
-put_vec-requires c =
-    search known
-
-pub overflow_add-b : goal.overflow_add-b
-overflow_add-b c =
-    search known
-
-pub loop-b-smaller : goal.loop-b-smaller
-loop-b-smaller c =
-    search known
-
 pub loop-b-preserved : goal.loop-b-preserved
 loop-b-preserved c =
     moves_more c.loop-b.invariant c.loop-b-test.true c.moved_at.ensures c.put_vec.ensures

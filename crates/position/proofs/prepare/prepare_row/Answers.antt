@@ -6,34 +6,14 @@ use Rattle.position.proofs.prepare.prepare_row.Goals as goal
 
 ruleset known = (mass_a, mass_b, rules)
 
-pub is_valid_at-requires : goal.is_valid_at-requires
-is_valid_at-requires c =
-    search known
-
 pub returns-then-not-is_valid_at : goal.returns-then-not-is_valid_at
 returns-then-not-is_valid_at c =
-    row_seven _ _ _ _ _ c.args.tolerances.now c.args.residual _ _ c.is_valid_at.ensures c.if-not-is_valid_at.true-raw
-
-pub row_at-row-requires : goal.row_at-row-requires
-row_at-row-requires c =
-    search known
+    row_seven _ _ _ _ _ c.args.tolerances.now c.args.residual _ _ c.is_valid_at.ensures (search rules)
 
 pub row_diagonal-requires : goal.row_diagonal-requires
 row_diagonal-requires c =
     search known
 
-pub offset_bounds-tolerances-i : goal.offset_bounds-tolerances-i
-offset_bounds-tolerances-i c =
-    search known
-
-pub bounds-tolerances-i : goal.bounds-tolerances-i
-bounds-tolerances-i c =
-    search known
-
-pub judge_diagonal-requires : goal.judge_diagonal-requires
-judge_diagonal-requires c =
-    search known
-
 pub returns : goal.returns
 returns c =
-    row_on _ _ _ _ _ c.args.tolerances.now c.args.residual _ _ c.is_valid_at.ensures _ _ c.if-not-is_valid_at.false-raw c.row_at-row.ensures c.row_diagonal.ensures c.judge_diagonal.ensures
+    row_on _ _ _ _ _ c.args.tolerances.now c.args.residual _ _ c.is_valid_at.ensures _ _ (search rules) c.row_at-row.ensures c.row_diagonal.ensures c.judge_diagonal.ensures

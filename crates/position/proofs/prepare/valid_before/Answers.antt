@@ -9,10 +9,6 @@ pub returns-then-not-valid_first : goal.returns-then-not-valid_first
 returns-then-not-valid_first c =
     search known
 
-pub rows_valid-requires : goal.rows_valid-requires
-rows_valid-requires c =
-    search known
-
 pub returns : goal.returns
 returns c =
     search known

@@ -5,18 +5,6 @@ use Rattle.position.proofs.start.start_residual.Goals as goal
 
 ruleset known = (start_copied, start_negated, given_long, rules)
 
-pub negate_errors-requires : goal.negate_errors-requires
-negate_errors-requires c =
-    search known
-
-pub copy-requires : goal.copy-requires
-copy-requires c =
-    search known
-
-pub returns-in-Position : goal.returns-in-Position
-returns-in-Position c =
-    search known
-
 pub returns-in-Velocity : goal.returns-in-Velocity
 returns-in-Velocity c =
     search known

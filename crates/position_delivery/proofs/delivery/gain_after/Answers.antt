@@ -9,10 +9,6 @@ pub returns-then-count-eq0 : goal.returns-then-count-eq0
 returns-then-count-eq0 c =
     search known
 
-pub add_multipliers-requires : goal.add_multipliers-requires
-add_multipliers-requires c =
-    search known
-
 pub returns : goal.returns
 returns c =
     search known

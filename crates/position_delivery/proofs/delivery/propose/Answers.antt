@@ -1,20 +1,12 @@
 -- `position_delivery::delivery::propose` meets its contract. Assumes nothing.
-use mathlib.Core.Path.{refl}
-use Rattle.loops.proofs.Loop.{loops}
-use Rattle.position_delivery.proofs.Counted.{by_met, by_limit, counted_step, counted_refused}
+use Rattle.position_delivery.proofs.Counted.{counted_step, counted_refused, counted_stands}
 use Rattle.position_delivery.proofs.delivery.propose.Goals as goal
-use Rattle.position_delivery.proofs.delivery.propose.Goals.{in-Met, in-Limit}
 
-ruleset known = (loops)
+pub returns-in_err-met-clause-centres_value : goal.returns-in_err-met-clause-centres_value
+returns-in_err-met-clause-centres_value c = counted_refused c.args.limit _ _ _ _ _ _ _ _ _ _ _ c.in_err-met.was c.from_residual.ensures.1
 
-pub returns-in-Refused : goal.returns-in-Refused
-returns-in-Refused c =
-    record { centres_value = counted_refused _ _ _ _ _ _ _ _ _ _ _ c.in-Refused.is; free = record { long = refl } }
+pub propose_step-requires-clause-stands : goal.propose_step-requires-clause-stands
+propose_step-requires-clause-stands c = counted_stands _ _ c.requires.stands_after c.in_ok-met.was
 
-pub propose_step-requires : goal.propose_step-requires
-propose_step-requires c =
-    record { numbers_len = c.requires.numbers_len; place_bound = c.requires.place_bound; rows_in_bounds = c.requires.rows_in_bounds; stands = elim c.match-counted.branch [ in-Met w ↦ c.requires.stands_after.met _ w.in-Met.is | in-Limit w ↦ c.requires.stands_after.spent w.in-Limit.is ] }
-
-pub returns : goal.returns
-returns c =
-    record { centres_value = counted_step c.args.limit _ _ c.args.counted _ _ _ _ _ _ _ _ _ (elim c.match-counted.branch [ in-Met w ↦ by_met c.args.limit _ _ c.args.counted _ _ _ w.in-Met.is w.flag-is w.count-is | in-Limit w ↦ by_limit c.args.limit _ _ c.args.counted _ _ w.in-Limit.is w.flag-is w.count-is ]) c.propose_step.ensures; free = record { long = search known } }
+pub returns-clause-centres_value : goal.returns-clause-centres_value
+returns-clause-centres_value c = counted_step c.args.limit _ _ _ _ _ _ _ _ _ _ _ c.in_ok-met.was c.is_some.ensures c.unwrap_or.ensures c.propose_step.ensures

@@ -1,19 +1,12 @@
 -- `position_delivery::delivery::propose_and_clear` meets its contract. Assumes nothing.
 use mathlib.Core.Path.{refl}
 use native.Mathlib.Omega.{arith}
-use Rattle.loops.proofs.Loop.{loops}
 use Rattle.position_delivery.proofs.Counted.{delivered_both}
 use Rattle.position_delivery.proofs.delivery.propose_and_clear.Goals as goal
-
-ruleset known = (loops)
 
 pub propose-answer-requires : goal.propose-answer-requires
 propose-answer-requires c =
     record { numbers_len = (c.requires.rows_room.numbers_long, c.requires.rows_room.words_long, omega (arith, c.requires.rows_room.masses_long), c.requires.solution_len.0, c.requires.solution_len.1); place_bound = c.requires.place_bound; rows_in_bounds = (omega (arith, c.requires.table_room.jacobians_long), omega (arith, c.requires.table_room.links_long), c.requires.table_room.pending_long, c.requires.table_room.residual_long, c.requires.table_room.body_impulses_long); stands_after = c.requires.stands_after }
-
-pub clear_table-requires : goal.clear_table-requires
-clear_table-requires c =
-    search known
 
 pub returns : goal.returns
 returns c =

@@ -3,39 +3,12 @@ use mathlib.Core.Path.{ap, ◌∙◌}
 use native.Mathlib.Omega.{arith}
 use borrow.Author.Tests.{not-false, not-true}
 use Rattle.loops.specs.Cleared.{zeros}
-use Rattle.loops.proofs.Loop.{loops}
 use Rattle.position_delivery.proofs.Deliveries.{proposed_none, proposed_refused, proposed_all}
 use Rattle.position_delivery.proofs.delivery.propose_step.Goals as goal
-
-ruleset known = (loops)
-
-pub copy-requires : goal.copy-requires
-copy-requires c =
-    search known
-
-pub clear-requires : goal.clear-requires
-clear-requires c =
-    search known
-
-pub copy-requires-then-count-eq0 : goal.copy-requires-then-count-eq0
-copy-requires-then-count-eq0 c =
-    search known
-
-pub accept-requires : goal.accept-requires
-accept-requires c =
-    search known
 
 pub returns-then-count-eq0 : goal.returns-then-count-eq0
 returns-then-count-eq0 c =
     proposed_none _ _ _ _ _ _ _ _ _ _ c.requires.rows_in_bounds.3 _ c.accept.ensures _ _ _ _ _ _ _ _ c.if-count-eq0.true c.requires.place_bound.2 c.copy.ensures (c.clear.ensures ∙ ap zeros c.requires.numbers_len.4) c.copy-then-count-eq0.ensures
-
-pub wide-requires : goal.wide-requires
-wide-requires c =
-    search known
-
-pub wide-requires-2 : goal.wide-requires-2
-wide-requires-2 c =
-    search known
 
 pub show-requires : goal.show-requires
 show-requires c =

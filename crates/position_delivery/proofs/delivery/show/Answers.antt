@@ -1,26 +1,11 @@
 -- `position_delivery::delivery::show` meets its contract. Assumes nothing.
 use native.Mathlib.Omega.{arith}
-use Rattle.loops.proofs.Loop.{loops}
 use Rattle.position_delivery.proofs.Deliveries.{shown_none, shown_all}
 use Rattle.position_delivery.proofs.delivery.show.Goals as goal
-
-ruleset known = (loops)
-
-pub deliverable-requires : goal.deliverable-requires
-deliverable-requires c =
-    search known
 
 pub returns-then-not-deliverable : goal.returns-then-not-deliverable
 returns-then-not-deliverable c =
     shown_none _ _ _ _ _ _ _ _ _ _ _ _ _ c.deliverable.ensures c.if-not-deliverable.true-raw
-
-pub copy-requires : goal.copy-requires
-copy-requires c =
-    search known
-
-pub deliver_impulses-requires : goal.deliver_impulses-requires
-deliver_impulses-requires c =
-    search known
 
 pub move_centres-requires : goal.move_centres-requires
 move_centres-requires c =

@@ -1,5 +1,4 @@
 -- `position_delivery::impulses::deliver_impulses` meets its contract: the impulses of the bodies below b are in order. Assumes nothing.
-use Prim.Native.Nat.{◌-◌}
 use Rattle.kapitsa_joint.specs.Impulse.{paired_of}
 use Rattle.position_delivery.proofs.InOrder.{Puts}
 use Rattle.position_delivery.proofs.impulses.deliver_impulses.Given as goal
@@ -7,6 +6,3 @@ use Rattle.position_delivery.proofs.impulses.deliver_impulses.Given as goal
 abbrev pub invariant-loop-b : goal.invariant-loop-b
 invariant-loop-b l =
     Puts (paired_of l.body_impulses) l.bodies l.b l.impulses
-
-abbrev pub decreases-loop-b : goal.decreases-loop-b
-decreases-loop-b l = l.bodies - l.b

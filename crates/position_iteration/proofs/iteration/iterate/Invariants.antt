@@ -1,6 +1,4 @@
--- `position_iteration::iteration::iterate` meets its contract. Assumes nothing.
-use Prim.Native.Nat.{◌-◌}
-use mathlib.Core.Path.{◌≡◌}
+-- `position_iteration::iteration::iterate` meets its contract: k steps were made, and none met. Assumes nothing.
 use lib.ListN.{length}
 use Rattle.loops.proofs.Loop.{At}
 use Rattle.steps.specs.Solve.{turn}
@@ -9,9 +7,6 @@ use Rattle.position_iteration.proofs.iteration.iterate.Given as goal
 
 abbrev pub invariant-loop-k : goal.invariant-loop-k
 invariant-loop-k l =
-    (length l.body_impulses ≡ length l.initial.body_impulses) × (length l.product ≡ length l.initial.product) × (length l.pending ≡ length l.initial.pending) × (length l.residual ≡ length l.initial.residual) × (length l.direction ≡ length l.initial.direction)
-    × At (turn (steps_in l.preconditioner (length l.tolerances) l.bodies l.tolerances l.masses l.jacobians l.links record { diagonal = l.diagonal; pattern = l.pattern; order = l.order; values = l.values })) (record { solution = l.initial.pending; residual = l.initial.residual }, record { direction = l.initial.direction; s = l.residual_product }) l.limit l.k
+    At (turn (steps_in l.preconditioner (length l.tolerances) l.bodies l.tolerances l.masses l.jacobians l.links record { diagonal = l.diagonal; pattern = l.pattern; order = l.order; values = l.values }))
+    (record { solution = l.initial.pending; residual = l.initial.residual }, record { direction = l.initial.direction; s = l.residual_product }) l.limit l.k
     (record { solution = l.pending; residual = l.residual }, record { direction = l.direction; s = l.s })
-
-abbrev pub decreases-loop-k : goal.decreases-loop-k
-decreases-loop-k l = l.limit - l.k

@@ -1,33 +1,18 @@
 -- `position_steps::counting::count_steps` meets its contract. Assumes nothing.
 use mathlib.Core.Path.{◌∙◌}
 use native.Mathlib.Omega.{arith}
-use Rattle.loops.proofs.Loop.{loops}
 use Rattle.rules.specs.Rows.{rules_in}
 use Rattle.work_memory.proofs.Cleared.{steps_since}
 use Rattle.position_steps.proofs.Counted.{start_linked, start_roomy, count_held}
 use Rattle.position_steps.proofs.counting.count_steps.Goals as goal
 
-ruleset known = (loops)
-
 pub start-begun-requires : goal.start-begun-requires
 start-begun-requires c =
     record { numbers_len = (c.requires.rows_room.numbers_long, c.requires.rows_room.words_long, omega (arith, c.requires.rows_room.masses_long), c.requires.rule_tolerances_in_bounds); jacobians_len = (c.requires.work_room.table.jacobians_long, c.requires.work_room.table.links_long, c.requires.work_room.steps.tolerances_long, c.requires.work_room.steps.factor.diagonal_long, c.requires.work_room.table.pending_long, c.requires.work_room.table.residual_long); given_room = c.requires.given_room }
 
-pub is_velocity-requires : goal.is_velocity-requires
-is_velocity-requires c =
-    search known
-
-pub wide-requires : goal.wide-requires
-wide-requires c =
-    search known
-
 pub run_steps-counted-requires : goal.run_steps-counted-requires
 run_steps-counted-requires c =
     record { words_len = (c.requires.rows_room.words_long, c.tolerances-1.given ∙ c.requires.work_room.steps.tolerances_long, omega (arith, c.requires.rows_room.masses_long, c.wide.ensures), omega (arith, c.jacobians-1.given, c.requires.work_room.table.jacobians_long), omega (arith, c.links-1.given, c.requires.work_room.table.links_long)); linking = start_linked _ _ _ _ _ _ _ _ _ _ _ c.start-begun.ensures.start_held c.wide.ensures; roomy = start_roomy _ _ _ _ c.requires.work_room.steps.factor c.diagonal-1.given; body_impulses_len = (omega (arith, c.requires.work_room.table.body_impulses_long, c.wide.ensures), c.requires.work_room.steps.product_long, c.pending-1.given ∙ c.requires.work_room.table.pending_long, c.residual-1.given ∙ c.requires.work_room.table.residual_long, c.requires.work_room.steps.direction_long) }
-
-pub clear_steps-requires : goal.clear_steps-requires
-clear_steps-requires c =
-    search known
 
 pub returns : goal.returns
 returns c =

@@ -1,14 +1,7 @@
 -- `position_steps::opening::given_fits` meets its contract. Assumes nothing.
 use native.Mathlib.Omega.{arith}
-use Rattle.loops.proofs.Loop.{loops}
 use Rattle.position_steps.proofs.Openings.{given_none, given_rows}
 use Rattle.position_steps.proofs.opening.given_fits.Goals as goal
-
-ruleset known = (loops)
-
-pub wide-requires : goal.wide-requires
-wide-requires c =
-    search known
 
 pub residuals_finite-requires : goal.residuals_finite-requires
 residuals_finite-requires c =

@@ -1,9 +1,6 @@
 -- `position_steps::opening::opens` meets its contract. Assumes nothing.
-use Rattle.loops.proofs.Loop.{loops}
 use Rattle.position_steps.proofs.Openings.{opens_empty, opens_none, opens_position, opens_velocity}
 use Rattle.position_steps.proofs.opening.opens.Goals as goal
-
-ruleset known = (loops)
 
 pub returns-then-rows-eq0 : goal.returns-then-rows-eq0
 returns-then-rows-eq0 c =
@@ -12,22 +9,6 @@ returns-then-rows-eq0 c =
 pub returns-then-limit-eq0 : goal.returns-then-limit-eq0
 returns-then-limit-eq0 c =
     opens_none _ _ _ c.if-rows-eq0.false c.if-limit-eq0.true
-
-pub wide-requires : goal.wide-requires
-wide-requires c =
-    search known
-
-pub rows_open-requires : goal.rows_open-requires
-rows_open-requires c =
-    search known
-
-pub wide-requires-in-Velocity : goal.wide-requires-in-Velocity
-wide-requires-in-Velocity c =
-    search known
-
-pub velocity_rows_open-requires : goal.velocity_rows_open-requires
-velocity_rows_open-requires c =
-    search known
 
 pub returns-in-Position : goal.returns-in-Position
 returns-in-Position c =

@@ -1,44 +1,44 @@
 -- `position_steps::running::run_steps` meets its contract. Assumes nothing.
-use mathlib.Core.Path.{refl, sym, ◌∙◌}
-use Rattle.loops.proofs.Loop.{loops}
+use mathlib.Core.Path.{◌≡◌, ap}
+use borrow.Author.Rules.{rules}
+use Rattle.std.proofs.lemmas.Result.{err_from_is_err_and}
+use Rattle.refusals.specs.Told.{told}
 use Rattle.position_steps.proofs.Factored.{factor_told, factor_holds, factor_stands, factor_runs}
 use Rattle.position_steps.proofs.Stepping.{run_refused, run_met, run_unbuilt, run_built, run_on}
 use Rattle.position_steps.proofs.running.run_steps.Goals as goal
 
-ruleset known = (loops)
+pub returns-in_err-begun-clause-limit_value : goal.returns-in_err-begun-clause-limit_value
+returns-in_err-begun-clause-limit_value c =
+    let p = err_from_is_err_and c.from_residual.result c.from_residual.ensures.1 in
+    rw (p.1, p.2) (run_refused _ _ _ _ _ _ _ _ _ _ _ c.in_err-begun.was)
 
-pub returns-in-Refused : goal.returns-in-Refused
-returns-in-Refused c =
-    record { limit_value = run_refused _ _ _ _ _ _ _ _ _ _ _ c.in-Refused.is; run_free = record { diagonal_free = record { long = refl }; pattern_free = record { long = refl }; order_free = record { long = refl }; values_free = record { long = refl }; steps_free = record { body_impulses_free = record { long = refl }; product_free = record { long = refl }; pending_free = record { long = refl }; residual_free = record { long = refl }; direction_free = record { long = refl } } } }
+pub returns-then-meets-factor_first-clause-limit_value : goal.returns-then-meets-factor_first-clause-limit_value
+returns-then-meets-factor_first-clause-limit_value c =
+    run_met _ _ _ _ _ _ _ _ _ _ c.in_ok-begun.was _ c.position_vector_converged-meets.ensures c.requires.body_impulses_len.3 c.if-meets-factor_first.true
 
-pub position_vector_converged-meets-requires : goal.position_vector_converged-meets-requires
-position_vector_converged-meets-requires c =
-    search known
+pub build_preconditioner-requires-clause-linked : goal.build_preconditioner-requires-clause-linked
+build_preconditioner-requires-clause-linked c = c.requires.linking.linked c.in_ok-begun.was
 
-pub returns-then-meets-factor_first : goal.returns-then-meets-factor_first
-returns-then-meets-factor_first c =
-    record { limit_value = run_met _ _ _ _ _ _ _ _ _ _ c.in-Done.is _ c.position_vector_converged-meets.ensures c.requires.body_impulses_len.3 c.if-meets-factor_first.true; run_free = record { diagonal_free = record { long = refl }; pattern_free = record { long = refl }; order_free = record { long = refl }; values_free = record { long = refl }; steps_free = record { body_impulses_free = record { long = refl }; product_free = record { long = refl }; pending_free = record { long = refl }; residual_free = record { long = refl }; direction_free = record { long = refl } } } }
+pub returns-in_err-preconditioner-clause-limit_value : goal.returns-in_err-preconditioner-clause-limit_value
+returns-in_err-preconditioner-clause-limit_value c =
+    let p = err_from_is_err_and c.from_residual-in_err-preconditioner.result c.from_residual-in_err-preconditioner.ensures.1 in
+    rw (p.1, p.2)
+    (run_unbuilt _ _ _ _ _ _ c.args.limit _ _ _ c.in_ok-begun.was _ c.position_vector_converged-meets.ensures c.requires.body_impulses_len.3 (told c.build_preconditioner.result)
+    (factor_told _ _ c.args.words.now _ _ _ _ _ _ _ c.build_preconditioner.ensures) _ c.if-meets-factor_first.false (ap told c.in_err-preconditioner.was))
 
-pub build_preconditioner-built-requires : goal.build_preconditioner-built-requires
-build_preconditioner-built-requires c =
-    record { words_len = (c.requires.words_len.0, c.requires.words_len.3, c.requires.words_len.4, c.requires.words_len.2); linked = c.requires.linking.linked c.in-Done.is; roomy = c.requires.roomy }
+pub returns-then-meets-clause-limit_value : goal.returns-then-meets-clause-limit_value
+returns-then-meets-clause-limit_value c =
+    run_built _ _ _ _ _ _ _ _ _ _ c.in_ok-begun.was _ c.position_vector_converged-meets.ensures c.requires.body_impulses_len.3 (told c.build_preconditioner.result)
+    (factor_told _ _ c.args.words.now _ _ _ _ _ _ _ c.build_preconditioner.ensures) _ (ap told c.in_ok-preconditioner.was) c.if-meets-factor_first.false c.if-meets.true
 
-pub refusal_of-requires : goal.refusal_of-requires
-refusal_of-requires c =
-    search known
+pub step_on-requires-clause-standing : goal.step_on-requires-clause-standing
+step_on-requires-clause-standing c =
+    factor_stands _ _ c.args.words.now _ _ _ _ _ _ _ c.build_preconditioner.ensures c.requires.words_len.0 c.requires.roomy _ (ap told c.in_ok-preconditioner.was) _ _ c.requires.words_len.1 c.requires.words_len.1 c.requires.words_len.2
+    c.requires.words_len.3 c.requires.words_len.4 (c.requires.linking.linked c.in_ok-begun.was) (search rules) (search rules) (search rules) (search rules)
 
-pub returns-in_default : goal.returns-in_default
-returns-in_default c =
-    record { limit_value = rw c.refusal_of.ensures (run_unbuilt _ _ _ _ _ _ c.args.limit _ _ _ c.in-Done.is _ c.position_vector_converged-meets.ensures c.requires.body_impulses_len.3 c.build_preconditioner-built.result (factor_told _ _ c.args.words.now _ _ _ _ _ _ _ c.build_preconditioner-built.ensures) _ c.if-meets-factor_first.false c.in_default.is); run_free = record { diagonal_free = record { long = c.diagonal-1.given }; pattern_free = record { long = c.pattern-1.given }; order_free = record { long = c.order-1.given }; values_free = record { long = c.values-1.given }; steps_free = record { body_impulses_free = record { long = refl }; product_free = record { long = refl }; pending_free = record { long = refl }; residual_free = record { long = refl }; direction_free = record { long = refl } } } }
-
-pub returns-then-meets : goal.returns-then-meets
-returns-then-meets c =
-    record { limit_value = run_built _ _ _ _ _ _ _ _ _ _ c.in-Done.is _ c.position_vector_converged-meets.ensures c.requires.body_impulses_len.3 c.build_preconditioner-built.result (factor_told _ _ c.args.words.now _ _ _ _ _ _ _ c.build_preconditioner-built.ensures) _ c.in-Done-built.is c.if-meets-factor_first.false c.if-meets.true; run_free = record { diagonal_free = record { long = c.diagonal-1.given }; pattern_free = record { long = c.pattern-1.given }; order_free = record { long = c.order-1.given }; values_free = record { long = c.values-1.given }; steps_free = record { body_impulses_free = record { long = refl }; product_free = record { long = refl }; pending_free = record { long = refl }; residual_free = record { long = refl }; direction_free = record { long = refl } } } }
-
-pub step_on-requires : goal.step_on-requires
-step_on-requires c =
-    record { standing = factor_stands _ _ c.args.words.now _ _ _ _ _ _ _ c.build_preconditioner-built.ensures c.requires.words_len.0 c.requires.roomy _ c.in-Done-built.is _ _ c.requires.words_len.1 c.requires.words_len.1 c.requires.words_len.2 c.requires.words_len.3 c.requires.words_len.4 (c.requires.linking.linked c.in-Done.is) c.diagonal-1.given c.pattern-1.given c.order-1.given c.values-1.given; body_impulses_len = (c.requires.body_impulses_len.0, c.requires.body_impulses_len.1 ∙ sym c.requires.words_len.1, c.requires.body_impulses_len.2 ∙ sym c.requires.words_len.1, c.requires.body_impulses_len.3 ∙ sym c.requires.words_len.1, c.requires.body_impulses_len.4 ∙ sym c.requires.words_len.1) }
-
-pub returns : goal.returns
-returns c =
-    record { limit_value = run_on _ _ _ _ _ _ _ _ _ _ c.in-Done.is _ c.position_vector_converged-meets.ensures c.requires.body_impulses_len.3 c.build_preconditioner-built.result (factor_told _ _ c.args.words.now _ _ _ _ _ _ _ c.build_preconditioner-built.ensures) _ c.in-Done-built.is _ c.if-meets.false (factor_holds _ _ c.args.words.now _ _ _ _ _ _ _ c.build_preconditioner-built.ensures c.requires.words_len.0 c.requires.roomy _ c.in-Done-built.is) (factor_runs _ _ c.args.words.now _ _ _ _ _ _ _ c.build_preconditioner-built.ensures c.requires.words_len.0 c.requires.roomy _ c.in-Done-built.is _ _ _ _ c.requires.words_len.1 c.step_on.ensures); run_free = record { diagonal_free = record { long = c.diagonal-1.given }; pattern_free = record { long = c.pattern-1.given }; order_free = record { long = c.order-1.given }; values_free = record { long = c.values-1.given }; steps_free = record { body_impulses_free = record { long = c.body_impulses-1.given }; product_free = record { long = c.product-1.given }; pending_free = record { long = c.pending-1.given }; residual_free = record { long = c.residual-1.given }; direction_free = record { long = c.direction-1.given } } } }
+pub returns-clause-limit_value : goal.returns-clause-limit_value
+returns-clause-limit_value c =
+    run_on _ _ _ _ _ _ _ _ _ _ c.in_ok-begun.was _ c.position_vector_converged-meets.ensures c.requires.body_impulses_len.3 (told c.build_preconditioner.result)
+    (factor_told _ _ c.args.words.now _ _ _ _ _ _ _ c.build_preconditioner.ensures) _ (ap told c.in_ok-preconditioner.was) _ c.if-meets.false
+    (factor_holds _ _ c.args.words.now _ _ _ _ _ _ _ c.build_preconditioner.ensures c.requires.words_len.0 c.requires.roomy _ (ap told c.in_ok-preconditioner.was))
+    (factor_runs _ _ c.args.words.now _ _ _ _ _ _ _ c.build_preconditioner.ensures c.requires.words_len.0 c.requires.roomy _ (ap told c.in_ok-preconditioner.was) _ _ _ _ c.requires.words_len.1 c.step_on.ensures)

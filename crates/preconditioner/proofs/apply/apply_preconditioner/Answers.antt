@@ -3,7 +3,7 @@ use mathlib.Core.Path.{sym, ◌∙◌}
 use native.Mathlib.Omega.{arith}
 use Rattle.loops.proofs.Loop.{loops}
 use Rattle.triangular.proofs.Solves.{sixteen}
-use Rattle.triangular.specs.declared.substitution.Solved.TheVariants.{Done}
+use Rattle.std.specs.Prelude.{Ok}
 use Rattle.preconditioner.proofs.Applies.{apply_diagonal, apply_blocks, factor_applied, factor_lent, blocks_lent}
 use Rattle.preconditioner.proofs.apply.apply_preconditioner.Goals as goal
 
@@ -13,17 +13,9 @@ pub diagonal_solve-requires : goal.diagonal_solve-requires
 diagonal_solve-requires c =
     (c.requires.residual_len, c.requires.ready.long ∙ c.requires.residual_len)
 
-pub clear-requires : goal.clear-requires
-clear-requires c =
-    search known
-
 pub solve_factor-requires : goal.solve_factor-requires
 solve_factor-requires c =
     record { factor_ready = factor_lent _ _ _ c.requires.ready _ _ c.in-IncompleteCholesky.is (c.output-in-IncompleteCholesky-1.given ∙ sym c.requires.residual_len); pivots_len = (c.requires.ready.long ∙ c.requires.residual_len ∙ sym c.output-in-IncompleteCholesky-1.given, c.requires.residual_len ∙ sym c.output-in-IncompleteCholesky-1.given) }
-
-pub clear-requires-in-BlockJacobi : goal.clear-requires-in-BlockJacobi
-clear-requires-in-BlockJacobi c =
-    search known
 
 pub apply_block_jacobi_preconditioner-requires : goal.apply_block_jacobi_preconditioner-requires
 apply_block_jacobi_preconditioner-requires c =
@@ -31,7 +23,7 @@ apply_block_jacobi_preconditioner-requires c =
 
 pub returns-in-Diagonal : goal.returns-in-Diagonal
 returns-in-Diagonal c =
-    record { residual_value = search known; residual_value_2 = sixteen Done _ (search known) }
+    record { residual_value = search known; residual_value_2 = sixteen (Ok tt) _ (search known) }
 
 pub returns-in-IncompleteCholesky : goal.returns-in-IncompleteCholesky
 returns-in-IncompleteCholesky c =

@@ -1,35 +1,16 @@
 -- `preconditioner::apply::solve_factor` meets its contract. Assumes nothing.
 use mathlib.Core.Path.{sym}
 use lib.Seq.{length-take-le}
-use Rattle.loops.proofs.Loop.{loops}
 use Rattle.preconditioner.proofs.Applies.{ends_within, columns_are, index_lent, order_lent, solved_lent}
 use Rattle.preconditioner.proofs.apply.solve_factor.Goals as goal
-
-ruleset known = (loops)
-
-pub overflow_add-ends : goal.overflow_add-ends
-overflow_add-ends c =
-    search known
 
 pub slice_bounds-solve-end : goal.slice_bounds-solve-end
 slice_bounds-solve-end c =
     sym (length-take-le _ _ (ends_within _ _ _ c.requires.factor_ready))
 
-pub offset_bounds-pattern-ends : goal.offset_bounds-pattern-ends
-offset_bounds-pattern-ends c =
-    search known
-
-pub slice_bounds-solve-count : goal.slice_bounds-solve-count
-slice_bounds-solve-count c =
-    search known
-
 pub slice_bounds-solve-start : goal.slice_bounds-solve-start
 slice_bounds-solve-start c =
     ends_within _ _ _ c.requires.factor_ready
-
-pub slice_bounds-solve-end-2 : goal.slice_bounds-solve-end-2
-slice_bounds-solve-end-2 c =
-    search known
 
 pub solve-requires : goal.solve-requires
 solve-requires c =

@@ -1,5 +1,4 @@
 -- `rules::rows::gather_tolerances` meets its contract: the rows below i have their tolerance. Assumes nothing.
-use Prim.Native.Nat.{◌-◌}
 use lib.ListN.{length}
 use lib.Ieee.{nan}
 use Rattle.loops.proofs.Fill.{Fills}
@@ -9,6 +8,3 @@ use Rattle.rules.proofs.rows.gather_tolerances.Given as goal
 abbrev pub invariant-loop-i : goal.invariant-loop-i
 invariant-loop-i l =
     Fills nan (tolerance_in (rules_in l.rule_words l.rule_tolerances) l.row_words) (length l.initial.tolerances) l.i l.tolerances
-
-abbrev pub decreases-loop-i : goal.decreases-loop-i
-decreases-loop-i l = length l.initial.tolerances - l.i

@@ -1,5 +1,4 @@
 -- `rules::rows::name_rules` meets its contract: the rows below i have the number of their rule. Assumes nothing.
-use Prim.Native.Nat.{◌-◌}
 use lib.ListN.{length}
 use Rattle.loops.proofs.Fill.{Fills}
 use Rattle.rules.specs.Rows.{rules_in, rule_in}
@@ -8,6 +7,3 @@ use Rattle.rules.proofs.rows.name_rules.Given as goal
 abbrev pub invariant-loop-i : goal.invariant-loop-i
 invariant-loop-i l =
     Fills 0 (rule_in (rules_in l.rule_words l.rule_tolerances) l.row_words) (length l.initial.rule_numbers) l.i l.rule_numbers
-
-abbrev pub decreases-loop-i : goal.decreases-loop-i
-decreases-loop-i l = length l.initial.rule_numbers - l.i

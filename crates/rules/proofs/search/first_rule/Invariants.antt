@@ -1,5 +1,4 @@
 -- `rules::search::first_rule` meets its contract: no rule from `start` on and below r applies. Assumes nothing.
-use Prim.Native.Nat.{◌-◌}
 use lib.ListN.{length}
 use Rattle.rules.specs.Rules.{applies}
 use Rattle.rules.specs.Rows.{rules_in}
@@ -9,6 +8,3 @@ use Rattle.rules.proofs.search.first_rule.Given as goal
 abbrev pub invariant-loop-r : goal.invariant-loop-r
 invariant-loop-r l =
     Passed (applies (rules_in l.words l.tolerances) l.dimension l.key) (length l.tolerances) l.start l.r
-
-abbrev pub decreases-loop-r : goal.decreases-loop-r
-decreases-loop-r l = length l.tolerances - l.r

@@ -3,11 +3,6 @@ use Rattle.rules.specs.Rules.{rule_for}
 use Rattle.rules.proofs.Finding.{searches}
 use Rattle.rules.proofs.search.only_rule.Goals as goal
 
-pub first_rule-requires : goal.first_rule-requires
-unfolding rule_for
-first_rule-requires c =
-    search searches
-
 pub returns : goal.returns
 unfolding rule_for
 returns c =

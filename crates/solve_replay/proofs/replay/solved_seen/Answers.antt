@@ -1,11 +1,12 @@
 -- `solve_replay::replay::solved_seen` meets its contract. Assumes nothing.
-use mathlib.Core.Path.{refl, sym, ◌∙◌}
+use mathlib.Core.Path.{refl, sym, ◌∙◌, ap}
 use native.Mathlib.Omega.{arith}
 use lib.Seq.{length-take-le}
 use Rattle.loops.proofs.Loop.{loops}
 use Rattle.solve_replay.specs.Seen.{solved_of}
 use Rattle.solve_replay.proofs.Beside.{centres_taken, placed_few, placed_within}
 use Rattle.solve_replay.proofs.Showing.{solved_accepted, solved_refused}
+use Rattle.refusals.specs.Told.{told}
 use Rattle.solve_replay.proofs.replay.solved_seen.Goals as goal
 
 pub tolerance_in-tolerance-requires : goal.tolerance_in-tolerance-requires
@@ -68,12 +69,12 @@ unfolding solved_of
 refused_seen-requires c =
     record { rows_bound = (c.requires.at_bound.1, c.requires.at_bound.2); rows_len = (c.requires.rows_len.0, c.numbers-1.given ∙ c.requires.rows_len.1, c.solution-1.given ∙ c.requires.rows_len.2, c.impulses-1.given ∙ c.requires.rows_len.3, c.new_centres-1.given ∙ c.requires.rows_len.4) }
 
-pub returns-in-Accepted : goal.returns-in-Accepted
+pub returns-in-Ok : goal.returns-in-Ok
 unfolding solved_of
-returns-in-Accepted c =
-    solved_accepted c.args.kind _ _ _ _ _ _ _ c.args.beside.now _ _ _ _ _ _ c.tolerance_in-tolerance.ensures (length-take-le _ _ (omega (arith, c.requires.at_bound.1))) (centres_taken c.args.kind c.args.header.bodies c.args.beside.now refl c.wide-three.ensures c.placed_of.ensures) c.solve_table-answer.ensures.answered _ c.in-Accepted.is c.accepted_seen.ensures
+returns-in-Ok c =
+    solved_accepted c.args.kind _ _ _ _ _ _ _ c.args.beside.now _ _ _ _ _ _ c.tolerance_in-tolerance.ensures (length-take-le _ _ (omega (arith, c.requires.at_bound.1))) (centres_taken c.args.kind c.args.header.bodies c.args.beside.now refl c.wide-three.ensures c.placed_of.ensures) c.solve_table-answer.ensures.answered _ (ap told c.in-Ok.is) c.accepted_seen.ensures
 
-pub returns-in-Refused : goal.returns-in-Refused
+pub returns-in-Err : goal.returns-in-Err
 unfolding solved_of
-returns-in-Refused c =
-    solved_refused c.args.kind _ _ _ _ _ _ _ c.args.beside.now _ _ _ _ _ _ c.tolerance_in-tolerance.ensures (length-take-le _ _ (omega (arith, c.requires.at_bound.1))) (centres_taken c.args.kind c.args.header.bodies c.args.beside.now refl c.wide-three.ensures c.placed_of.ensures) c.solve_table-answer.ensures.answered _ c.in-Refused.is c.refused_seen.ensures
+returns-in-Err c =
+    solved_refused c.args.kind _ _ _ _ _ _ _ c.args.beside.now _ _ _ _ _ _ c.tolerance_in-tolerance.ensures (length-take-le _ _ (omega (arith, c.requires.at_bound.1))) (centres_taken c.args.kind c.args.header.bodies c.args.beside.now refl c.wide-three.ensures c.placed_of.ensures) c.solve_table-answer.ensures.answered _ (ap told c.in-Err.is) (rw c.number.ensures at c.refused_seen.ensures)

@@ -1,6 +1,4 @@
 -- `sparse::cholesky::factor` meets its contract. Assumes nothing.
-use Prim.Native.Nat.{◌-◌}
-use mathlib.Core.Path.{◌≡◌}
 use lib.ListN.{length}
 use Rattle.loops.proofs.Loop.{At}
 use Rattle.sparse.specs.Cholesky.{row_turn}
@@ -10,8 +8,5 @@ use Rattle.sparse.proofs.cholesky.factor.Given as goal
 
 abbrev pub invariant-loop-i : goal.invariant-loop-i
 invariant-loop-i l =
-    (length l.values ≡ length l.initial.values) × (length l.pivots ≡ length l.initial.pivots) × (length l.marks ≡ length l.initial.marks) × AtMost l.marks (start l.starts l.i)
+    AtMost l.marks (start l.starts l.i)
     × At row_turn (numbers l.starts l.columns l.initial.values, l.initial.pivots) (length l.initial.pivots) l.i (numbers l.starts l.columns l.values, l.pivots)
-
-abbrev pub decreases-loop-i : goal.decreases-loop-i
-decreases-loop-i l = length l.initial.pivots - l.i

@@ -1,6 +1,6 @@
 -- `sparse::cholesky::factor_row` meets its contract. Assumes nothing.
-use mathlib.Core.Path.{◌∙◌}
-use Rattle.sparse.proofs.Hop.{hops}
+use Rattle.std.specs.Prelude.{◌≡◌, Err}
+use Rattle.sparse.proofs.Hop.{hop_more, hop_stop, hops}
 use Rattle.sparse.proofs.Marks.{column_skip, less_skip, reduced_end, reduced_out_lem, row_marked, row_most, row_most_out, squares_more}
 use Rattle.sparse.proofs.Marks.{turn_on, turn_out}
 use Rattle.sparse.specs.Cholesky.{factors_run}
@@ -8,55 +8,25 @@ use Rattle.sparse.proofs.cholesky.factor_row.Goals as goal
 
 ruleset known = (column_skip, turn_on, turn_out, row_marked, row_most, row_most_out, less_skip, reduced_out_lem, reduced_end, hops)
 
-pub row-row-requires : goal.row-row-requires
-unfolding factors_run
-row-row-requires c =
-    search known
-
-pub offset_bounds-pivots-i : goal.offset_bounds-pivots-i
-unfolding factors_run
-offset_bounds-pivots-i c =
-    search known
-
-pub bounds-pivots-i : goal.bounds-pivots-i
-unfolding factors_run
-bounds-pivots-i c =
-    search known
-
 pub loop-p-init : goal.loop-p-init
 unfolding factors_run
 loop-p-init c =
-    (search known, search known, search known, search known, search known)
+    (search known, search known, search known)
 
-pub overflow_add-mark : goal.overflow_add-mark
+pub returns-in_err-factor_at : goal.returns-in_err-factor_at
 unfolding factors_run
-overflow_add-mark c =
-    search known
-
-pub factor_at-requires : goal.factor_at-requires
-unfolding factors_run
-factor_at-requires c =
-    record { row = search known; values_len = search known; starts_len = search known; pivots_len = search known; first_le_p = search known; p_lt_end = search known; mark_value = search known; marked = search known }
-
-pub returns-in_default : goal.returns-in_default
-unfolding factors_run
-returns-in_default c =
-    record { values_value = search known; at_most_2 = search known }
-
-pub number-factor-requires : goal.number-factor-requires
-unfolding factors_run
-number-factor-requires c =
-    search known
-
-pub loop-p-smaller : goal.loop-p-smaller
-unfolding factors_run
-loop-p-smaller c =
-    search known
+returns-in_err-factor_at c =
+    let e : c.from_residual.result ≡ Err c.in_err-factor_at.field-0.0 = search known in
+    record { values_value = rw e (reduced_out_lem _ _ _ _ (hop_stop c.loop-p.invariant.1 (search known) (turn_out _ _ c.factor_at.ensures.values_value c.in_err-factor_at.was))); at_most_2 = search known }
 
 pub loop-p-preserved : goal.loop-p-preserved
 unfolding factors_run
 loop-p-preserved c =
-    (search known, search known, search known, search known, squares_more c.row-row.ensures _ _ _ _ _ _ c.loop-p.invariant.4 c.loop-p-test.true (c.loop-p.invariant.0 ∙ c.requires.values_len) c.factor_at.ensures.values_after c.number-factor.ensures)
+    let row = c.row-row.ensures in
+    let inv = c.loop-p.invariant in
+    let called = turn_on _ _ c.factor_at.ensures.values_value c.in_ok-factor_at.was in
+    let squared = squares_more row _ _ _ _ _ _ inv.2 (search known) (search known) c.factor_at.ensures.values_after c.number-factor.ensures in
+    (search known, hop_more inv.1 (search known) called (column_skip row _ _), squared)
 
 pub returns : goal.returns
 unfolding factors_run

@@ -1,7 +1,5 @@
 -- `sparse::cholesky::factor_row` meets its contract. Assumes nothing.
-use Prim.Native.Nat.{◌-◌}
-use mathlib.Core.Path.{◌≡◌}
-use lib.ListN.{length, get_or}
+use lib.ListN.{get_or}
 use lib.Ieee.{nan}
 use Rattle.sparse.proofs.Hop.{Hops, plain}
 use Rattle.sparse.specs.Cholesky.{column_turn, less_turn}
@@ -11,9 +9,6 @@ use Rattle.sparse.proofs.cholesky.factor_row.Given as goal
 
 abbrev pub invariant-loop-p : goal.invariant-loop-p
 invariant-loop-p l =
-    (length l.values ≡ length l.initial.values) × (length l.marks ≡ length l.initial.marks) × Marked l.columns l.first l.p l.marks
+    Marked l.columns l.first l.p l.marks
     × Hops (column_turn l.pivots l.i) (numbers l.starts l.columns l.initial.values) l.columns l.first l.end l.i l.p (numbers l.starts l.columns l.values)
     × Hops (plain (less_turn (numbers l.starts l.columns l.values) l.i l.i)) (get_or l.pivots l.i nan) l.columns l.first l.end l.i l.p l.rest
-
-abbrev pub decreases-loop-p : goal.decreases-loop-p
-decreases-loop-p l = l.end - l.p

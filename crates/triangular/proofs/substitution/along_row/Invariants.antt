@@ -1,5 +1,4 @@
 -- `triangular::substitution::along_row` meets its contract. Assumes nothing.
-use Prim.Native.Nat.{◌-◌}
 use Rattle.sparse.proofs.Hop.{Hops, plain}
 use Rattle.sparse.specs.Kept.{numbers}
 use Rattle.triangular.specs.Triangular.{along_turn}
@@ -8,6 +7,3 @@ use Rattle.triangular.proofs.substitution.along_row.Given as goal
 abbrev pub invariant-loop-p : goal.invariant-loop-p
 invariant-loop-p l =
     Hops (plain (along_turn (numbers l.starts l.columns l.values l.i) l.output)) l.value l.columns l.first l.end l.i l.p l.rest
-
-abbrev pub decreases-loop-p : goal.decreases-loop-p
-decreases-loop-p l = l.end - l.p

@@ -11,24 +11,9 @@ unfolding forward_run
 loop-i-init c =
     search known
 
-pub forward_at-requires : goal.forward_at-requires
+pub returns-in_err-forward_at : goal.returns-in_err-forward_at
 unfolding forward_run
-forward_at-requires c =
-    record { kept = search known; values_len = search known; starts_len = search known; pivots_len = search known; residual_len = search known; i_in_bounds = search known }
-
-pub returns-in_default : goal.returns-in_default
-unfolding forward_run
-returns-in_default c =
-    search known
-
-pub overflow_add-i : goal.overflow_add-i
-unfolding forward_run
-overflow_add-i c =
-    search known
-
-pub loop-i-smaller : goal.loop-i-smaller
-unfolding forward_run
-loop-i-smaller c =
+returns-in_err-forward_at c =
     search known
 
 pub loop-i-preserved : goal.loop-i-preserved

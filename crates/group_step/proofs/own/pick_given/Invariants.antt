@@ -1,0 +1,6 @@
+-- `group_step::own::pick_given` meets its contract: what a place past the end is read as. Assumes nothing.
+use lib.Ieee.{nan}
+use Rattle.group_step.proofs.own.pick_given.Given as goal
+
+abbrev pub ghost-pick_rows : goal.ghost-pick_rows
+ghost-pick_rows a = nan

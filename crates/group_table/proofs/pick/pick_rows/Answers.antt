@@ -1,0 +1,17 @@
+-- `group_table::pick::pick_rows` meets its contract: the rows below i are picked. Assumes nothing.
+use native.Mathlib.Omega.{arith}
+use Rattle.std.proofs.Common.{rules}
+use Rattle.group_table.proofs.Picks.{picks, room_pick, row_fits}
+use Rattle.group_table.proofs.pick.pick_rows.Goals as goal
+
+pub loop-i-init : goal.loop-i-init
+loop-i-init g c = search picks
+
+pub pick_row-k-requires : goal.pick_row-k-requires
+pick_row-k-requires g c κs within =
+    let fits = row_fits c.args.width c.loop-i.i c.args.rows _ (omega arith) c.requires.1.1 in
+    let room = room_pick c.loop-i.invariant (omega arith) c.requires.1.2 in
+    search rules
+
+pub returns : goal.returns
+returns g c = search picks

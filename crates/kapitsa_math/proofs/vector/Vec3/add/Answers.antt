@@ -1,9 +1,0 @@
--- `kapitsa_math::vector::Vec3::add` meets its contract. Assumes nothing.
-use mathlib.Core.Path.{refl}
-use Rattle.kapitsa_math.specs.Vector.{add_of}
-use Rattle.kapitsa_math.proofs.vector.Vec3.add.Goals as goal
-
-pub returns : goal.returns
-unfolding add_of
-returns c =
-    refl
