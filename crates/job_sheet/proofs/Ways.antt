@@ -215,10 +215,10 @@ module _ (t : Trailer) (numbers : List Float) (words : List ℕ) (masses centres
 
 -- ---- the solve
 
-accepted_same : {r s : PositionPcgResult} → going r ≡ going s → s ≡ r
+accepted_same : {r s : PositionPcgResult} → ◌≡◌ {A = Run PositionPcgResult ℕ} (going r) (going s) → s ≡ r
 accepted_same e = cc
 
-refused_same : {n m : ℕ} → ended n ≡ ended m → m ≡ n
+refused_same : {n m : ℕ} → ◌≡◌ {A = Run PositionPcgResult ℕ} (ended n) (ended m) → m ≡ n
 refused_same e = cc
 
 -- the answer's case is that of the solve
