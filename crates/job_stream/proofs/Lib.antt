@@ -8,5 +8,4 @@ pub mod Ways
 pub mod Going
 pub mod Progress
 pub mod Printing
-pub mod Moved
 pub mod Kept

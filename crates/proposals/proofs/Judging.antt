@@ -86,7 +86,7 @@ module _ (numbers : List Float) (rows : ℕ) (words : List ℕ) (started : List 
   abbrev kept_numbers_lem : Bool
   kept_numbers_lem = same_multipliers numbers started (length started)
 
-  -- a row whose bits differ is committing_of, and one that is committing_of differs
+  -- a row whose bits differ is told, and one that is told differs
   differs : (kept_numbers_lem ≡ false) ↔ ((i : ℕ) × (i < length started) × ¬ (bits_now numbers i ≡ bits_then started i))
   unfolding same_multipliers
   differs = (λ h. let (i, l, e) = every_false _ (length started) h in (i, l, eqb-false (bits_now numbers i) (bits_then started i) e), λ (i, l, d). back i l d (saw_bool kept_numbers_lem))
