@@ -5,7 +5,9 @@ use mathlib.Core.List.{List, [], ◌∷◌, ◌++◌}
 use native.Mathlib.Omega.{arith}
 use native.Mathlib.Nat.{mul-le-mul_left, mul-suc, zero-mul, div-add-mod, mod-lt}
 use native.Mathlib.Decide.{ℕ_discrete, dec_lt}
-use lib.ListN.{length, get_or}
+use borrow.Author.Count.{below_none, below_more}
+use lib.ListN.{length, get_or, set, length-set}
+use lib.Seq.{get_or-set_same, get_or-set_other}
 use Rattle.loops.proofs.Loop.{loops}
 use Rattle.loops.proofs.Tabulate.{length_tabulate, tabulated, tabulate_same}
 use Rattle.group_table.specs.Pick.{rows_of, pick_rows, Put, Marked}
@@ -18,6 +20,33 @@ row_before w i n h = omega (arith, mul-le-mul_left w h, mul-suc w i)
 
 pub row_fits : (w i n m : ℕ) → i < n → w * n ≤ m → w * i + w ≤ m
 row_fits w i n m h l = omega (arith, row_before w i n h)
+
+-- ---- a block
+pub record Copying {X : Type 0} (d : X) (width at put c : ℕ) (from to₀ to : List X) : Type 0 where
+  pub within : c ≤ width
+  pub room : put + width ≤ length to₀
+  pub copied : BlockCopied d c at put from to₀ to
+
+module _ {X : Type 0} {d : X} {width at put : ℕ} {from to₀ : List X} where
+  pub copying_none : put + width ≤ length to₀ → Copying d width at put 0 from to₀ to₀
+  copying_none h = record { within = omega arith; room = h; copied = record { long = refl; here = below_none _; before = λ p l. refl; behind = λ p l. refl } }
+
+  pub copying_more : {c : ℕ} {to : List X} → Copying d width at put c from to₀ to → c < width → Copying d width at put (c + 1) from to₀ (set to (put + c) (get_or from (at + c) d))
+  copying_more {c} {to} h l =
+      let f = h.copied in
+      record {
+        within = omega arith;
+        room = h.room;
+        copied = record {
+          long = length-set to (put + c) _ ∙ f.long;
+          here = below_more _ _ (λ k b. get_or-set_other to (put + c) (put + k) _ d (λ q. omega arith) ∙ f.here k b) (get_or-set_same to (put + c) _ d (omega (arith, f.long, h.room)));
+          before = λ p b. get_or-set_other to (put + c) p _ d (λ q. omega arith) ∙ f.before p b;
+          behind = λ p b. get_or-set_other to (put + c) p _ d (λ q. omega arith) ∙ f.behind p (omega arith);
+        };
+      }
+
+  pub copying_end : {c : ℕ} {to : List X} → Copying d width at put c from to₀ to → width ≤ c → BlockCopied d width at put from to₀ to
+  copying_end {c} h l = let e : c ≡ width = omega (arith, h.within) in rw e at h.copied
 
 -- ---- picking
 module _ {X : Type 0} {d : X} {width : ℕ} {groups : List ℕ} {g : ℕ} {from : List X} where
@@ -221,4 +250,4 @@ module _ {X : Type 0} {d : X} {width : ℕ} {marks : List ℕ} {mark : ℕ} {fro
       others to₀ h b c m q (no p) (yes s) = absurd (q (omega arith) (ap (λ x. get_or marks x 0) s ∙ e))
       others to₀ h b c m q (no p) (no s) = k.behind (width * b + c) (omega (arith, row_before width i b (omega arith))) ∙ h.others b c m (λ l. absurd (omega arith))
 
-pub ruleset picks = (picking_none, picking_more, picking_list, pick_other, pick_one, scattering_none, scattering_more, scattering_put, scatter_other, scatter_one, room_pick, room_put, room_one, counting_none, counting_more, counting_end, count_one, count_other, marked_none, marked_more, mark_other, mark_one, row_fits, loops)
+pub ruleset picks = (copying_none, copying_more, copying_end, picking_none, picking_more, picking_list, pick_other, pick_one, scattering_none, scattering_more, scattering_put, scatter_other, scatter_one, room_pick, room_put, room_one, counting_none, counting_more, counting_end, count_one, count_other, marked_none, marked_more, mark_other, mark_one, row_fits, loops)

@@ -4,12 +4,15 @@ ghost use Rattle.std.specs.Float.{nan};
 ghost use Rattle.group_table.specs.Pick.{Marked};
 ghost use Rattle.group_table.specs.Steps.{BlockCopied, RowMarked};
 
+// By a loop: the library's copy would be one more name that the archive for C needs from outside.
 pub fn copy_row<T: Copy>(from: &[T], at: usize, to: &mut [T], put: usize, width: usize)
     ghost missing: { T }
     requires { (at + width ≤ length from.now) × (put + width ≤ length to.old) }
     ensures { BlockCopied missing width at put from.now to.old to.new }
 {
-    to[put..put + width].copy_from_slice(&from[at..at + width]);
+    for c in 0..width {
+        to[put + c] = from[at + c];
+    }
 }
 
 fn copy_marked_row(marks: &[u32], mark: u32, width: usize, from: &[f64], to: &mut [f64], b: usize)
